@@ -1,0 +1,12 @@
+pub mod Walks
+pub mod Sweeping
+pub mod Resources
+pub mod Keeps
+pub mod Requests
+pub mod Purges
+pub mod Counting
+pub mod Stepping
+pub mod Deadlocks
+pub mod Holding
+pub mod Lists
+pub mod Benches

@@ -1,0 +1,255 @@
+-- The seven calls on a state: for each its refusals, in document 01's order, and what it answers and changes where none fits.
+use mathlib.Core.Bool.{Bool, true, false, _&&_, _||_, not, cond}
+use mathlib.Core.List.{List, [], _∷_, _++_}
+use Prim.Native.Nat.{ℕ, zero, suc, _/_, _%_}
+use lib.ListN.{length}
+use lib.Dec.{eqb, leb, ltb}
+use Rattle.modes.specs.Modes.{down}
+use Rattle.tables.specs.Lists.{within, any, keep, first, first-that, null, from}
+use Rattle.tables.specs.declared.Lock.{Lock}
+use Rattle.tables.specs.State.{Resource, Tables, name-width, value-width, no-value, lock, resource, granted, converting, blocked-lock, told, move, move-resource}
+use Rattle.tables.specs.Grants.{holders, fits, admits}
+use Rattle.tables.specs.Sound.{client-right}
+use Rattle.rules.specs.Queues.{sweep, free-lock, settle, find}
+use Rattle.rules.specs.Deadlock.{victim}
+
+-- what a call comes to: a refusal, or 0; the answer and the lock number, where it gives them; and the state
+pub record Step : Type 0 where
+  pub refusal : ℕ
+  pub answer : ℕ
+  pub number : ℕ
+  pub tables : Tables
+
+abbrev pub done : ℕ → ℕ → Tables → Step
+done a k t = record { refusal = 0; answer = a; number = k; tables = t }
+
+-- "The first that fits is answered with zeros in all other fields; nothing lent changes."
+unfoldable pub unless : Bool → ℕ → ℕ → ℕ
+unless b n rest = cond b rest n
+
+unfoldable pub refused-or : ℕ → Step → Tables → Step
+refused-or zero s t = s
+refused-or (suc n) s t = record { refusal = suc n; answer = 0; number = 0; tables = t }
+
+-- FLAGS. 1 store the value, 2 make it not valid, 4 don't queue; any other bit isn't allowed.
+unfoldable pub stores : ℕ → Bool
+stores f = eqb (f % 2) 1
+
+unfoldable pub spoils : ℕ → Bool
+spoils f = eqb (f / 2 % 2) 1
+
+unfoldable pub no-queue : ℕ → Bool
+no-queue f = eqb (f / 4 % 2) 1
+
+unfoldable pub request-flags : ℕ → Bool
+request-flags f = eqb f 0 || eqb f 4
+
+unfoldable pub convert-flags : ℕ → Bool
+convert-flags f = ltb f 8 && not (stores f && spoils f)
+
+unfoldable pub release-flags : ℕ → Bool
+release-flags f = ltb f 4 && not (stores f && spoils f)
+
+-- ARGUMENTS
+unfoldable pub name-right : List ℕ → Bool
+name-right n = leb 1 (length n) && leb (length n) name-width
+
+unfoldable pub value-right : ℕ → List ℕ → Bool
+value-right f v = not (stores f) || eqb (length v) value-width
+
+-- a lock that is in use, and the client's
+unfoldable pub own : ℕ → ℕ → Tables → Bool
+own c k t = within (length (t .locks)) k && not (eqb (lock t k .state) 0) && eqb (lock t k .client) c
+
+-- THE VALUE BLOCK. PW and EX are the modes that may leave a value.
+unfoldable pub strong : ℕ → Bool
+strong m = leb 4 m
+
+-- "Storing makes it valid."
+unfoldable pub with-value : ℕ → List ℕ → Resource → Resource
+with-value f v x =
+    record {
+      name = x .name;
+      value = cond (stores f) v (x .value);
+      valid = cond (stores f) 1 (cond (spoils f) 0 (x .valid));
+      grant = x .grant;
+      convert = x .convert;
+      wait = x .wait;
+    }
+
+-- flags 1 and 2 act where the test says so, and are ignored otherwise
+unfoldable pub leave-value : Bool → ℕ → List ℕ → ℕ → Tables → Tables
+leave-value acts f v r t = elim acts [ true ↦ move-resource r (with-value f v (resource t r)) t | false ↦ t ]
+
+-- REQUEST. "A new name takes a resource: value zeros, valid."
+abbrev pub new-resource : List ℕ → Resource
+new-resource n = record { name = n; value = no-value; valid = 1; grant = []; convert = []; wait = [] }
+
+-- with the resource of that name, or 0: the resource to stand on, and the state that has it
+unfoldable pub resource-for : ℕ → Tables → ℕ
+resource-for zero t = first (t .free-resources)
+resource-for (suc r) t = suc r
+
+unfoldable pub with-resource : ℕ → List ℕ → Tables → Tables
+with-resource zero n t = move-resource (first (t .free-resources)) (new-resource n) t
+with-resource (suc r) n t = t
+
+abbrev pub holding : ℕ → ℕ → ℕ → Lock
+holding r c m = record { resource = r; client = c; state = 1; held = m; asked = 0; completion = 0 }
+
+abbrev pub queued : ℕ → ℕ → ℕ → Lock
+queued r c m = record { resource = r; client = c; state = 3; held = 0; asked = m; completion = 0 }
+
+-- the lock k is granted (answer 1) if the convert chain is empty and the mode is compatible with every held mode; else it waits (2)
+unfoldable pub request-on : ℕ → ℕ → ℕ → ℕ → Tables → Step
+request-on r k c m t =
+    elim (admits t r m) [ true ↦ done 1 k (move r k (holding r c m) t) | false ↦ done 2 k (move r k (queued r c m) t) ]
+
+unfoldable pub request-change : ℕ → ℕ → List ℕ → Tables → Step
+request-change c m n t = request-on (resource-for (find n t) t) (first (t .free-locks)) c m (with-resource (find n t) n t)
+
+unfoldable pub request-refusal : ℕ → ℕ → ℕ → List ℕ → Tables → ℕ
+request-refusal c m f n t =
+    unless (client-right c) 3 (unless (leb m 5) 4 (unless (request-flags f) 5 (unless (name-right n) 6
+    (unless (not (eqb (find n t) 0) || not (null (t .free-resources))) 11 (unless (not (null (t .free-locks))) 12
+    (unless (not (no-queue f) || admits t (find n t) m) 13 0))))))
+
+unfoldable pub request : ℕ → ℕ → ℕ → List ℕ → Tables → Step
+request c m f n t = refused-or (request-refusal c m f n t) (request-change c m n t) t
+
+-- CONVERT
+abbrev pub held-at : ℕ → Lock → Lock
+held-at m l = record { resource = l .resource; client = l .client; state = 1; held = m; asked = 0; completion = 0 }
+
+abbrev pub asking : ℕ → Lock → Lock
+asking m l = record { resource = l .resource; client = l .client; state = 2; held = l .held; asked = m; completion = 0 }
+
+-- "Down: in place. Else, if the convert chain is empty and the mode is compatible with every other held mode, in place."
+unfoldable pub in-place : ℕ → ℕ → Tables → Bool
+in-place k m t =
+    down (lock t k .held) m || (null (resource t (lock t k .resource) .convert) && fits t (lock t k .resource) k m)
+
+unfoldable pub convert-change : ℕ → ℕ → ℕ → List ℕ → Tables → Step
+convert-change k m f v t =
+    let r = lock t k .resource in
+    elim (in-place k m t) [
+      | true ↦ done 1 0 (sweep r (move r k (held-at m (lock t k)) (leave-value (strong (lock t k .held) && ltb m (lock t k .held)) f v r t)))
+      | false ↦ done 2 0 (move r k (asking m (lock t k)) t)
+    ]
+
+unfoldable pub convert-refusal : ℕ → ℕ → ℕ → ℕ → List ℕ → Tables → ℕ
+convert-refusal c k m f v t =
+    unless (client-right c) 3 (unless (leb m 5) 4 (unless (convert-flags f) 5 (unless (value-right f v) 7 (unless (own c k t) 8
+    (unless (not (told (lock t k))) 9 (unless (granted (lock t k)) 10 (unless (not (no-queue f) || in-place k m t) 13 0)))))))
+
+unfoldable pub convert : ℕ → ℕ → ℕ → ℕ → List ℕ → Tables → Step
+convert c k m f v t = refused-or (convert-refusal c k m f v t) (convert-change k m f v t) t
+
+-- RELEASE
+unfoldable pub release-change : ℕ → ℕ → List ℕ → Tables → Step
+release-change k f v t =
+    let r = lock t k .resource in
+    done 0 0 (settle r (free-lock k (leave-value (strong (lock t k .held)) f v r t)))
+
+unfoldable pub release-refusal : ℕ → ℕ → ℕ → List ℕ → Tables → ℕ
+release-refusal c k f v t =
+    unless (client-right c) 3 (unless (release-flags f) 5 (unless (value-right f v) 7 (unless (own c k t) 8
+    (unless (not (told (lock t k))) 9 (unless (granted (lock t k)) 10 0)))))
+
+unfoldable pub release : ℕ → ℕ → ℕ → List ℕ → Tables → Step
+release c k f v t = refused-or (release-refusal c k f v t) (release-change k f v t) t
+
+-- CANCEL. Back on the grant chain at the mode it held, with a completion.
+abbrev pub restored : ℕ → Lock → Lock
+restored e l = record { resource = l .resource; client = l .client; state = 1; held = l .held; asked = 0; completion = e }
+
+unfoldable pub cancel-change : ℕ → Tables → Step
+cancel-change k t =
+    let r = lock t k .resource in
+    elim (converting (lock t k)) [
+      | true ↦ done 1 0 (sweep r (move r k (restored 0 (lock t k)) t))
+      | false ↦ done 2 0 (sweep r (free-lock k t))
+    ]
+
+unfoldable pub cancel-refusal : ℕ → ℕ → Tables → ℕ
+cancel-refusal c k t =
+    unless (client-right c) 3 (unless (own c k t) 8 (unless (not (told (lock t k))) 9 (unless (blocked-lock (lock t k)) 10 0)))
+
+unfoldable pub cancel : ℕ → ℕ → Tables → Step
+cancel c k t = refused-or (cancel-refusal c k t) (cancel-change k t) t
+
+-- PURGE
+unfoldable pub locks-of : ℕ → Tables → List ℕ
+locks-of c t = keep (λ k. eqb (lock t k .client) c) (from 1 (length (t .locks)))
+
+-- freed with its notice; where it held PW or EX the resource becomes not valid, as flag 2 makes it
+unfoldable pub purge-lock : ℕ → Tables → Tables
+purge-lock k t = free-lock k (leave-value (strong (lock t k .held)) 2 [] (lock t k .resource) t)
+
+unfoldable pub purge-locks : List ℕ → Tables → Tables
+purge-locks [] t = t
+purge-locks (k ∷ ks) t = purge-locks ks (purge-lock k t)
+
+-- the client has a lock there
+unfoldable pub stands-on : ℕ → Tables → ℕ → Bool
+stands-on c t r = any (λ k. eqb (lock t k .client) c) (holders t r ++ resource t r .wait)
+
+unfoldable pub settle-all : List ℕ → Tables → Tables
+settle-all [] t = t
+settle-all (r ∷ rs) t = settle-all rs (settle r t)
+
+unfoldable pub purge-change : ℕ → Tables → Step
+purge-change c t =
+    done (length (locks-of c t)) 0
+    (settle-all (keep (stands-on c t) (from 1 (length (t .resources)))) (purge-locks (locks-of c t) t))
+
+unfoldable pub purge-refusal : ℕ → ℕ
+purge-refusal c = unless (client-right c) 3 0
+
+unfoldable pub purge : ℕ → Tables → Step
+purge c t = refused-or (purge-refusal c) (purge-change c t) t
+
+-- BREAK
+abbrev pub denied-lock : Lock → Lock
+denied-lock l = record { resource = 0; client = l .client; state = 4; held = 0; asked = 0; completion = 2 }
+
+-- "Denied waiting: to the denied chain, completion 2. Denied converting: back to the grant chain, completion 3."
+unfoldable pub deny : ℕ → Tables → Tables
+deny k t =
+    let r = lock t k .resource in
+    elim (converting (lock t k)) [
+      | true ↦ sweep r (move r k (restored 3 (lock t k)) t)
+      | false ↦ sweep r (move r k (denied-lock (lock t k)) t)
+    ]
+
+unfoldable pub deny-victim : ℕ → Tables → Step
+deny-victim zero t = done 0 0 t
+deny-victim (suc k) t = done (suc k) 0 (deny (suc k) t)
+
+unfoldable pub break : Tables → Step
+break t = deny-victim (victim t) t
+
+-- POLL
+abbrev pub notice-read : Lock → Lock
+notice-read l = record { resource = l .resource; client = l .client; state = l .state; held = l .held; asked = l .asked; completion = 0 }
+
+-- "Completion 2 frees the lock."
+unfoldable pub take-notice : ℕ → Tables → Tables
+take-notice k t =
+    elim (eqb (lock t k .completion) 2) [
+      | true ↦ free-lock k t
+      | false ↦ move (lock t k .resource) k (notice-read (lock t k)) t
+    ]
+
+unfoldable pub poll-notice : ℕ → Tables → Step
+poll-notice zero t = done 0 0 t
+poll-notice (suc k) t = done (lock t (suc k) .completion) (suc k) (take-notice (suc k) t)
+
+unfoldable pub poll-change : ℕ → Tables → Step
+poll-change c t = poll-notice (first-that (λ k. eqb (lock t k .client) c) (t .notices)) t
+
+unfoldable pub poll-refusal : ℕ → ℕ
+poll-refusal c = unless (client-right c) 3 0
+
+unfoldable pub poll : ℕ → Tables → Step
+poll c t = refused-or (poll-refusal c) (poll-change c t) t

@@ -1,0 +1,130 @@
+-- A resource becomes another whose queues are the same: what that does to the words and to the slots.
+use mathlib.Core.Path.{_≡_, refl, sym, _∙_, ap}
+use mathlib.Core.Bool.{Bool, true, false}
+use mathlib.Core.List.{List, _++_}
+use Prim.Native.Nat.{ℕ, _-_, _*_, _≤_}
+use native.Mathlib.Omega.{arith}
+use lib.ListN.{length, take, drop}
+use Rattle.tables.specs.Lists.{nth, null}
+use Rattle.tables.specs.State.{Resource, Tables, no-resource, resource, Queue, Chain, free-resources, queue-of, chain-of, shift-front, move-resource}
+use Rattle.tables.specs.Layout.{of-resource, place, resource-links, resource-fields, words, slot-width, slot, slots}
+use Rattle.tables.proofs.Counts.{le-within}
+use Rattle.tables.proofs.Numbered.{put-resource}
+use Rattle.tables.proofs.Grid.{stores}
+use Rattle.tables.proofs.Chains.{with-chain, Present}
+use Rattle.tables.proofs.Words.{Stands, stands, put-resource-words}
+use Rattle.tables.proofs.Read.{chain-most}
+use Rattle.tables.proofs.Slots.{slots-put, slots-move-resource}
+use Rattle.tables.proofs.Steps.{push, leave, push-cells, leave-cells, cell-place, push-is, leave-is}
+use Rattle.tables.proofs.Rehome.{Sane, sane-leave, sane-push}
+use Rattle.tables.proofs.MoveSteps.{Seat}
+use Rattle.tables.proofs.Valid.{Core}
+use Rattle.tables.proofs.Threading.{core-threaded}
+use Rattle.tables.proofs.Wholeness.{counted-seat, core-whole}
+
+-- k on a chain of free records, where it was and is to be on it or not: it enters at the front
+unfoldable pub front-chain : Bool → Bool → Chain → ℕ → Tables → Tables
+front-chain true true c k t = t
+front-chain true false c k t = leave c k t
+front-chain false true c k t = push c k t
+front-chain false false c k t = t
+
+-- the same on words
+unfoldable pub front-cells : Bool → Bool → (ℕ → ℕ) → ℕ → ℕ → List ℕ → List ℕ
+front-cells true true at-cell n k ws = ws
+front-cells true false at-cell n k ws = leave-cells at-cell n k ws
+front-cells false true at-cell n k ws = push-cells at-cell k ws
+front-cells false false at-cell n k ws = ws
+
+-- the two fields of the resource k, with r resources
+unfoldable pub set-resource-cells : ℕ → ℕ → Resource → List ℕ → List ℕ
+set-resource-cells r k x ws = stores (λ f. place r (of-resource k f)) resource-links (resource-fields x) ws
+
+-- the resource k was o and becomes x: it leaves the free chain or joins its front, and its fields become x's
+unfoldable pub resource-cells : ℕ → ℕ → Resource → Resource → List ℕ → List ℕ
+unfolding set-resource-cells
+resource-cells r k o x ws = set-resource-cells r k x (front-cells (null (o .name)) (null (x .name)) (cell-place r free-resources) r k ws)
+
+pub sane-front : (r l : ℕ) (t : Tables) → Sane r l t → (b d : Bool) (c : Chain) (k : ℕ) → Present t c → Stands t c k → Seat b k (chain-of c t) → Sane r l (front-chain b d c k t)
+unfolding front-chain
+sane-front r l t h true true c k p s a = h
+sane-front r l t h true false c k p s a = sane-leave r l t h c k p
+sane-front r l t h false true c k p s a = sane-push r l t h c k p a s
+sane-front r l t h false false c k p s a = h
+
+pub front-words : (r l : ℕ) (t : Tables) → Sane r l t → (b d : Bool) (c : Chain) (n k : ℕ) → Present t c → length (chain-of c t) ≤ n → Stands t c k → Seat b k (chain-of c t)
+    → front-cells b d (cell-place r c) n k (words t) ≡ words (front-chain b d c k t)
+unfolding front-chain front-cells
+front-words r l t h true true c n k p q s a = refl
+front-words r l t h true false c n k p q s a = leave-is t r (h .resources) c (h .chains c p) n k q a
+front-words r l t h false true c n k p q s a = push-is t r (h .resources) c (h .chains c p) k s
+front-words r l t h false false c n k p q s a = refl
+
+front-resources : (b d : Bool) (k : ℕ) (t : Tables) → front-chain b d free-resources k t .resources ≡ t .resources
+unfolding front-chain leave push with-chain
+front-resources true true k t = refl
+front-resources true false k t = refl
+front-resources false true k t = refl
+front-resources false false k t = refl
+
+-- the tables with another resource r, and r on the free chain where it is to be
+front-put : (b d : Bool) (r : ℕ) (x : Resource) (t : Tables)
+    → put-resource r x (front-chain b d free-resources r t) ≡ record {
+      resources = put-resource r x t .resources;
+      locks = t .locks;
+      free-resources = shift-front b d r (t .free-resources);
+      free-locks = t .free-locks;
+      denied = t .denied;
+      blocked = t .blocked;
+      notices = t .notices;
+    }
+unfolding front-chain leave push with-chain shift-front
+front-put true true r x t = refl
+front-put true false r x t = refl
+front-put false true r x t = refl
+front-put false false r x t = refl
+
+-- r on the free chain where it is to be, if it becomes x
+unfoldable pub relinked : ℕ → Resource → Tables → Tables
+relinked r x t = front-chain (null (resource t r .name)) (null (x .name)) free-resources r t
+
+pub put-relinked : (r : ℕ) (x : Resource) (t : Tables) → put-resource r x (relinked r x t) ≡ move-resource r x t
+unfolding relinked move-resource
+put-relinked r x t = front-put (null (resource t r .name)) (null (x .name)) r x t
+
+module _ (r : ℕ) (x : Resource) (t : Tables) (core : Core t) (low : 1 ≤ r) (high : r ≤ length (t .resources)) where
+  seat : Seat (null (resource t r .name)) r (t .free-resources)
+  seat = counted-seat (null (resource t r .name)) r (t .free-resources) (rw (le-within (length (t .resources)) r low high) at (core .spare r))
+
+  standing : Stands t free-resources r
+  standing = stands t free-resources r low (low, high, omega arith) refl
+
+  pub sane-relinked : Sane (length (t .resources)) (length (t .locks)) (relinked r x t)
+  unfolding relinked
+  sane-relinked = sane-front _ _ t (core-whole t core .sane) (null (resource t r .name)) (null (x .name)) free-resources r (omega arith) standing seat
+
+  pub relinked-words : front-cells (null (resource t r .name)) (null (x .name)) (cell-place (length (t .resources)) free-resources) (length (t .resources)) r (words t) ≡ words (relinked r x t)
+  unfolding relinked
+  relinked-words =
+      front-words _ (length (t .locks)) t (core-whole t core .sane) (null (resource t r .name)) (null (x .name)) free-resources (length (t .resources)) r (omega arith)
+      (chain-most t free-resources (core-threaded t core free-resources (omega arith))) standing seat
+
+  resource-relinked : resource (relinked r x t) r ≡ resource t r
+  unfolding relinked resource
+  resource-relinked = ap (λ (xs : List Resource). nth xs r no-resource) (front-resources (null (resource t r .name)) (null (x .name)) r t)
+
+  module _ (kept : (q : Queue) → queue-of q x ≡ queue-of q (resource t r)) where
+    pub set-relinked : set-resource-cells (length (t .resources)) r x (words (relinked r x t)) ≡ words (move-resource r x t)
+    unfolding set-resource-cells
+    set-relinked =
+        sym (ap words (sym (put-relinked r x t))
+        ∙ put-resource-words (relinked r x t) r x low (omega (arith, sane-relinked .resources)) (λ q. kept q ∙ ap (queue-of q) (sym resource-relinked))
+        ∙ ap (λ (n : ℕ). stores (λ f. place n (of-resource r f)) resource-links (resource-fields x) (words (relinked r x t))) (sane-relinked .resources))
+
+    pub resource-moved-words : words (move-resource r x t) ≡ resource-cells (length (t .resources)) r (resource t r) x (words t)
+    unfolding resource-cells
+    resource-moved-words = rw (relinked-words, set-relinked)
+
+  pub resource-moved-slots : slots (move-resource r x t) ≡ take (slot-width * (r - 1)) (slots t) ++ (slot x ++ drop (slot-width * r) (slots t))
+  resource-moved-slots =
+      slots-move-resource r x t ∙ slots-put r x t low high (λ s. core .resource-ok s .name-length) (λ s. core .resource-ok s .value-length)

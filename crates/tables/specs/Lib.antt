@@ -1,0 +1,5 @@
+pub mod Lists
+pub mod State
+pub mod Layout
+pub mod Grants
+pub mod Sound

@@ -1,0 +1,189 @@
+-- The state of a lock manager: what its two tables mean. A chain is the list of the numbers of the records on it, first to last.
+use mathlib.Core.Bool.{Bool, true, false, _&&_, _||_, not}
+use mathlib.Core.List.{List, [], _∷_, _++_}
+use Prim.Native.Nat.{ℕ, zero, suc}
+use lib.ListN.{replicate}
+use lib.Dec.{eqb}
+use Rattle.tables.specs.Lists.{nth, put, remove, null, from}
+pub use Rattle.tables.specs.declared.Lock.{Lock}
+
+-- RECORDS. A lock has a resource, a client, a state (0 free, 1 granted, 2 converting, 3 waiting, 4 denied), the held and the asked mode
+-- and a completion (0 none, 1 granted, 2 request denied, 3 conversion denied); the record is the code's struct.
+pub record Resource : Type 0 where
+  pub name : List ℕ
+  pub value : List ℕ
+  pub valid : ℕ
+  pub grant : List ℕ
+  pub convert : List ℕ
+  pub wait : List ℕ
+
+pub record Tables : Type 0 where
+  pub resources : List Resource
+  pub locks : List Lock
+  pub free-resources : List ℕ
+  pub free-locks : List ℕ
+  pub denied : List ℕ
+  pub blocked : List ℕ
+  pub notices : List ℕ
+
+-- the widths of a resource's slot: a name of at most 64 bytes, and its value block
+abbrev pub name-width : ℕ
+name-width = 64
+
+abbrev pub value-width : ℕ
+value-width = 32
+
+unfoldable pub no-value : List ℕ
+no-value = replicate value-width 0
+
+-- a freed record keeps nothing
+abbrev pub no-lock : Lock
+no-lock = record { resource = 0; client = 0; state = 0; held = 0; asked = 0; completion = 0 }
+
+abbrev pub no-resource : Resource
+no-resource = record { name = []; value = no-value; valid = 0; grant = []; convert = []; wait = [] }
+
+-- the lock k, the resource r: records are numbered from 1
+unfoldable pub lock : Tables → ℕ → Lock
+lock t k = nth (t .locks) k no-lock
+
+unfoldable pub resource : Tables → ℕ → Resource
+resource t r = nth (t .resources) r no-resource
+
+-- all records free, chained upward: started tables
+unfoldable pub started : ℕ → ℕ → Tables
+started r l =
+    record {
+      resources = replicate r no-resource;
+      locks = replicate l no-lock;
+      free-resources = from 1 r;
+      free-locks = from 1 l;
+      denied = [];
+      blocked = [];
+      notices = [];
+    }
+
+-- what a lock's record says of it
+abbrev pub granted : Lock → Bool
+granted l = eqb (l .state) 1
+
+abbrev pub converting : Lock → Bool
+converting l = eqb (l .state) 2
+
+abbrev pub waiting : Lock → Bool
+waiting l = eqb (l .state) 3
+
+abbrev pub blocked-lock : Lock → Bool
+blocked-lock l = converting l || waiting l
+
+-- it holds a mode
+abbrev pub holds : Lock → Bool
+holds l = granted l || converting l
+
+-- its completion is unread
+abbrev pub told : Lock → Bool
+told l = not (eqb (l .completion) 0)
+
+-- CHAINS. The eight kinds: of free resources; of free, denied, blocked and noticed locks; and the three of each resource.
+pub data Queue : Type 0 where
+  grants converts waits : Queue
+  deriving Discrete as Queue-discrete
+
+pub data LockChain : Type 0 where
+  free-locks denied blocked notices : LockChain
+  queue : ℕ → Queue → LockChain
+  deriving Discrete as LockChain-discrete
+
+pub data Chain : Type 0 where
+  free-resources : Chain
+  of-locks : LockChain → Chain
+  deriving Discrete as Chain-discrete
+
+abbrev pub queue-of : Queue → Resource → List ℕ
+queue-of grants x = x .grant
+queue-of converts x = x .convert
+queue-of waits x = x .wait
+
+abbrev pub chain : Tables → LockChain → List ℕ
+chain t free-locks = t .free-locks
+chain t denied = t .denied
+chain t blocked = t .blocked
+chain t notices = t .notices
+chain t (queue r q) = queue-of q (resource t r)
+
+abbrev pub chain-of : Chain → Tables → List ℕ
+chain-of free-resources t = t .free-resources
+chain-of (of-locks c) t = chain t c
+
+-- the home chain of a lock: its state and its resource say which
+abbrev pub home-at : ℕ → ℕ → LockChain
+home-at zero r = free-locks
+home-at (suc zero) r = queue r grants
+home-at (suc (suc zero)) r = queue r converts
+home-at (suc (suc (suc zero))) r = queue r waits
+home-at (suc (suc (suc (suc s)))) r = denied
+
+abbrev pub home : Lock → LockChain
+home l = home-at (l .state) (l .resource)
+
+-- which locks belong on a chain
+abbrev pub belongs : LockChain → Lock → Bool
+belongs free-locks l = eqb (l .state) 0
+belongs denied l = eqb (l .state) 4
+belongs blocked l = blocked-lock l
+belongs notices l = told l
+belongs (queue r grants) l = granted l && eqb (l .resource) r
+belongs (queue r converts) l = converting l && eqb (l .resource) r
+belongs (queue r waits) l = waiting l && eqb (l .resource) r
+
+-- CHANGES. A record that was on a chain, or not, is to be on it, or not: it enters at the end ..
+unfoldable pub shift : Bool → Bool → ℕ → List ℕ → List ℕ
+shift true true k xs = xs
+shift true false k xs = remove k xs
+shift false true k xs = xs ++ (k ∷ [])
+shift false false k xs = xs
+
+-- .. and a chain of free records at the front
+unfoldable pub shift-front : Bool → Bool → ℕ → List ℕ → List ℕ
+shift-front true true k xs = xs
+shift-front true false k xs = remove k xs
+shift-front false true k xs = k ∷ xs
+shift-front false false k xs = xs
+
+-- the lock k becomes m, on the chains of the resource r: it leaves each chain on which it no longer belongs, and joins each on which it now belongs
+unfoldable pub relist : ℕ → Lock → Lock → Resource → Resource
+relist k l m x =
+    record {
+      name = x .name;
+      value = x .value;
+      valid = x .valid;
+      grant = shift (granted l) (granted m) k (x .grant);
+      convert = shift (converting l) (converting m) k (x .convert);
+      wait = shift (waiting l) (waiting m) k (x .wait);
+    }
+
+unfoldable pub move : ℕ → ℕ → Lock → Tables → Tables
+move r k m t =
+    let l = lock t k in
+    record {
+      resources = put (t .resources) r (relist k l m (resource t r));
+      locks = put (t .locks) k m;
+      free-resources = t .free-resources;
+      free-locks = shift-front (eqb (l .state) 0) (eqb (m .state) 0) k (t .free-locks);
+      denied = shift (eqb (l .state) 4) (eqb (m .state) 4) k (t .denied);
+      blocked = shift (blocked-lock l) (blocked-lock m) k (t .blocked);
+      notices = shift (told l) (told m) k (t .notices);
+    }
+
+-- the resource r becomes x: it leaves the free chain or joins its front, as its name says
+unfoldable pub move-resource : ℕ → Resource → Tables → Tables
+move-resource r x t =
+    record {
+      resources = put (t .resources) r x;
+      locks = t .locks;
+      free-resources = shift-front (null (resource t r .name)) (null (x .name)) r (t .free-resources);
+      free-locks = t .free-locks;
+      denied = t .denied;
+      blocked = t .blocked;
+      notices = t .notices;
+    }
