@@ -3,7 +3,7 @@ use mathlib.Core.Path.{_≡_, _∙_, refl, sym}
 use mathlib.Core.Bool.{Bool, true, false, _&&_, _||_, not, false≢true}
 use Prim.Native.Nat.{ℕ, _+_, _≤_, _<_}
 use native.Mathlib.Omega.{arith}
-use Rattle.modes.specs.Modes.{compatible, all-modes, down}
+use Rattle.modes.specs.Modes.{compatible, down}
 use Rattle.modes.proofs.Table.{by-range}
 use Rattle.modes.proofs.Laws.{none-asked, all-modes-at, all-modes-intro}
 

@@ -1,22 +1,22 @@
 -- The M table holds: the entries answer as document 01's bench sequences say. Computed on states, and carried over by the law that entries on the
 -- written form of a valid state give what the rules say of it.
-use mathlib.Core.Path.{_≡_, refl, sym, ap, _∙_}
+use mathlib.Core.Path.{_≡_, refl, _∙_}
 use mathlib.Core.Bool.{Bool, true, false, _&&_}
 use mathlib.Core.List.{List, [], _∷_}
-use Prim.Native.Nat.{ℕ, zero, suc, _≤_}
+use Prim.Native.Nat.{ℕ}
 use native.Mathlib.Omega.{arith}
 use Rattle.modes.specs.Modes.{rows, compatible, all-modes, down}
-use Rattle.tables.specs.Lists.{count, remove, all, any, keep, first-that, next, same}
+use Rattle.tables.specs.Lists.{remove, all, any, keep, first-that, same}
 use Rattle.tables.specs.State.{Tables, no-value, lock, resource, started, shift, shift-front, relist, move, move-resource}
-use Rattle.tables.specs.Grants.{holders, fits, convert-grantable, admits, wait-grantable, grantable-head, no-grantable-head, empty}
+use Rattle.tables.specs.Grants.{holders, fits, convert-grantable, admits, wait-grantable, empty}
 use Rattle.tables.specs.Sound.{client-right}
 use Rattle.tables.proofs.Valid.{Valid}
 use Rattle.rules.specs.Walks.{reaches}
 use Rattle.rules.specs.Queues.{granted-lock, grant-lock, grant-while, grant-converts, grant-waits, sweep, free-lock, settle, find}
 use Rattle.rules.specs.Deadlock.{before, ahead, obstacles, leads, deadlocked, victim}
-use Rattle.rules.specs.Calls.{Step, unless, refused-or, stores, spoils, no-queue, request-flags, convert-flags, release-flags, name-right, value-right, own, strong, with-value, leave-value, resource-for, with-resource, request-on, request-change, request-refusal, request, in-place, convert-change, convert-refusal, convert, release-change, release-refusal, release, cancel-change, cancel-refusal, cancel, locks-of, purge-lock, purge-locks, stands-on, settle-all, purge-change, purge-refusal, purge, deny, deny-victim, break, take-notice, poll-notice, poll-change, poll-refusal, poll}
-use Rattle.rules.specs.Entries.{Call, step-of, start-accepts, start-if, start-entry}
-use Rattle.rules.specs.Theorem.{Lent, outcome, left}
+use Rattle.rules.specs.Calls.{unless, refused-or, stores, spoils, no-queue, request-flags, convert-flags, release-flags, name-right, value-right, own, strong, with-value, leave-value, resource-for, with-resource, request-on, request-change, request-refusal, request, in-place, convert-change, convert-refusal, convert, release-change, release-refusal, release, cancel-change, cancel-refusal, cancel, locks-of, purge-lock, purge-locks, stands-on, settle-all, purge-change, purge-refusal, purge, deny, deny-victim, break, take-notice, poll-notice, poll-change, poll-refusal, poll}
+use Rattle.rules.specs.Entries.{step-of, start-accepts, start-if, start-entry}
+use Rattle.rules.specs.Theorem.{left}
 use Rattle.rules.specs.Bench.{Line, line-right, lines-right, all-right, bench, fresh}
 use Rattle.rules.proofs.Stepping.{stepped, started-valid}
 use Rattle.rules.proofs.Lists.{out-of, lent, outcome-is}

@@ -1,22 +1,22 @@
 -- The words of a valid state hold what the queue theorem says of the words after every list of calls.
-use mathlib.Core.Path.{_≡_, refl, sym, ap, _∙_, subst}
+use mathlib.Core.Path.{_≡_, refl, ap, _∙_}
 use mathlib.Core.Logic.{_≢_}
-use mathlib.Core.Bool.{Bool, true, false, _&&_, _||_, not, cond, and-true, and-false}
+use mathlib.Core.Bool.{Bool, true, false, _&&_, _||_, not, and-false}
 use mathlib.Core.List.{List, [], _∷_, _++_}
-use Prim.Native.Nat.{ℕ, zero, suc, _+_, _-_, _≤_, _<_}
+use Prim.Native.Nat.{ℕ, zero, suc, _+_, _≤_, _<_}
 use native.Mathlib.Omega.{arith}
 use lib.ListN.{length}
-use lib.Dec.{eqb, leb, ltb}
-use borrow.Author.Tests.{eqb-true, eqb-false, eq-eqb, ne-eqb, ltb-true, ltb-false, lt-ltb, le-ltb, not-true}
+use lib.Dec.{eqb, ltb}
+use borrow.Author.Tests.{eqb-true, eq-eqb, ne-eqb, ltb-true, ltb-false, lt-ltb, le-ltb, not-true}
 use Rattle.modes.specs.Modes.{compatible}
 use Rattle.tables.specs.declared.Lock.{Lock}
-use Rattle.tables.specs.Lists.{within, count, bit, all, any, keep, first, next, null, from}
-use Rattle.tables.specs.State.{Tables, lock, resource, granted, converting, waiting, holds, Queue, queue-of, grants, converts, waits, LockChain, free-locks, denied, blocked, notices, queue, Chain, of-locks, chain, belongs}
+use Rattle.tables.specs.Lists.{within, count, bit, any, first, from}
+use Rattle.tables.specs.State.{Tables, lock, resource, granted, converting, waiting, holds, Queue, queue-of, grants, converts, waits, LockChain, free-locks, denied, blocked, notices, queue, of-locks, chain, belongs}
 use Rattle.tables.specs.Layout.{of-resource, queue-head, resources-in, locks-in, word-in, link-in, read-chain, read-lock, words, slots}
-use Rattle.tables.specs.Grants.{holders, fits, convert-grantable, admits, wait-grantable, grantable-head, no-grantable-head}
+use Rattle.tables.specs.Grants.{fits, convert-grantable}
 use Rattle.tables.specs.Sound.{ends, chain-ends, chains-end, sound}
-use Rattle.tables.proofs.Cases.{by-cases, by-equal, clash, eqb-same, and-left, and-right, and-intro, or-left, or-right, parts}
-use Rattle.tables.proofs.Counts.{within-le, le-within, count-same, count-from, all-at, any-intro, bit-one}
+use Rattle.tables.proofs.Cases.{by-cases, by-equal, clash, parts}
+use Rattle.tables.proofs.Counts.{within-le, le-within, count-same, count-from, all-at, any-intro}
 use Rattle.tables.proofs.Chains.{Present}
 use Rattle.tables.proofs.Written.{valid-readable, valid-sound}
 use Rattle.tables.proofs.Read.{resources-word, locks-word, word-read, chain-read, lock-read}

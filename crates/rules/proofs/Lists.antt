@@ -1,24 +1,24 @@
 -- The queue theorem: lists of calls on the written form of valid states.
-use mathlib.Core.Path.{_≡_, refl, sym, ap, _∙_, subst}
+use mathlib.Core.Path.{_≡_, refl, sym, ap}
 use mathlib.Core.Logic.{_≢_}
-use mathlib.Core.Bool.{Bool, true, false, _&&_, _||_, not, cond}
-use mathlib.Core.List.{List, [], _∷_, _++_}
-use Prim.Native.Nat.{ℕ, zero, suc, _+_, _-_, _≤_, _<_}
+use mathlib.Core.Bool.{Bool, true, false, not}
+use mathlib.Core.List.{List, [], _∷_}
+use Prim.Native.Nat.{ℕ, zero, suc, _+_, _≤_}
 use native.Mathlib.Omega.{arith}
 use lib.ListN.{length}
-use lib.Dec.{eqb, leb, ltb}
-use borrow.Author.Tests.{eqb-true, leb-true}
+use lib.Dec.{eqb}
+use borrow.Author.Tests.{leb-true}
 use Rattle.tables.specs.Lists.{within, count, keep, from}
 use Rattle.tables.specs.State.{Tables, lock, started}
-use Rattle.tables.specs.Layout.{locks-in, read-lock, words, slots, read}
-use Rattle.tables.proofs.Cases.{by-cases, clash, parts}
+use Rattle.tables.specs.Layout.{read-lock, words, slots}
+use Rattle.tables.proofs.Cases.{parts}
 use Rattle.tables.proofs.Counts.{within-le, count-same, count-step, count-from, bit-one}
 use Rattle.tables.proofs.Read.{locks-word, lock-read, tables-read}
 use Rattle.tables.proofs.Valid.{Valid}
 use Rattle.tables.proofs.Written.{valid-readable, valid-sound}
 use Rattle.rules.specs.Calls.{Step}
-use Rattle.rules.specs.Entries.{Outcome, refused, written-back, if-sound, entry, Call, to-request, to-convert, to-release, to-cancel, to-purge, to-break, to-poll, step-of, call-entry, start-accepts, start-if, start-entry}
-use Rattle.rules.specs.Theorem.{Lent, outcome, left, after, sum-of, requests, releases, cancelled, purged, polled-denials, in-use, QueuesHold, Demand}
+use Rattle.rules.specs.Entries.{Outcome, written-back, if-sound, entry, Call, step-of, call-entry, start-accepts, start-if, start-entry}
+use Rattle.rules.specs.Theorem.{Lent, outcome, left, after, sum-of, requests, releases, cancelled, purged, polled-denials, in-use, Demand}
 use Rattle.rules.proofs.Counting.{used-locks}
 use Rattle.rules.proofs.Stepping.{Kept, stepped, started-valid, started-none}
 use Rattle.rules.proofs.Holding.{queues-hold}

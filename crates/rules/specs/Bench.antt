@@ -1,10 +1,10 @@
 -- The bench sequences that document 01 marks M, as one table of calls and what each answers. Every completion is polled before the next step.
-use mathlib.Core.Bool.{Bool, true, false, _&&_}
-use mathlib.Core.List.{List, [], _∷_, _++_}
+use mathlib.Core.Bool.{Bool, true, _&&_}
+use mathlib.Core.List.{List, [], _∷_}
 use Prim.Native.Nat.{ℕ}
 use lib.ListN.{replicate}
 use lib.Dec.{eqb}
-use Rattle.rules.specs.Entries.{Outcome, Call, to-request, to-convert, to-release, to-cancel, to-purge, to-break, to-poll, start-entry}
+use Rattle.rules.specs.Entries.{Outcome, Call, to-request, to-convert, to-release, to-break, to-poll, start-entry}
 use Rattle.rules.specs.Theorem.{Lent, outcome, left}
 
 -- a call and what it answers: a refusal or 0, the answer and the number of the lock

@@ -1,11 +1,10 @@
 -- The entries on lent words and slots: what each gives back and leaves in them. The code's contracts cite these.
-use mathlib.Core.Bool.{Bool, true, false, _&&_, _||_, not}
+use mathlib.Core.Bool.{Bool, true, false, _&&_}
 use mathlib.Core.List.{List, [], _∷_, _++_, map}
 use Prim.Native.Nat.{ℕ, zero, suc, _*_}
 use lib.ListN.{length}
 use lib.Dec.{eqb, leb}
 use Rattle.tables.specs.declared.LockEntry.{LockEntry}
-use Rattle.tables.specs.declared.Lock.{Lock}
 use Rattle.tables.specs.State.{Tables, no-value, lock, resource, started, holds}
 use Rattle.tables.specs.Layout.{size, slot-width, words, slots, read}
 use Rattle.tables.specs.Grants.{holders}

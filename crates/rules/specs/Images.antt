@@ -1,11 +1,10 @@
 -- Image, load and holder: the tables as bytes, and back.
-use mathlib.Core.Bool.{Bool, true, false, _&&_, cond}
+use mathlib.Core.Bool.{Bool, _&&_}
 use mathlib.Core.List.{List, [], _∷_, _++_, map}
 use Prim.Native.Nat.{ℕ, zero, suc, _+_, _*_, _/_, _%_}
 use lib.ListN.{getD, length, drop}
 use lib.Dec.{eqb}
 use Rattle.tables.specs.Lists.{first-that, from}
-use Rattle.tables.specs.declared.Lock.{Lock}
 use Rattle.tables.specs.State.{Tables, lock}
 use Rattle.tables.specs.Layout.{size, slot-width, flat-map, read}
 use Rattle.tables.specs.Grants.{holders}

@@ -1,11 +1,11 @@
 -- Granting and sweeping a resource, freeing what is no longer used, and finding a name.
 use mathlib.Core.Bool.{Bool, true, false}
 use mathlib.Core.List.{List, [], _∷_}
-use Prim.Native.Nat.{ℕ, zero, suc}
+use Prim.Native.Nat.{ℕ}
 use lib.ListN.{length}
 use Rattle.tables.specs.Lists.{first-that, from, same}
 use Rattle.tables.specs.declared.Lock.{Lock}
-use Rattle.tables.specs.State.{Resource, Tables, no-lock, no-resource, lock, resource, move, move-resource}
+use Rattle.tables.specs.State.{Tables, no-lock, no-resource, lock, resource, move, move-resource}
 use Rattle.tables.specs.Grants.{convert-grantable, wait-grantable, empty}
 
 -- "A lock granted so goes to the end of the grant chain, held = asked, asked 0, completion 1, off the blocked chain, to the end of the

@@ -1,13 +1,12 @@
 -- The queue theorem (document 01's demand 3): what holds of the words and slots after every list of the seven calls from fresh tables.
 use mathlib.Core.Path.{_≡_}
 use mathlib.Core.Logic.{_≢_}
-use mathlib.Core.Bool.{Bool, true, false, _&&_, _||_, not}
+use mathlib.Core.Bool.{Bool, true, _&&_, not}
 use mathlib.Core.List.{List, [], _∷_}
 use Prim.Native.Nat.{ℕ, zero, suc, _+_, _≤_}
 use lib.ListN.{length}
 use lib.Dec.{eqb}
 use Rattle.modes.specs.Modes.{compatible}
-use Rattle.tables.specs.declared.Lock.{Lock}
 use Rattle.tables.specs.Lists.{count, bit, any, keep, from}
 use Rattle.tables.specs.State.{holds, grants, converts, waits, LockChain, free-locks, denied, blocked, notices, queue, of-locks}
 use Rattle.tables.specs.Layout.{of-resource, resources-in, locks-in, word-in, link-in, read-chain, read-lock}

@@ -26,3 +26,4 @@ pub mod Fields
 pub mod Soundness
 pub mod Written
 pub mod Stated
+pub mod Pigeonhole

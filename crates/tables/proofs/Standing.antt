@@ -1,21 +1,20 @@
 -- What stands on the chains of a valid state, and what a move leaves alone on other resources.
-use mathlib.Core.Path.{_≡_, refl, sym, ap, _∙_, subst}
+use mathlib.Core.Path.{_≡_, refl, sym, ap, _∙_}
 use mathlib.Core.Logic.{_≢_}
-use mathlib.Core.Bool.{Bool, true, false, _&&_, _||_, not, cond, and-true, and-false}
+use mathlib.Core.Bool.{Bool, true, false, _&&_, not, and-true}
 use mathlib.Core.List.{List, [], _∷_, _++_}
-use Prim.Native.Nat.{ℕ, zero, suc, _+_, _-_, _≤_, _<_}
+use Prim.Native.Nat.{ℕ, suc, _≤_}
 use native.Mathlib.Omega.{arith}
-use lib.ListN.{length, replicate}
-use lib.Dec.{eqb, leb, ltb}
-use borrow.Author.Tests.{eqb-true, eqb-false, eq-eqb, ne-eqb, leb-true, leb-false}
+use lib.ListN.{length}
+use lib.Dec.{eqb, leb}
+use borrow.Author.Tests.{eqb-true, eq-eqb, ne-eqb, leb-true, leb-false}
 use Rattle.modes.specs.Modes.{compatible}
-use Rattle.modes.proofs.Laws.{compatible-sym}
-use Rattle.tables.specs.Lists.{nth, put, within, count, bit, remove, all, any, null}
-use Rattle.tables.specs.State.{Lock, Resource, Tables, no-value, no-lock, no-resource, lock, resource, granted, converting, waiting, blocked-lock, holds, told, Queue, grants, converts, waits, LockChain, free-locks, denied, blocked, notices, queue, queue-of, chain, belongs, shift, shift-front, relist, move, move-resource}
-use Rattle.tables.specs.Grants.{holders, fits, convert-grantable, admits, wait-grantable, grantable-head, no-grantable-head, empty}
-use Rattle.tables.proofs.Cases.{by-cases, by-equal, clash, eqb-same, and-left, and-right, and-intro, or-left, or-right}
-use Rattle.tables.proofs.Counts.{length-put, nth-put-same, nth-put-other, nth-out, count-same, count-nil, count-append, count-shift, count-shift-other, count-front, count-front-other, all-at, all-intro, all-cong, bit-one, by-append, shift-off, remove-append, remove-head}
-use Rattle.tables.proofs.Valid.{used, Place, LockOk, ok-at, Linked, Core, line, idle, Settled, Fits, Near, absent-lock, used-zero, used-within, lock-same, lock-other, resource-same, resource-other, used-move}
+use Rattle.tables.specs.Lists.{within, count, bit, all}
+use Rattle.tables.specs.State.{Lock, Tables, lock, resource, granted, converting, waiting, holds, grants, converts, waits, LockChain, queue, chain, belongs, move}
+use Rattle.tables.specs.Grants.{holders, fits, convert-grantable, admits, wait-grantable, grantable-head, no-grantable-head}
+use Rattle.tables.proofs.Cases.{by-cases, by-equal, clash, eqb-same, and-left, and-right, or-left, or-right}
+use Rattle.tables.proofs.Counts.{count-same, count-append, all-at, all-intro, all-cong, by-append}
+use Rattle.tables.proofs.Valid.{used, Place, ok-at, Linked, Core, line, idle, Settled, Fits, Near, absent-lock, used-zero, lock-other, resource-other, used-move}
 
 pub state-within : (t : Tables) (j n : ℕ) → lock t j .state ≡ suc n → within (length (t .locks)) j ≡ true
 state-within t j n h = by-cases (within (length (t .locks)) j) (λ w. w) (λ w. absurd (omega (arith, ap (λ (l : Lock). l .state) (absent-lock t j w))))

@@ -1,20 +1,19 @@
 -- Which states are valid, by fields: every statement holds of every number, in range or not. And the laws of `move`.
-use mathlib.Core.Path.{_≡_, refl, sym, ap, _∙_, subst}
+use mathlib.Core.Path.{_≡_, refl, sym, _∙_, subst}
 use mathlib.Core.Logic.{_≢_}
-use mathlib.Core.Bool.{Bool, true, false, _&&_, _||_, not, cond, and-true, and-false}
+use mathlib.Core.Bool.{Bool, true, false, _&&_, not}
 use mathlib.Core.List.{List, [], _∷_, _++_}
-use Prim.Native.Nat.{ℕ, zero, suc, _+_, _-_, _≤_, _<_}
-use native.Mathlib.Omega.{arith}
-use lib.ListN.{length, replicate}
-use lib.Dec.{eqb, leb, ltb}
-use borrow.Author.Tests.{eqb-true, eqb-false, eq-eqb, ne-eqb, leb-true, leb-false}
+use Prim.Native.Nat.{ℕ, zero, suc, _≤_}
+use lib.ListN.{length}
+use lib.Dec.{eqb}
+use borrow.Author.Tests.{eqb-true, eq-eqb, ne-eqb}
 use Rattle.modes.specs.Modes.{compatible}
 use Rattle.modes.proofs.Laws.{compatible-sym}
-use Rattle.tables.specs.Lists.{nth, put, within, count, bit, remove, all, any, null}
-use Rattle.tables.specs.State.{Lock, Resource, Tables, no-value, no-lock, no-resource, lock, resource, granted, converting, waiting, blocked-lock, holds, told, Queue, grants, converts, waits, LockChain, free-locks, denied, blocked, notices, queue, queue-of, chain, belongs, shift, shift-front, relist, move, move-resource}
-use Rattle.tables.specs.Grants.{holders, fits, convert-grantable, empty}
-use Rattle.tables.proofs.Cases.{by-cases, by-equal, clash, eqb-same, and-left, and-right, and-intro, or-left, or-right}
-use Rattle.tables.proofs.Counts.{length-put, nth-put-same, nth-put-other, nth-out, count-same, count-nil, count-append, count-shift, count-shift-other, count-front, count-front-other, all-at, all-intro, all-cong, bit-one, by-append, shift-off, remove-append, remove-head}
+use Rattle.tables.specs.Lists.{within, count, bit, null}
+use Rattle.tables.specs.State.{Lock, Resource, Tables, no-value, no-lock, no-resource, lock, resource, granted, holds, grants, converts, waits, LockChain, free-locks, denied, blocked, notices, queue, chain, belongs, shift, shift-front, relist, move}
+use Rattle.tables.specs.Grants.{convert-grantable, empty}
+use Rattle.tables.proofs.Cases.{by-cases, by-equal, clash}
+use Rattle.tables.proofs.Counts.{length-put, nth-put-same, nth-put-other, nth-out, count-shift, count-shift-other, count-front, count-front-other}
 
 -- how a lock that was on a chain (or not) comes to be on it (or not)
 abbrev pub enter : LockChain → Bool → Bool → ℕ → List ℕ → List ℕ

@@ -1,11 +1,11 @@
 -- Who holds a mode on a resource, and which heads are grantable (document 01, Modes).
-use mathlib.Core.Bool.{Bool, true, false, _&&_, _||_, not}
+use mathlib.Core.Bool.{Bool, false, _&&_, _||_, not}
 use mathlib.Core.List.{List, [], _∷_, _++_}
 use Prim.Native.Nat.{ℕ}
 use lib.Dec.{eqb}
 use Rattle.modes.specs.Modes.{compatible}
 use Rattle.tables.specs.Lists.{all, null}
-use Rattle.tables.specs.State.{Lock, Resource, Tables, lock, resource}
+use Rattle.tables.specs.State.{Resource, Tables, lock, resource}
 
 -- the locks that hold a mode there
 unfoldable pub holders : Tables → ℕ → List ℕ

@@ -3,7 +3,7 @@ use mathlib.Core.List.{List, [], _∷_, _++_, map}
 use Prim.Native.Nat.{ℕ, zero, suc, _+_, _-_, _*_}
 use lib.ListN.{getD, length, replicate, take, drop}
 use Rattle.tables.specs.Lists.{from, next}
-use Rattle.tables.specs.State.{Lock, Resource, Tables, name-width, value-width, lock, resource, Queue, grants, converts, waits, LockChain, free-locks, denied, blocked, notices, queue, Chain, free-resources, of-locks, chain-of, home}
+use Rattle.tables.specs.State.{Lock, Resource, Tables, name-width, value-width, lock, resource, Queue, grants, converts, waits, free-locks, denied, blocked, notices, queue, Chain, free-resources, of-locks, chain-of, home}
 
 -- ADDRESSES. A header, then a row of words for each resource, then one for each lock. These widths stand here alone.
 abbrev pub header-width : ℕ

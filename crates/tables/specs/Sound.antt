@@ -1,12 +1,12 @@
 -- Sound tables: document 01's list, a definition for each of its five points, in its order and words.
 use mathlib.Core.Bool.{Bool, true, false, _&&_, _||_, not, cond}
-use mathlib.Core.List.{List, [], _∷_, _++_}
-use Prim.Native.Nat.{ℕ, zero, suc, _+_, _-_, _*_}
-use lib.ListN.{length, replicate, take, drop}
+use mathlib.Core.List.{List, [], _∷_}
+use Prim.Native.Nat.{ℕ, zero, suc, _*_}
+use lib.ListN.{length, take, drop}
 use lib.Dec.{eqb, leb}
 use Rattle.modes.specs.Modes.{compatible}
-use Rattle.tables.specs.Lists.{count, bit, all, any, from, null, same}
-use Rattle.tables.specs.State.{Lock, Resource, Tables, name-width, lock, resource, granted, converting, waiting, blocked-lock, told, Queue, grants, converts, waits, LockChain, free-locks, denied, blocked, notices, queue, Chain, free-resources, of-locks, chain, belongs}
+use Rattle.tables.specs.Lists.{count, bit, all, from, null, same}
+use Rattle.tables.specs.State.{Lock, Tables, name-width, lock, resource, grants, converts, waits, LockChain, free-locks, denied, blocked, notices, queue, Chain, free-resources, of-locks, chain, belongs}
 use Rattle.tables.specs.Layout.{of-header, of-resource, of-lock, size, slot-width, resources-in, locks-in, word-in, most, link-in, slot-in, read}
 use Rattle.tables.specs.Grants.{holders, no-grantable-head, empty}
 

@@ -1,8 +1,5 @@
 -- `modes::fits` meets its contract: one computed test over the 384 entries of the code's table. Assumes nothing.
 use mathlib.Core.Path.{refl}
-use mathlib.Core.Bool.{Bool, true, false}
-use mathlib.Core.List.{List, []}
-use lib.ListN.{getD}
 use borrow.Author.Needs.{needs}
 use Rattle.modes.specs.Modes.{rows, compatible, all-modes}
 use Rattle.modes.specs.Sets.{in-set, fits-set}

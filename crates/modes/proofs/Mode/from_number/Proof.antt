@@ -1,7 +1,7 @@
 -- `modes::Mode::from_number` meets its contract: each arm's number is its mode's, and past them the number is above 5.
 -- Assumes nothing.
-use mathlib.Core.Path.{_≡_, ap, sym}
-use Prim.Native.Nat.{ℕ, _<_}
+use mathlib.Core.Path.{ap, sym}
+use Prim.Native.Nat.{_<_}
 use native.Mathlib.Omega.{arith}
 use borrow.Author.Tests.{lt-leb}
 use Rattle.modes.specs.Made.{numbers, made}

@@ -1,0 +1,11 @@
+pub mod Stepping
+pub mod Fitting
+pub mod Walking
+pub mod Heads
+pub mod RecordTests
+pub mod Sides
+pub mod Homes
+pub mod Once
+pub mod Accepted
+pub mod Complete
+pub mod Equal

@@ -1,0 +1,50 @@
+use Rattle.deadlock.proofs.Answering.{seek-laws, Seeking}
+use Rattle.deadlock.specs.Chained.{onward}
+use lib.ListN.{length}
+use Rattle.deadlock.proofs.first_on_cycle.Statement.{statement}
+use Rattle.deadlock.proofs.first_on_cycle.Tie as tie
+
+abbrev Inv-loop : tie.InvT-loop
+Inv-loop words ranks k₀ k = Seeking words ranks k
+
+abbrev μ-loop : tie.MeasureT-loop
+μ-loop words ranks k₀ k = length (onward words 1 k)
+
+header-word-requires : tie.Need-header-word-requires Inv-loop μ-loop
+header-word-requires c κs = search seek-laws
+
+loop-holds : tie.Need-loop-holds Inv-loop μ-loop
+loop-holds c = search seek-laws
+
+lock-word-requires : tie.Need-lock-word-requires Inv-loop μ-loop
+lock-word-requires c κs = search seek-laws
+
+on-cycle-requires : tie.Need-on-cycle-requires Inv-loop μ-loop
+on-cycle-requires c κs = search seek-laws
+
+returns : tie.Need-returns Inv-loop μ-loop
+returns c = search seek-laws
+
+loop-less : tie.Need-loop-less Inv-loop μ-loop
+loop-less c = search seek-laws
+
+loop-again : tie.Need-loop-again Inv-loop μ-loop
+loop-again c = search seek-laws
+
+returns-2 : tie.Need-returns-2 Inv-loop μ-loop
+returns-2 c = search seek-laws
+
+pub first-on-cycle-spec : {M : Type 1} → statement M
+first-on-cycle-spec =
+    tie.close
+    (tie.spec
+    Inv-loop
+    μ-loop
+    header-word-requires
+    loop-holds
+    lock-word-requires
+    on-cycle-requires
+    returns
+    loop-less
+    loop-again
+    returns-2)

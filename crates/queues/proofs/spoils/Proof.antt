@@ -1,0 +1,14 @@
+use borrow.Author.Needs.{needs}
+use Rattle.rules.specs.Calls.{spoils}
+use Rattle.queues.proofs.spoils.Statement.{statement}
+use Rattle.queues.proofs.spoils.Tie as tie
+use Rattle.queues.proofs.spoils.Reads as reads
+use Rattle.queues.proofs.spoils.Lts as lts
+
+-- src/lib.rt:173:1
+returns : tie.Need-returns
+unfolding spoils
+returns c = search needs
+
+pub spoils-spec : {M : Type 1} → statement M
+spoils-spec = tie.close (tie.spec returns)

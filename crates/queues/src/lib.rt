@@ -1,0 +1,226 @@
+// What the calls are made of, in place on the lent words and slots: who holds a mode on a resource, granting, freeing.
+use fields::lock_word;
+use fields::resource_word;
+use tables::Lock;
+ghost use mathlib.Core.Path.{_≡_};
+ghost use mathlib.Core.Bool.{true, false};
+ghost use Prim.Native.Nat.{_<_};
+ghost use Rattle.tables.specs.Lists.{first};
+ghost use Rattle.tables.specs.State.{«no-resource», resource, «move-resource»};
+ghost use Rattle.tables.specs.Grants.{fits, admits, empty};
+ghost use Rattle.tables.proofs.Valid.{line};
+ghost use Rattle.rules.specs.Queues.{«granted-lock», sweep, «free-lock», settle};
+ghost use Rattle.rules.specs.Calls.{stores, spoils, «leave-value», «new-resource»};
+ghost use Rattle.access.specs.Contracts.{Some, Turns, Tells, Answers, Changes, Resourced};
+ghost use Rattle.queues.specs.Holders.{«with-holder», «with-holders», others, «held-in», «locks-from», Joined, Row};
+ghost use Rattle.queues.specs.Contracts.{Locked, ready, advance, Lent, Vacant, Takes, Valued};
+
+// The set with the mode that lock j holds, unless j is k.
+fn with_holder(words: &[u32], set: u32, j: u32, k: u32) -> u32
+    requires { ⌜ Joined (now words) set j ⌝ }
+    ensures { λ x. ⌜ x ≡ with-holder (held-in (now (words .entry))) k set j ⌝ }
+{
+    if j == k {
+        return set;
+    }
+    modes::with_mode(set, lock_word(words, j, fields::LOCK_HELD))
+}
+
+// The set with the modes that locks other than k hold, from the first on along its chain.
+fn with_holders(words: &[u32], set: u32, first: u32, k: u32) -> u32
+    requires { ⌜ Row (now words) set first ⌝ }
+    ensures { λ x. ⌜ x ≡ with-holders (held-in (now (words .entry))) k set (locks-from (now (words .entry)) first) ⌝ }
+{
+    let mut held = set;
+    let mut j = first;
+    while j != 0 {
+        held = with_holder(words, held, j, k);
+        j = lock_word(words, j, fields::LOCK_NEXT);
+    }
+    held
+}
+
+// The set of the modes that locks other than k hold on r. No lock has the number 0: with k = 0 none is left out.
+pub fn others(words: &[u32], r: u32, k: u32) -> u32
+    requires { ⌜ Some (Resourced r) (now words) ⌝ }
+    ensures { λ x. ⌜ Tells (Resourced r) (others r k) (now (words .entry)) x ⌝ }
+{
+    let granted = resource_word(words, r, fields::RESOURCE_GRANT);
+    let held = with_holders(words, 0, granted, k);
+    let converting = resource_word(words, r, fields::RESOURCE_CONVERT);
+    with_holders(words, held, converting, k)
+}
+
+// The mode is compatible with every mode that a lock other than k holds on r.
+pub fn fits(words: &[u32], r: u32, k: u32, mode: u32) -> bool
+    requires { ⌜ Some (Resourced r) (now words) ⌝ }
+    requires { ⌜ mode < 6 ⌝ }
+    ensures { λ x. ⌜ Tells (Resourced r) (λ t. fits t r k mode) (now (words .entry)) x ⌝ }
+{
+    modes::fits(others(words, r, k), mode)
+}
+
+// A new request of the mode can be granted on r: no conversion waits there, and the mode is compatible with every held mode.
+pub fn admits(words: &[u32], r: u32, mode: u32) -> bool
+    requires { ⌜ Some (Resourced r) (now words) ⌝ }
+    requires { ⌜ mode < 6 ⌝ }
+    ensures { λ x. ⌜ Tells (Resourced r) (λ t. admits t r mode) (now (words .entry)) x ⌝ }
+{
+    if resource_word(words, r, fields::RESOURCE_CONVERT) != 0 {
+        return false;
+    }
+    fits(words, r, 0, mode)
+}
+
+// The lock that is next to be granted on r, or 0: the convert head, or else the wait head.
+fn next_up(words: &[u32], r: u32) -> u32
+    requires { ⌜ Some (Resourced r) (now words) ⌝ }
+    ensures { λ x. ⌜ Tells (Resourced r) (λ t. first (line t r)) (now (words .entry)) x ⌝ }
+{
+    let k = resource_word(words, r, fields::RESOURCE_CONVERT);
+    if k != 0 {
+        return k;
+    }
+    resource_word(words, r, fields::RESOURCE_WAIT)
+}
+
+fn granted(l: Lock) -> Lock
+    ensures { λ m. ⌜ m ≡ granted-lock l ⌝ }
+{
+    Lock {
+        resource: l.resource,
+        client: l.client,
+        state: fields::STATE_GRANTED,
+        held: l.asked,
+        asked: 0,
+        completion: 1,
+    }
+}
+
+// Grants the next lock of r, if it can be.
+fn grant_next(words: &mut [u32], r: u32) -> bool
+    requires { ⌜ Some (Resourced r) (now words) ⌝ }
+    ensures { λ x. ⌜ Answers (Resourced r) (ready r) (advance r) (now (words .entry)) (now (words .exit)) x ⌝ }
+{
+    let k = next_up(words, r);
+    if k == 0 {
+        return false;
+    }
+    let l = fields::lock_at(words, k);
+    if !fits(words, r, k, l.asked) {
+        return false;
+    }
+    access::move_lock(words, k, granted(l));
+    true
+}
+
+// Grants on r while the next lock can be.
+pub fn sweep(words: &mut [u32], r: u32)
+    requires { ⌜ Some (Resourced r) (now words) ⌝ }
+    ensures { λ _. ⌜ Turns (Resourced r) (sweep r) (now (words .entry)) (now (words .exit)) ⌝ }
+{
+    loop {
+        if !grant_next(words, r) {
+            return;
+        }
+    }
+}
+
+// The lock k becomes free.
+pub fn free_lock(words: &mut [u32], k: u32)
+    requires { ⌜ Some (Locked k) (now words) ⌝ }
+    ensures { λ _. ⌜ Turns (Locked k) (free-lock k) (now (words .entry)) (now (words .exit)) ⌝ }
+{
+    access::move_lock(
+        words,
+        k,
+        Lock {
+            resource: 0,
+            client: 0,
+            state: fields::STATE_FREE,
+            held: 0,
+            asked: 0,
+            completion: 0,
+        },
+    );
+}
+
+// The resource r, on which no lock stands, becomes free.
+pub fn free_resource(words: &mut [u32], slots: &mut [u8], r: u32)
+    requires { ⌜ Lent (Vacant r) (now words) (now slots) ⌝ }
+    ensures { λ _. ⌜ Changes (Vacant r) (move-resource r no-resource) (now (words .entry)) (now (slots .entry)) (now (words .exit)) (now (slots .exit)) ⌝ }
+{
+    access::move_resource_words(words, r, 0, 0);
+    names::clear_slot(slots, r);
+}
+
+// The resource r, which is free, gets a name. Its value is zero, and valid.
+pub fn take_resource(words: &mut [u32], slots: &mut [u8], r: u32, name: &[u8])
+    requires { ⌜ Lent (Takes r (now name)) (now words) (now slots) ⌝ }
+    ensures { λ _. ⌜ Changes (Takes r (now (name .entry))) (move-resource r (new-resource (now (name .entry)))) (now (words .entry)) (now (slots .entry)) (now (words .exit)) (now (slots .exit)) ⌝ }
+{
+    access::move_resource_words(words, r, name.len() as u32, 1);
+    names::store_name(slots, r, name);
+}
+
+// Flag 1: store the value. Flag 2: make it not valid.
+pub fn stores(flags: u32) -> bool
+    ensures { λ x. ⌜ x ≡ stores flags ⌝ }
+{
+    flags % 2 == 1
+}
+
+pub fn spoils(flags: u32) -> bool
+    ensures { λ x. ⌜ x ≡ spoils flags ⌝ }
+{
+    flags / 2 % 2 == 1
+}
+
+// Where `acts` says so, flags 1 and 2 do what they say to the value of r. Storing makes it valid.
+pub fn leave_value(
+    words: &mut [u32],
+    slots: &mut [u8],
+    acts: bool,
+    flags: u32,
+    value: &[u8],
+    r: u32,
+)
+    requires { ⌜ Lent (Valued flags (now value) r) (now words) (now slots) ⌝ }
+    ensures { λ _. ⌜ Changes (Valued flags (now (value .entry)) r) (leave-value acts flags (now (value .entry)) r) (now (words .entry)) (now (slots .entry)) (now (words .exit)) (now (slots .exit)) ⌝ }
+{
+    if !acts {
+        return;
+    }
+    let length = resource_word(words, r, fields::RESOURCE_NAME_LENGTH);
+    if stores(flags) {
+        access::move_resource_words(words, r, length, 1);
+        names::store_value(slots, r, value);
+        return;
+    }
+    if spoils(flags) {
+        access::move_resource_words(words, r, length, 0);
+    }
+}
+
+// No lock stands on r.
+pub fn is_empty(words: &[u32], r: u32) -> bool
+    requires { ⌜ Some (Resourced r) (now words) ⌝ }
+    ensures { λ x. ⌜ Tells (Resourced r) (λ t. empty (resource t r)) (now (words .entry)) x ⌝ }
+{
+    let granted = resource_word(words, r, fields::RESOURCE_GRANT);
+    let converting = resource_word(words, r, fields::RESOURCE_CONVERT);
+    let waiting = resource_word(words, r, fields::RESOURCE_WAIT);
+    (granted == 0) & (converting == 0) & (waiting == 0)
+}
+
+// The resource r is swept, or becomes free if no lock is left on it.
+pub fn settle(words: &mut [u32], slots: &mut [u8], r: u32)
+    requires { ⌜ Lent (Resourced r) (now words) (now slots) ⌝ }
+    ensures { λ _. ⌜ Changes (Resourced r) (settle r) (now (words .entry)) (now (slots .entry)) (now (words .exit)) (now (slots .exit)) ⌝ }
+{
+    if is_empty(words, r) {
+        free_resource(words, slots, r);
+        return;
+    }
+    sweep(words, r);
+}

@@ -1,0 +1,75 @@
+-- What the passes before give to those after them.
+use mathlib.Core.Path.{_≡_, sym, _∙_}
+use mathlib.Core.Bool.{Bool, true, false, not, cond, _&&_}
+use mathlib.Core.List.{List}
+use Prim.Native.Nat.{ℕ, _*_, _≤_}
+use native.Mathlib.Omega.{arith}
+use lib.Dec.{eqb, leb}
+use lib.ListN.{length}
+use borrow.Author.Tests.{not-false, leb-true, eqb-true}
+use Rattle.tables.specs.Lists.{all, from}
+use Rattle.tables.specs.State.{name-width}
+use Rattle.tables.specs.Layout.{of-resource, size, slot-width, resources-in, locks-in, word-in}
+use Rattle.tables.specs.Sound.{sizes-right}
+use Rattle.tables.proofs.Cases.{by-cases, and-left, and-right, parts}
+use Rattle.fields.specs.Sizes.{Sized}
+use Rattle.names.specs.Names.{named, slot-fine}
+use Rattle.names.specs.Standing.{Slotted, Tidy}
+use Rattle.checking.specs.Check.{used-words, free-words, resource-words-fine, resource-fine, lock-fine}
+use Rattle.soundness.specs.Passes.{Checked}
+use Rattle.soundness.proofs.Laws.{all-from}
+
+-- the sizes
+module _ (ws ss : List ℕ) {a : Bool} (e : a ≡ sizes-right ws ss) (f : not a ≡ false) where
+  right : sizes-right ws ss ≡ true
+  right = sym e ∙ not-false a f
+
+  pub slotted : Slotted ws ss
+  unfolding sizes-right
+  slotted =
+      let h = right in
+      let p : eqb (length ws) (size (resources-in ws) (locks-in ws)) ≡ true = search parts depth 20 in
+      let q : leb (resources-in ws) 256 ≡ true = search parts depth 20 in
+      let r : leb (locks-in ws) 1024 ≡ true = search parts depth 20 in
+      let s : eqb (length ss) (slot-width * resources-in ws) ≡ true = search parts depth 20 in
+      record {
+        sized = record { long = eqb-true _ _ p; few-resources = leb-true _ _ q; few-locks = leb-true _ _ r };
+        long = eqb-true _ _ s;
+      }
+
+  pub sized : Sized ws
+  sized = slotted .sized
+
+  some-lock : 1 ≤ locks-in ws
+  unfolding sizes-right
+  some-lock = let h = right in let p : leb 1 (locks-in ws) ≡ true = search parts depth 20 in leb-true _ _ p
+
+  -- the resources
+  module _ {b : Bool} (g : b ≡ all (resource-fine ws ss) (from 1 (resources-in ws))) (k : not b ≡ false) where
+    fine-at : (r : ℕ) → 1 ≤ r → r ≤ resources-in ws → resource-fine ws ss r ≡ true
+    fine-at r l h = all-from (resource-fine ws ss) (resources-in ws) 1 r (sym g ∙ not-false b k) l (omega arith)
+
+    short-at : (r : ℕ) → 1 ≤ r → r ≤ resources-in ws → word-in ws (of-resource r 4) ≤ name-width
+    unfolding resource-fine resource-words-fine used-words named
+    short-at r l h =
+        let x = and-left (resource-words-fine ws r) (slot-fine ws ss r) (fine-at r l h) in
+        let w = word-in ws (of-resource r 4) in
+        by-cases (eqb w 0)
+        (λ z. omega (arith, eqb-true w 0 z))
+        (λ z.
+        let y = and-right (eqb (word-in ws (of-resource r 6)) 0 && eqb (word-in ws (of-resource r 7)) 0) (cond (named ws r) (used-words ws r) (free-words ws r)) x in
+        let u : used-words ws r ≡ true = rw z at y in
+        let v : leb w name-width ≡ true = search parts depth 20 in
+        leb-true w name-width v)
+
+    pub tidy : Tidy ws ss
+    unfolding resource-fine
+    tidy =
+        record {
+          named = record { slotted = slotted; lengths = record { sized = sized; short = short-at } };
+          fine = λ r l h. and-right (resource-words-fine ws r) (slot-fine ws ss r) (fine-at r l h);
+        }
+
+    -- the locks
+    pub checked : {d : Bool} → d ≡ all (lock-fine ws) (from 1 (locks-in ws)) → not d ≡ false → Checked ws ss
+    checked {d} m n = record { fine = record { sized = sized; some = some-lock; passed = sym m ∙ not-false d n }; tidy = tidy }

@@ -1,0 +1,65 @@
+-- what is met, and what is left of the chain from there on with the set so far, is the whole
+use Prim.Native.Nat.{_<_, _≤_, _-_}
+use mathlib.Core.Path.{_≡_}
+use Rattle.modes.specs.Sets.{fits-set}
+use Rattle.checking.specs.Check.{grant-walk}
+use Rattle.soundness.specs.Passes.{at-home, modes-left}
+use Rattle.soundness.proofs.Holders.{modes-end, modes-long, modes-off, modes-other, modes-clash, modes-on, holders}
+use borrow.Author.Needs.{needs}
+use native.Mathlib.Omega.{arith}
+use Rattle.soundness.proofs.grant_walk.Statement.{statement}
+use Rattle.soundness.proofs.grant_walk.Tie as tie
+
+abbrev Inv-loop : tie.InvT-loop
+Inv-loop words r n k₀ met₀ set₀ k met set = (met ≤ n) × ((set < 64) × (grant-walk words r ≡ modes-left words (at-home words 1 r) fits-set n met k set))
+
+abbrev μ-loop : tie.MeasureT-loop
+μ-loop words r n k₀ met₀ set₀ k met set = n - met
+
+loop-holds : tie.Need-loop-holds Inv-loop μ-loop
+loop-holds c = (omega arith, (omega arith, search holders))
+
+returns : tie.Need-returns Inv-loop μ-loop
+returns c = record { same = search modes-long; short = omega arith; small = omega arith }
+
+returns-2 : tie.Need-returns-2 Inv-loop μ-loop
+returns-2 c = record { same = search modes-off; short = omega arith; small = omega arith }
+
+returns-3 : tie.Need-returns-3 Inv-loop μ-loop
+returns-3 c = record { same = search modes-other; short = omega arith; small = omega arith }
+
+returns-4 : tie.Need-returns-4 Inv-loop μ-loop
+returns-4 c = record { same = search modes-clash; short = omega arith; small = omega arith }
+
+loop-again : tie.Need-loop-again Inv-loop μ-loop
+loop-again c = (omega arith, (omega arith, search modes-on))
+
+returns-5 : tie.Need-returns-5 Inv-loop μ-loop
+returns-5 c = record { same = search modes-end; short = omega arith; small = omega arith }
+
+pub grant-walk-spec : {M : Type 1} → statement M
+grant-walk-spec =
+    tie.close
+    (tie.spec
+    Inv-loop
+    μ-loop
+    (λ c. search needs)
+    (λ c κs. search needs)
+    loop-holds
+    (λ c. search needs)
+    returns
+    (λ c. search needs)
+    returns-2
+    (λ c κs. search needs)
+    (λ c. search needs)
+    returns-3
+    (λ c κs. search needs)
+    (λ c κs. search needs)
+    (λ c. search needs)
+    returns-4
+    (λ c κs. search needs)
+    (λ c κs. search needs)
+    (λ c. search needs)
+    (λ c. search needs)
+    loop-again
+    returns-5)
