@@ -206,7 +206,7 @@ pub fn is_blocked(l: Lock) -> bool
 pub fn is_told(l: Lock) -> bool
     ensures { λ r. ⌜ r ≡ told l ⌝ }
 {
-    l.completion != 0
+    l.completion != fields::COMPLETION_NONE
 }
 
 fn keeps_home(l: Lock, m: Lock) -> bool

@@ -10,7 +10,7 @@ ghost use Rattle.access.specs.Contracts.{Some, Tells};
 pub fn client_right(client: u32) -> bool
     ensures { λ r. ⌜ r ≡ client-right client ⌝ }
 {
-    (1 <= client) & (client <= 255)
+    (1 <= client) & (client <= fields::LAST_CLIENT)
 }
 
 // Flag 4: don't queue.

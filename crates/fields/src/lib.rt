@@ -9,6 +9,11 @@ ghost use Rattle.tables.specs.Layout.{«resources-in», «locks-in», «word-in
 ghost use Rattle.tables.proofs.MoveSteps.{«set-cells»};
 ghost use Rattle.fields.specs.Sizes.{Sized, Kept};
 
+// The most resources and locks that tables may have.
+pub const MOST_RESOURCES: usize = 256;
+
+pub const MOST_LOCKS: usize = 1024;
+
 // Rows.
 pub const HEADER_WORDS: usize = 8;
 
@@ -31,6 +36,9 @@ pub const BLOCKED: usize = 5;
 
 pub const NOTICES: usize = 6;
 
+// The header's last word is always zero.
+pub const HEADER_ZERO: usize = 7;
+
 // A resource: the next free one, the first of each of its queues, its name's length, whether its value is valid.
 pub const RESOURCE_NEXT: usize = 0;
 
@@ -43,6 +51,11 @@ pub const RESOURCE_WAIT: usize = 3;
 pub const RESOURCE_NAME_LENGTH: usize = 4;
 
 pub const RESOURCE_VALID: usize = 5;
+
+// Its last two words are always zero.
+pub const RESOURCE_ZERO: usize = 6;
+
+pub const RESOURCE_ZERO_TOO: usize = 7;
 
 // A lock: what follows it on its home chain, on the blocked chain, on the notice chain; then its record.
 pub const LOCK_NEXT: usize = 0;
@@ -73,6 +86,20 @@ pub const STATE_CONVERTING: u32 = 2;
 pub const STATE_WAITING: u32 = 3;
 
 pub const STATE_DENIED: u32 = 4;
+
+// Its completions.
+pub const COMPLETION_NONE: u32 = 0;
+
+pub const COMPLETION_GRANTED: u32 = 1;
+
+pub const COMPLETION_DENIED: u32 = 2;
+
+pub const COMPLETION_CONVERSION_DENIED: u32 = 3;
+
+// Clients are 1 to 255, modes 0 to 5.
+pub const LAST_CLIENT: u32 = 255;
+
+pub const LAST_MODE: u32 = 5;
 
 pub fn wide(x: u32) -> usize
     ensures { λ r. ⌜ (r ≡ x) × (r < 2 ^ 32) ⌝ }

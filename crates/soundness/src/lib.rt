@@ -1,9 +1,16 @@
 // The check of whatever tables are lent: it needs nothing of them, and walks each of their chains once.
 use checking::Held;
 use fields::BLOCKED;
+use fields::COMPLETION_CONVERSION_DENIED;
+use fields::COMPLETION_DENIED;
+use fields::COMPLETION_GRANTED;
+use fields::COMPLETION_NONE;
 use fields::FREE_LOCKS;
 use fields::FREE_RESOURCES;
 use fields::HEADER_WORDS;
+use fields::HEADER_ZERO;
+use fields::LAST_CLIENT;
+use fields::LAST_MODE;
 use fields::LOCK_ASKED;
 use fields::LOCK_COMPLETION;
 use fields::LOCK_HELD;
@@ -14,6 +21,8 @@ use fields::LOCK_RESOURCE;
 use fields::LOCK_STATE;
 use fields::LOCK_WORDS;
 use fields::LOCKS;
+use fields::MOST_LOCKS;
+use fields::MOST_RESOURCES;
 use fields::NOTICES;
 use fields::RESOURCE_CONVERT;
 use fields::RESOURCE_GRANT;
@@ -22,6 +31,8 @@ use fields::RESOURCE_NEXT;
 use fields::RESOURCE_VALID;
 use fields::RESOURCE_WAIT;
 use fields::RESOURCE_WORDS;
+use fields::RESOURCE_ZERO;
+use fields::RESOURCE_ZERO_TOO;
 use fields::RESOURCES;
 use fields::STATE_CONVERTING;
 use fields::STATE_DENIED;
@@ -51,32 +62,6 @@ ghost use Rattle.checking.specs.Check.{«grant-walk», «tail-steps», «conver
 ghost use Rattle.checking.specs.Check.{«free-resources-fine», «blocked-fine», «notices-fine», «homes-fine»};
 ghost use Rattle.soundness.specs.Passes.{«fields-with», «at-home», «free-count», «blocked-count», «noticed-count», «free-met», «blocked-met», «noticed-met»};
 ghost use Rattle.soundness.specs.Passes.{«fits-beside», «chains-fine», Fine, Walked, Heads, Checked};
-
-// The most resources and locks that tables may have.
-const MOST_RESOURCES: usize = 256;
-
-const MOST_LOCKS: usize = 1024;
-
-// The words that are always zero: the header's last, and the last two of a resource.
-const HEADER_ZERO: usize = 7;
-
-const RESOURCE_ZERO: usize = 6;
-
-const RESOURCE_ZERO_TOO: usize = 7;
-
-// The completions of a lock.
-const NONE: u32 = 0;
-
-const TOLD_GRANTED: u32 = 1;
-
-const TOLD_DENIED: u32 = 2;
-
-const TOLD_CONVERSION_DENIED: u32 = 3;
-
-// Clients are 1 to 255, modes 0 to 5.
-const LAST_CLIENT: u32 = 255;
-
-const LAST_MODE: u32 = 5;
 
 // The tables have 1 to 256 resources and 1 to 1024 locks, and are as long as these say.
 fn sizes_right(words: &[u32], slots: &[u8]) -> bool
@@ -197,11 +182,11 @@ fn fields_fine(named: bool, l: Lock) -> bool
     let nowhere = l.resource == 0;
     let holds_none = l.held == 0;
     let asks_none = l.asked == 0;
-    let silent = l.completion == NONE;
+    let silent = l.completion == COMPLETION_NONE;
     let granted_right = silent
-        | (l.completion == TOLD_GRANTED)
-        | (l.completion == TOLD_CONVERSION_DENIED);
-    let denied_right = l.completion == TOLD_DENIED;
+        | (l.completion == COMPLETION_GRANTED)
+        | (l.completion == COMPLETION_CONVERSION_DENIED);
+    let denied_right = l.completion == COMPLETION_DENIED;
     (l.state == STATE_FREE) & nowhere & (l.client == 0) & holds_none & asks_none & silent
         | (l.state == STATE_GRANTED)
             & named
@@ -230,7 +215,7 @@ fn noticed(words: &[u32], k: u32) -> bool
     requires { ⌜ (1 ≤ k) × (k ≤ locks-in (now words)) ⌝ }
     ensures { λ x. ⌜ x ≡ told (read-lock (now (words .entry)) k) ⌝ }
 {
-    lock_word(words, k, LOCK_COMPLETION) != NONE
+    lock_word(words, k, LOCK_COMPLETION) != COMPLETION_NONE
 }
 
 // Off the blocked and the notice chain a lock's links there are zero.
