@@ -1,4 +1,5 @@
 // Changes of the words in place: the cells of a chain, a lock that becomes another, the words of a resource.
+use fields::ResourceFields;
 use fields::put_lock;
 use fields::wide;
 use tables::Lock;
@@ -262,9 +263,12 @@ pub fn move_resource_words(words: &mut [u32], r: u32, name_length: u32, valid: u
     ensures { λ _. ⌜ ResourceMoved r «name_length» valid (now (words .entry)) (now (words .exit)) ⌝ }
     ensures { λ _. ⌜ Kept (now (words .entry)) (now (words .exit)) ⌝ }
 {
-    let old = fields::resource_word(words, r, fields::RESOURCE_NAME_LENGTH);
+    let old = fields::resource_at(words, r);
     let free = resource_cells(words);
-    shift_front(words, free, old == 0, name_length == 0, r);
-    fields::set_resource_word(words, r, fields::RESOURCE_NAME_LENGTH, name_length);
-    fields::set_resource_word(words, r, fields::RESOURCE_VALID, valid);
+    shift_front(words, free, old.bytes == 0, name_length == 0, r);
+    let new = ResourceFields {
+        bytes: name_length,
+        valid: valid,
+    };
+    fields::put_resource(words, r, new);
 }

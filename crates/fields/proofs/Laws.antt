@@ -10,6 +10,8 @@ use Rattle.tables.specs.declared.Lock.{Lock}
 use Rattle.tables.specs.Layout.{header-width, resource-width, lock-width, of-resource, of-lock, place, resources-in, locks-in, word-in, read-lock}
 use Rattle.tables.proofs.MoveSteps.{set-cells}
 use Rattle.fields.specs.Sizes.{Sized, Kept}
+use Rattle.fields.specs.declared.ResourceFields.{ResourceFields}
+use Rattle.fields.specs.Records.{read-fields, with-fields}
 
 pub kept-set : (ws vs : List ℕ) (i v : ℕ) → 2 ≤ i → Kept ws vs → Kept ws (set vs i v)
 kept-set ws vs i v h k =
@@ -30,21 +32,21 @@ module _ (ws : List ℕ) (s : Sized ws) where
     pub resource-read : getD ws (x + f) 0 ≡ word-in ws (of-resource r f)
     resource-read = rw e
 
-    pub resource-stored : (v : ℕ) → set ws (x + f) v ≡ set ws (place (resources-in ws) (of-resource r f)) v
-    resource-stored v = rw e
+  module _ (r x : ℕ) (e : x ≡ header-width + resource-width * (r - 1)) where
+    pub fields-read : record { bytes = getD ws (x + 4) 0; valid = getD ws (x + 5) 0 } ≡ read-fields ws r
+    unfolding read-fields
+    fields-read = rw e
 
-    pub resource-kept : (v : ℕ) → Kept ws (set ws (x + f) v)
-    resource-kept v = kept-set ws ws (x + f) v (omega arith) (kept-all ws s)
+    pub fields-stored : (m : ResourceFields) → set (set ws (x + 4) (m .bytes)) (x + 5) (m .valid) ≡ with-fields r m ws
+    unfolding with-fields
+    fields-stored m = rw e
+
+    pub fields-kept : (a b : ℕ) → Kept ws (set (set ws (x + 4) a) (x + 5) b)
+    fields-kept a b = kept-set ws _ (x + 5) b (omega arith) (kept-set ws ws (x + 4) a (omega arith) (kept-all ws s))
 
   module _ (k x : ℕ) (e : x ≡ header-width + resource-width * resources-in ws + lock-width * (k - 1)) where
     pub lock-word-read : (f : ℕ) → getD ws (x + f) 0 ≡ word-in ws (of-lock k f)
     lock-word-read f = rw e
-
-    pub lock-word-stored : (f v : ℕ) → set ws (x + f) v ≡ set ws (place (resources-in ws) (of-lock k f)) v
-    lock-word-stored f v = rw e
-
-    pub lock-word-kept : (f v : ℕ) → Kept ws (set ws (x + f) v)
-    lock-word-kept f v = kept-set ws ws (x + f) v (omega arith) (kept-all ws s)
 
     pub lock-read : record {
       resource = getD ws (x + 3) 0;
@@ -70,4 +72,4 @@ module _ (ws : List ℕ) (s : Sized ws) where
         let k₄ = kept-set ws _ (x + 7) f (omega arith) k₃ in
         kept-set ws _ (x + 8) g (omega arith) k₄
 
-pub ruleset field-laws = (needs, resource-read, resource-stored, resource-kept, lock-word-read, lock-word-stored, lock-word-kept, lock-read, lock-stored, lock-kept)
+pub ruleset field-laws = (needs, resource-read, fields-read, fields-stored, fields-kept, lock-word-read, lock-read, lock-stored, lock-kept)

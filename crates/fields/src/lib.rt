@@ -3,11 +3,11 @@
 use tables::Lock;
 ghost use mathlib.Core.Path.{_≡_};
 ghost use Prim.Native.Nat.{_+_, _*_, _-_, _<_, _≤_, _^_};
-ghost use lib.ListN.{set};
-ghost use Rattle.tables.specs.Layout.{«header-width», «resource-width», «lock-width», «of-header», «of-resource», «of-lock», place};
+ghost use Rattle.tables.specs.Layout.{«header-width», «resource-width», «lock-width», «of-header», «of-resource», «of-lock»};
 ghost use Rattle.tables.specs.Layout.{«resources-in», «locks-in», «word-in», «read-lock»};
 ghost use Rattle.tables.proofs.MoveSteps.{«set-cells»};
 ghost use Rattle.fields.specs.Sizes.{Sized, Kept};
+ghost use Rattle.fields.specs.Records.{«read-fields», «with-fields»};
 
 // The most resources and locks that tables may have.
 pub const MOST_RESOURCES: usize = 256;
@@ -101,6 +101,12 @@ pub const LAST_CLIENT: u32 = 255;
 
 pub const LAST_MODE: u32 = 5;
 
+// A resource's record beside its links: how many bytes its name has, and whether its value is valid.
+pub struct ResourceFields {
+    pub bytes: u32,
+    pub valid: u32,
+}
+
 pub fn wide(x: u32) -> usize
     ensures { λ r. ⌜ (r ≡ x) × (r < 2 ^ 32) ⌝ }
 {
@@ -183,26 +189,17 @@ pub fn lock_at(words: &[u32], k: u32) -> Lock
     }
 }
 
-pub fn set_resource_word(words: &mut [u32], r: u32, field: usize, v: u32)
+// The record of resource r.
+pub fn resource_at(words: &[u32], r: u32) -> ResourceFields
     requires { ⌜ Sized (now words) ⌝ }
     requires { ⌜ (1 ≤ r) × (r ≤ resources-in (now words)) ⌝ }
-    requires { ⌜ field < resource-width ⌝ }
-    ensures { λ _. ⌜ now (words .exit) ≡ set (now (words .entry)) (place (resources-in (now (words .entry))) (of-resource r field)) v ⌝ }
-    ensures { λ _. ⌜ Kept (now (words .entry)) (now (words .exit)) ⌝ }
+    ensures { λ x. ⌜ x ≡ read-fields (now (words .entry)) r ⌝ }
 {
-    let at = resource_start(words, r) + field;
-    words[at] = v;
-}
-
-pub fn set_lock_word(words: &mut [u32], k: u32, field: usize, v: u32)
-    requires { ⌜ Sized (now words) ⌝ }
-    requires { ⌜ (1 ≤ k) × (k ≤ locks-in (now words)) ⌝ }
-    requires { ⌜ field < lock-width ⌝ }
-    ensures { λ _. ⌜ now (words .exit) ≡ set (now (words .entry)) (place (resources-in (now (words .entry))) (of-lock k field)) v ⌝ }
-    ensures { λ _. ⌜ Kept (now (words .entry)) (now (words .exit)) ⌝ }
-{
-    let at = lock_start(words, k) + field;
-    words[at] = v;
+    let start = resource_start(words, r);
+    ResourceFields {
+        bytes: words[start + RESOURCE_NAME_LENGTH],
+        valid: words[start + RESOURCE_VALID],
+    }
 }
 
 // The record of lock k becomes m; its links stay.
@@ -219,4 +216,16 @@ pub fn put_lock(words: &mut [u32], k: u32, m: Lock)
     words[start + LOCK_HELD] = m.held;
     words[start + LOCK_ASKED] = m.asked;
     words[start + LOCK_COMPLETION] = m.completion;
+}
+
+// The record of resource r becomes x; its links stay.
+pub fn put_resource(words: &mut [u32], r: u32, x: ResourceFields)
+    requires { ⌜ Sized (now words) ⌝ }
+    requires { ⌜ (1 ≤ r) × (r ≤ resources-in (now words)) ⌝ }
+    ensures { λ _. ⌜ now (words .exit) ≡ with-fields r x (now (words .entry)) ⌝ }
+    ensures { λ _. ⌜ Kept (now (words .entry)) (now (words .exit)) ⌝ }
+{
+    let start = resource_start(words, r);
+    words[start + RESOURCE_NAME_LENGTH] = x.bytes;
+    words[start + RESOURCE_VALID] = x.valid;
 }
