@@ -17,7 +17,7 @@ use Rattle.rules.specs.Deadlock.{before, ahead, obstacles, leads, deadlo
 use Rattle.rules.specs.Calls.{unless, refused-or, stores, spoils, no-queue, request-flags, convert-flags, release-flags, name-right, value-right, own, strong, with-value, leave-value, resource-for, with-resource, request-on, request-change, request-refusal, request, in-place, convert-change, convert-refusal, convert, release-change, release-refusal, release, cancel-change, cancel-refusal, cancel, locks-of, purge-lock, purge-locks, stands-on, settle-all, purge-change, purge-refusal, purge, deny, deny-victim, break, take-notice, poll-notice, poll-change, poll-refusal, poll}
 use Rattle.rules.specs.Entries.{step-of, start-accepts, start-if, start-entry}
 use Rattle.rules.specs.Theorem.{left}
-use Rattle.rules.specs.Bench.{Line, line-right, lines-right, all-right, bench, fresh}
+use Rattle.rules.specs.Bench.{Line, line-right, lines-right, all-right, bench, mistakes, fresh}
 use Rattle.rules.proofs.Stepping.{stepped, started-valid}
 use Rattle.rules.proofs.Lists.{out-of, lent, outcome-is}
 
@@ -34,6 +34,10 @@ computed : state-all bench (started 4 8) ≡ true
 unfolding state-all state-lines line-right started no-value lock resource shift shift-front relist move move-resource remove all any keep first-that same holders fits convert-grantable admits wait-grantable empty client-right reaches granted-lock grant-lock grant-while grant-converts grant-waits sweep free-lock settle find before ahead obstacles leads deadlocked victim unless refused-or stores spoils no-queue request-flags convert-flags release-flags name-right value-right own strong with-value leave-value resource-for with-resource request-on request-change request-refusal request in-place convert-change convert-refusal convert release-change release-refusal release cancel-change cancel-refusal cancel locks-of purge-lock purge-locks stands-on settle-all purge-change purge-refusal purge deny deny-victim break take-notice poll-notice poll-change poll-refusal poll rows compatible all-modes down
 computed = refl
 
+mistakes-computed : state-all mistakes (started 4 8) ≡ true
+unfolding state-all state-lines line-right started no-value lock resource shift shift-front relist move move-resource remove all any keep first-that same holders fits convert-grantable admits wait-grantable empty client-right reaches granted-lock grant-lock grant-while grant-converts grant-waits sweep free-lock settle find before ahead obstacles leads deadlocked victim unless refused-or stores spoils no-queue request-flags convert-flags release-flags name-right value-right own strong with-value leave-value resource-for with-resource request-on request-change request-refusal request in-place convert-change convert-refusal convert release-change release-refusal release cancel-change cancel-refusal cancel locks-of purge-lock purge-locks stands-on settle-all purge-change purge-refusal purge deny deny-victim break take-notice poll-notice poll-change poll-refusal poll rows compatible all-modes down
+mistakes-computed = refl
+
 lines-are : (xs : List Line) (t : Tables) → Valid t → lines-right xs (lent t) ≡ state-lines xs t
 unfolding lines-right state-lines
 lines-are [] t val = refl
@@ -45,11 +49,18 @@ unfolding all-right state-all
 all-are [] t val = refl
 all-are (xs ∷ xss) t val = rw (lines-are xs t val, all-are xss t val)
 
+-- what holds of the sequences on states holds of them on the tables that `start` leaves
+from-start : (xss : List (List Line)) → state-all xss (started 4 8) ≡ true → (ws ss : List ℕ) → start-entry ws ss 4 8 .refusal ≡ 0 → all-right xss (fresh ws ss) ≡ true
+unfolding start-entry start-accepts
+from-start xss h ws ss = go (start-accepts ws ss 4 8)
+  where
+    go : (b : Bool) → start-if b ws ss 4 8 .refusal ≡ 0 → all-right xss (left (start-if b ws ss 4 8)) ≡ true
+    go false z = absurd (omega arith)
+    go true z = all-are xss (started 4 8) (started-valid 4 8 (omega arith) (omega arith) (omega arith) (omega arith)) ∙ h
+
 -- THE M TABLE HOLDS
 pub bench-holds : (ws ss : List ℕ) → start-entry ws ss 4 8 .refusal ≡ 0 → all-right bench (fresh ws ss) ≡ true
-unfolding start-entry start-accepts
-bench-holds ws ss = go (start-accepts ws ss 4 8)
-  where
-    go : (b : Bool) → start-if b ws ss 4 8 .refusal ≡ 0 → all-right bench (left (start-if b ws ss 4 8)) ≡ true
-    go false z = absurd (omega arith)
-    go true z = all-are bench (started 4 8) (started-valid 4 8 (omega arith) (omega arith) (omega arith) (omega arith)) ∙ computed
+bench-holds = from-start bench computed
+
+pub mistakes-hold : (ws ss : List ℕ) → start-entry ws ss 4 8 .refusal ≡ 0 → all-right mistakes (fresh ws ss) ≡ true
+mistakes-hold = from-start mistakes mistakes-computed

@@ -5,6 +5,7 @@ pub mod Keeps
 pub mod Requests
 pub mod Purges
 pub mod Counting
+pub mod Passing
 pub mod Stepping
 pub mod Deadlocks
 pub mod Holding

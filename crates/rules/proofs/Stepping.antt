@@ -7,20 +7,20 @@ use Prim.Native.Nat.{ℕ, zero, suc, _+_, _≤_}
 use native.Mathlib.Omega.{arith}
 use lib.ListN.{length, replicate, length-replicate, getD-replicate}
 use lib.Dec.{eqb, eqb·suc-zero}
-use borrow.Author.Tests.{leb-true, eqb-true, not-true, ltb-true}
+use borrow.Author.Tests.{ltb-true}
 use Rattle.tables.specs.Lists.{nth, within, count, bit, keep, first-that, first, null, from}
 use Rattle.tables.specs.State.{Resource, Tables, no-lock, no-resource, lock, resource, started, granted, converting, blocked-lock, LockChain, chain, belongs, grants, converts, waits, free-locks, denied, blocked, notices, queue}
 use Rattle.tables.specs.Grants.{admits}
-use Rattle.tables.specs.Sound.{client-right}
 use Rattle.tables.proofs.Cases.{by-cases, clash, parts}
 use Rattle.tables.proofs.Counts.{nth-out, count-nil, count-from}
 use Rattle.tables.proofs.Valid.{used, line, idle, Valid}
 use Rattle.rules.specs.Queues.{find}
 use Rattle.rules.specs.Deadlock.{victim}
-use Rattle.rules.specs.Calls.{Step, unless, refused-or, stores, name-right, value-right, resource-for, with-resource, request-on, request-change, request-refusal, request, in-place, convert-change, convert-refusal, convert, release-change, release-refusal, release, cancel-change, cancel-refusal, cancel, purge-change, purge-refusal, purge, deny-victim, break, poll-notice, poll-change, poll-refusal, poll}
+use Rattle.rules.specs.Calls.{Step, refused-or, resource-for, with-resource, request-on, request-change, request-refusal, request, in-place, convert-change, convert-refusal, convert, release-change, release-refusal, release, cancel-change, cancel-refusal, cancel, purge-change, purge-refusal, purge, deny-victim, break, poll-notice, poll-change, poll-refusal, poll}
 use Rattle.rules.specs.Entries.{Call, step-of, to-request, to-convert, to-release, to-cancel, to-purge, to-break, to-poll}
 use Rattle.rules.specs.Theorem.{requests, releases, cancelled, purged, polled-denials}
 use Rattle.rules.proofs.Resources.{no-value-length}
+use Rattle.rules.proofs.Passing.{Requestable, Releasable, Convertible, Cancellable, Purgeable, request-passed, convert-passed, release-passed, cancel-passed, purge-passed}
 use Rattle.rules.proofs.Keeps.{After, release-after, cancel-after, poll-after, break-after, convert-after}
 use Rattle.rules.proofs.Requests.{request-after}
 use Rattle.rules.proofs.Purges.{purge-after}
@@ -156,85 +156,45 @@ refused-kept c t (suc n) s val h =
       balance = nothing n c t;
     }
 
--- what a call that is not refused has passed
-passed : (b : Bool) (n rest : ℕ) → unless b (suc n) rest ≡ 0 → b ≡ true
-unfolding unless
-passed true n rest h = refl
-passed false n rest h = absurd (omega arith)
-
-after : (b : Bool) (n rest : ℕ) → unless b (suc n) rest ≡ 0 → rest ≡ 0
-unfolding unless
-after true n rest h = h
-after false n rest h = absurd (omega arith)
-
-right-value : (f : ℕ) (v : List ℕ) → value-right f v ≡ true → stores f ≡ true → length v ≡ 32
-unfolding value-right
-right-value f v h e = eqb-true (length v) 32 (rw e at h)
-
-client-is : (c : ℕ) → client-right c ≡ true → (1 ≤ c) × (c ≤ 255)
-unfolding client-right
-client-is c h = (leb-true 1 c (search parts), leb-true c 255 (search parts))
-
-name-is : (n : List ℕ) → name-right n ≡ true → (null n ≡ false) × (length n ≤ 64)
-unfolding name-right
-name-is [] h = clash false h refl
-name-is (x ∷ xs) h = (refl, leb-true (length (x ∷ xs)) 64 (search parts))
-
 -- REQUEST
-request-accepted : (c m : ℕ) (n : List ℕ) (t : Tables) → request-change c m n t .refusal ≡ 0
+pub request-accepted : (c m : ℕ) (n : List ℕ) (t : Tables) → request-change c m n t .refusal ≡ 0
 unfolding request-change
 request-accepted c m n t = on (resource-for (find n t) t) (first (t .free-locks)) (with-resource (find n t) n t)
   where
     on : (r k : ℕ) (t′ : Tables) → request-on r k c m t′ .refusal ≡ 0
     on r k t′ = unfold request-on in by-cases (admits t′ r m) (λ h. rw (h, request-on)) (λ h. rw (h, request-on))
 
-requested : (c m f : ℕ) (n : List ℕ) (t : Tables) → Valid t → request-refusal c m f n t ≡ 0 → Kept (to-request c m f n) t (request-change c m n t)
-unfolding request-refusal requests releases cancelled purged polled-denials
-requested c m f n t val h =
-    let cl = client-is c (passed _ 2 _ h) in
-    let h3 = after _ 2 _ h in
-    let mode : m ≤ 5 = leb-true m 5 (passed _ 3 _ h3) in
-    let h5 = after _ 4 _ (after _ 3 _ h3) in
-    let nm = name-is n (passed _ 5 _ h5) in
-    let h6 = after _ 5 _ h5 in
-    let room = passed _ 10 _ h6 in
-    let left : null (t .free-locks) ≡ false = not-true (null (t .free-locks)) (passed _ 11 _ (after _ 10 _ h6)) in
+requested : (c m f : ℕ) (n : List ℕ) (t : Tables) → Requestable c m n t → Kept (to-request c m f n) t (request-change c m n t)
+unfolding requests releases cancelled purged polled-denials
+requested c m f n t p =
     accepted-kept (to-request c m f n) t (request-change c m n t) _ (request-accepted c m n t)
-    (request-after c m n t val (cl .0) (cl .1) mode (nm .0) (nm .1) room left)
-    (rw (request-accepted c m n t) (omega (arith, request-count t val c m n (cl .0) (cl .1) mode (nm .0) (nm .1) room left)))
+    (request-after c m n t (p .valid) (p .client-low) (p .client-high) (p .mode) (p .some) (p .short) (p .room) (p .lock-left))
+    (rw (request-accepted c m n t) (omega (arith, request-count t (p .valid) c m n (p .client-low) (p .client-high) (p .mode) (p .some) (p .short) (p .room) (p .lock-left))))
 
 -- CONVERT
-convert-accepted : (k m f : ℕ) (v : List ℕ) (t : Tables) → convert-change k m f v t .refusal ≡ 0
+pub convert-accepted : (k m f : ℕ) (v : List ℕ) (t : Tables) → convert-change k m f v t .refusal ≡ 0
 unfolding convert-change
 convert-accepted k m f v t = by-cases (in-place k m t) (λ h. rw (h, convert-change)) (λ h. rw (h, convert-change))
 
-converted : (c k m f : ℕ) (v : List ℕ) (t : Tables) → Valid t → convert-refusal c k m f v t ≡ 0 → Kept (to-convert c k m f v) t (convert-change k m f v t)
-unfolding convert-refusal requests releases cancelled purged polled-denials
-converted c k m f v t val h =
-    let h3 = after _ 2 _ h in
-    let mode : m ≤ 5 = leb-true m 5 (passed _ 3 _ h3) in
-    let h5 = after _ 4 _ (after _ 3 _ h3) in
-    let right = right-value f v (passed _ 6 _ h5) in
-    let g : granted (lock t k) ≡ true = passed _ 9 _ (after _ 8 _ (after _ 7 _ (after _ 6 _ h5))) in
+converted : (c k m f : ℕ) (v : List ℕ) (t : Tables) → Convertible k m f v t → Kept (to-convert c k m f v) t (convert-change k m f v t)
+unfolding requests releases cancelled purged polled-denials
+converted c k m f v t p =
     accepted-kept (to-convert c k m f v) t (convert-change k m f v t) _ (convert-accepted k m f v t)
-    (convert-after k m f v t val g mode right) (omega (arith, convert-count t val k m f v g mode right))
+    (convert-after k m f v t (p .valid) (p .is-granted) (p .mode) (p .right)) (omega (arith, convert-count t (p .valid) k m f v (p .is-granted) (p .mode) (p .right)))
 
 -- RELEASE
-release-accepted : (k f : ℕ) (v : List ℕ) (t : Tables) → release-change k f v t .refusal ≡ 0
+pub release-accepted : (k f : ℕ) (v : List ℕ) (t : Tables) → release-change k f v t .refusal ≡ 0
 unfolding release-change
 release-accepted k f v t = refl
 
-let-go : (c k f : ℕ) (v : List ℕ) (t : Tables) → Valid t → release-refusal c k f v t ≡ 0 → Kept (to-release c k f v) t (release-change k f v t)
-unfolding release-refusal requests releases cancelled purged polled-denials
-let-go c k f v t val h =
-    let h5 = after _ 4 _ (after _ 2 _ h) in
-    let right = right-value f v (passed _ 6 _ h5) in
-    let g : granted (lock t k) ≡ true = passed _ 9 _ (after _ 8 _ (after _ 7 _ (after _ 6 _ h5))) in
+let-go : (c k f : ℕ) (v : List ℕ) (t : Tables) → Releasable k f v t → Kept (to-release c k f v) t (release-change k f v t)
+unfolding requests releases cancelled purged polled-denials
+let-go c k f v t p =
     accepted-kept (to-release c k f v) t (release-change k f v t) _ (release-accepted k f v t)
-    (release-after k f v t val g right) (rw (release-accepted k f v t) (omega (arith, release-count t val k f v g right)))
+    (release-after k f v t (p .valid) (p .is-granted) (p .right)) (rw (release-accepted k f v t) (omega (arith, release-count t (p .valid) k f v (p .is-granted) (p .right))))
 
 -- CANCEL
-cancel-accepted : (k : ℕ) (t : Tables) → cancel-change k t .refusal ≡ 0
+pub cancel-accepted : (k : ℕ) (t : Tables) → cancel-change k t .refusal ≡ 0
 unfolding cancel-change
 cancel-accepted k t = by-cases (converting (lock t k)) (λ h. rw (h, cancel-change)) (λ h. rw (h, cancel-change))
 
@@ -242,26 +202,25 @@ cancel-answer : (k : ℕ) (t : Tables) → _≡_ {A = ℕ} (bit (eqb (cancel-cha
 unfolding cancel-change
 cancel-answer k t = by-cases (converting (lock t k)) (λ h. rw (h, cancel-change)) (λ h. rw (h, cancel-change))
 
-given-up : (c k : ℕ) (t : Tables) → Valid t → cancel-refusal c k t ≡ 0 → Kept (to-cancel c k) t (cancel-change k t)
-unfolding cancel-refusal requests releases cancelled purged polled-denials
-given-up c k t val h =
-    let b : blocked-lock (lock t k) ≡ true = passed _ 9 _ (after _ 8 _ (after _ 7 _ (after _ 2 _ h))) in
+given-up : (c k : ℕ) (t : Tables) → Cancellable k t → Kept (to-cancel c k) t (cancel-change k t)
+unfolding requests releases cancelled purged polled-denials
+given-up c k t p =
     accepted-kept (to-cancel c k) t (cancel-change k t) _ (cancel-accepted k t)
-    (cancel-after k t val b) (rw (cancel-answer k t) (omega (arith, cancel-count t val k b)))
+    (cancel-after k t (p .valid) (p .is-blocked)) (rw (cancel-answer k t) (omega (arith, cancel-count t (p .valid) k (p .is-blocked))))
 
 -- PURGE
-purge-accepted : (c : ℕ) (t : Tables) → purge-change c t .refusal ≡ 0
+pub purge-accepted : (c : ℕ) (t : Tables) → purge-change c t .refusal ≡ 0
 unfolding purge-change
 purge-accepted c t = refl
 
-cleared : (c : ℕ) (t : Tables) → Valid t → purge-refusal c ≡ 0 → Kept (to-purge c) t (purge-change c t)
-unfolding purge-refusal requests releases cancelled purged polled-denials
-cleared c t val h =
-    let low = client-is c (passed _ 2 _ h) .0 in
-    accepted-kept (to-purge c) t (purge-change c t) _ (purge-accepted c t) (purge-after c t low val) (omega (arith, purge-count t val c low))
+cleared : (c : ℕ) (t : Tables) → Purgeable c t → Kept (to-purge c) t (purge-change c t)
+unfolding requests releases cancelled purged polled-denials
+cleared c t p =
+    accepted-kept (to-purge c) t (purge-change c t) _ (purge-accepted c t) (purge-after c t (p .client-low) (p .valid))
+    (omega (arith, purge-count t (p .valid) c (p .client-low)))
 
 -- BREAK
-break-accepted : (t : Tables) → break t .refusal ≡ 0
+pub break-accepted : (t : Tables) → break t .refusal ≡ 0
 unfolding break
 break-accepted t = go (victim t)
   where
@@ -274,7 +233,7 @@ unfolding requests releases cancelled purged polled-denials
 broken t val = accepted-kept to-break t (break t) _ (break-accepted t) (break-after t val) (omega (arith, break-count t val))
 
 -- POLL
-poll-accepted : (c : ℕ) (t : Tables) → poll-change c t .refusal ≡ 0
+pub poll-accepted : (c : ℕ) (t : Tables) → poll-change c t .refusal ≡ 0
 unfolding poll-change
 poll-accepted c t = go (first-that (λ k. eqb (lock t k .client) c) (t .notices))
   where
@@ -295,10 +254,10 @@ polled c t val =
 -- EVERY CALL
 pub stepped : (c : Call) (t : Tables) → Valid t → Kept c t (step-of c t)
 unfolding request convert release cancel purge poll
-stepped (to-request c m f n) t val = refused-kept (to-request c m f n) t (request-refusal c m f n t) (request-change c m n t) val (requested c m f n t val)
-stepped (to-convert c k m f v) t val = refused-kept (to-convert c k m f v) t (convert-refusal c k m f v t) (convert-change k m f v t) val (converted c k m f v t val)
-stepped (to-release c k f v) t val = refused-kept (to-release c k f v) t (release-refusal c k f v t) (release-change k f v t) val (let-go c k f v t val)
-stepped (to-cancel c k) t val = refused-kept (to-cancel c k) t (cancel-refusal c k t) (cancel-change k t) val (given-up c k t val)
-stepped (to-purge c) t val = refused-kept (to-purge c) t (purge-refusal c) (purge-change c t) val (cleared c t val)
+stepped (to-request c m f n) t val = refused-kept (to-request c m f n) t (request-refusal c m f n t) (request-change c m n t) val (λ h. requested c m f n t (request-passed t val c m f n h))
+stepped (to-convert c k m f v) t val = refused-kept (to-convert c k m f v) t (convert-refusal c k m f v t) (convert-change k m f v t) val (λ h. converted c k m f v t (convert-passed t val c k m f v h))
+stepped (to-release c k f v) t val = refused-kept (to-release c k f v) t (release-refusal c k f v t) (release-change k f v t) val (λ h. let-go c k f v t (release-passed t val c k f v h))
+stepped (to-cancel c k) t val = refused-kept (to-cancel c k) t (cancel-refusal c k t) (cancel-change k t) val (λ h. given-up c k t (cancel-passed t val c k h))
+stepped (to-purge c) t val = refused-kept (to-purge c) t (purge-refusal c) (purge-change c t) val (λ h. cleared c t (purge-passed t val c h))
 stepped to-break t val = broken t val
 stepped (to-poll c) t val = refused-kept (to-poll c) t (poll-refusal c) (poll-change c t) val (λ h. polled c t val)

@@ -4,7 +4,7 @@ use mathlib.Core.List.{List, [], _∷_}
 use Prim.Native.Nat.{ℕ}
 use lib.ListN.{replicate}
 use lib.Dec.{eqb}
-use Rattle.rules.specs.Entries.{Outcome, Call, to-request, to-convert, to-release, to-break, to-poll, start-entry}
+use Rattle.rules.specs.Entries.{Outcome, Call, to-request, to-convert, to-release, to-cancel, to-purge, to-break, to-poll, start-entry}
 use Rattle.rules.specs.Theorem.{Lent, outcome, left}
 
 -- a call and what it answers: a refusal or 0, the answer and the number of the lock
@@ -132,6 +132,35 @@ abbrev pub bench : List (List Line)
 bench =
     shared-to-concurrent ∷ alone-to-concurrent ∷ reader-waits ∷ reader-declines ∷ null-beside-exclusive ∷ own-deadlock ∷ crossed-deadlock
     ∷ guide ∷ long-names ∷ high-modes ∷ []
+
+-- BESIDE THE M TABLE: what document 01's impostors and mistakes get wrong
+abbrev pub requests-c : ℕ → ℕ → Call
+requests-c c m = to-request c m 0 (67 ∷ [])
+
+-- a cancel sweeps: the request behind the cancelled one is granted
+abbrev pub cancel-sweeps : List Line
+cancel-sweeps =
+    says (requests-a 1 PR) 1 1 ∷ says (requests-a 2 EX) 2 2 ∷ says (requests-a 3 CW) 2 3 ∷ says (converts-to 1 1 CW) 1 0 ∷ hears-nothing 3
+    ∷ says (to-cancel 2 2) 2 0 ∷ hears-granted 3 3 ∷ []
+
+-- every release sweeps, the second too, while the first one's notice is unread
+abbrev pub releases-sweep : List Line
+releases-sweep =
+    says (requests-a 1 EX) 1 1 ∷ says (requests-a 2 EX) 2 2 ∷ says (requests-b 1 EX) 1 3 ∷ says (requests-b 3 EX) 2 4
+    ∷ says (gives-up 1 1) 0 0 ∷ says (gives-up 1 3) 0 0 ∷ hears-granted 2 2 ∷ hears-granted 3 4 ∷ []
+
+-- lock 4 was blocked first, but only waits behind the cycle of locks 5 and 6: it is lock 5 that is denied
+abbrev pub behind-the-cycle : List Line
+behind-the-cycle =
+    says (requests-a 1 EX) 1 1 ∷ says (requests-b 2 EX) 1 2 ∷ says (requests-c 1 EX) 1 3 ∷ says (requests-c 3 EX) 2 4
+    ∷ says (requests-b 1 EX) 2 5 ∷ says (requests-a 2 EX) 2 6 ∷ says to-break 5 0 ∷ says (to-poll 1) 2 5 ∷ says to-break 0 0 ∷ []
+
+-- a purge counts locks, and not the resources where they stood
+abbrev pub purge-counts-locks : List Line
+purge-counts-locks = says (requests-a 1 NL) 1 1 ∷ says (requests-a 1 NL) 1 2 ∷ says (to-purge 1) 2 0 ∷ says (to-purge 1) 0 0 ∷ []
+
+abbrev pub mistakes : List (List Line)
+mistakes = cancel-sweeps ∷ releases-sweep ∷ behind-the-cycle ∷ purge-counts-locks ∷ []
 
 -- each sequence starts on fresh tables with R 4, L 8, whatever was in them
 abbrev pub fresh : List ℕ → List ℕ → Lent

@@ -1,0 +1,17 @@
+-- What a function that makes a call's change says of the state whose words, and slots, it is lent.
+use mathlib.Core.Path.{_≡_}
+use mathlib.Core.List.{List}
+use Prim.Native.Nat.{ℕ}
+use Rattle.tables.specs.State.{Tables}
+use Rattle.tables.specs.Layout.{words, slots}
+use Rattle.rules.specs.Calls.{Step}
+use Rattle.rules.proofs.Lists.{out-of}
+use Rattle.answers.specs.Answers.{Numbers, outcome}
+
+-- the words and slots of a state of which P holds became those of its step s, and x is the step's answer
+pub record Makes (P : Tables → Type 0) (s : Tables → Step) (a sa b sb : List ℕ) (x : Numbers) : Type 0 where
+  pub then : (t : Tables) → P t → a ≡ words t → sa ≡ slots t → outcome x b sb ≡ out-of (s t)
+
+-- the same of a step that leaves the slots alone
+pub record MakesWords (P : Tables → Type 0) (s : Tables → Step) (a b : List ℕ) (x : Numbers) : Type 0 where
+  pub then : (t : Tables) → P t → a ≡ words t → outcome x b (slots t) ≡ out-of (s t)

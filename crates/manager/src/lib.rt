@@ -1,0 +1,194 @@
+// The lock manager: its entries over the two lent tables. Each checks the tables, then gives the first refusal that fits,
+// then makes its change. Numbers, names and values may be any; nothing lent is changed where a call is refused.
+use answers::Broken;
+use answers::Cancelled;
+use answers::Converted;
+use answers::Done;
+use answers::Polled;
+use answers::Purged;
+use answers::Requested;
+use fields::lock_word;
+use fields::resource_word;
+use names::VALUE_BYTES;
+use refusals::SIZES;
+use refusals::UNSOUND;
+use soundness::sound;
+ghost use mathlib.Core.Path.{_≡_};
+ghost use Rattle.rules.specs.Entries.{«start-entry», «read-entry», «request-entry», «convert-entry», «release-entry», «cancel-entry», «purge-entry», «break-entry», «poll-entry»};
+ghost use Rattle.queues.specs.Contracts.{Lent};
+ghost use Rattle.refusals.specs.Contracts.{TellsBoth};
+ghost use Rattle.answers.specs.Answers.{requested, converted, done, cancelled, purged, broken, polled, outcome};
+ghost use Rattle.manager.specs.Reads.{reading, unread, Placed, «value-beside»};
+
+// The lent tables become fresh ones: all records free, chained upward. They may hold anything before.
+pub fn start(words: &mut [u32], slots: &mut [u8], resources: u32, locks: u32) -> Done
+    ensures { λ r. ⌜ outcome (done r) (now (words .exit)) (now (slots .exit)) ≡ start-entry (now (words .entry)) (now (slots .entry)) resources locks ⌝ }
+{
+    if !starting::sizes_right(words, slots, resources, locks) {
+        return Done::Refused(SIZES);
+    }
+    starting::start_words(words, resources, locks);
+    names::clear(slots);
+    Done::Accepted
+}
+
+// A lock of a mode on a name: granted at once, or it waits.
+pub fn request(
+    words: &mut [u32],
+    slots: &mut [u8],
+    client: u32,
+    mode: u32,
+    flags: u32,
+    name: &[u8],
+) -> Requested
+    ensures { λ r. ⌜ outcome (requested r) (now (words .exit)) (now (slots .exit)) ≡ request-entry (now (words .entry)) (now (slots .entry)) client mode flags (now (name .entry)) ⌝ }
+{
+    if !sound(words, slots) {
+        return Requested::Refused(UNSOUND);
+    }
+    let refusal = refusals::request_refusal(words, slots, client, mode, flags, name);
+    if refusal != 0 {
+        return Requested::Refused(refusal);
+    }
+    requests::request_change(words, slots, client, mode, name)
+}
+
+// A granted lock goes to another mode: in place, or it joins the convert queue.
+pub fn convert(
+    words: &mut [u32],
+    slots: &mut [u8],
+    client: u32,
+    lock: u32,
+    mode: u32,
+    flags: u32,
+    value: &[u8],
+) -> Converted
+    ensures { λ r. ⌜ outcome (converted r) (now (words .exit)) (now (slots .exit)) ≡ convert-entry (now (words .entry)) (now (slots .entry)) client lock mode flags (now (value .entry)) ⌝ }
+{
+    if !sound(words, slots) {
+        return Converted::Refused(UNSOUND);
+    }
+    let refusal = refusals::convert_refusal(words, client, lock, mode, flags, value);
+    if refusal != 0 {
+        return Converted::Refused(refusal);
+    }
+    conversions::convert_change(words, slots, lock, mode, flags, value)
+}
+
+// A granted lock is freed.
+pub fn release(
+    words: &mut [u32],
+    slots: &mut [u8],
+    client: u32,
+    lock: u32,
+    flags: u32,
+    value: &[u8],
+) -> Done
+    ensures { λ r. ⌜ outcome (done r) (now (words .exit)) (now (slots .exit)) ≡ release-entry (now (words .entry)) (now (slots .entry)) client lock flags (now (value .entry)) ⌝ }
+{
+    if !sound(words, slots) {
+        return Done::Refused(UNSOUND);
+    }
+    let refusal = refusals::release_refusal(words, client, lock, flags, value);
+    if refusal != 0 {
+        return Done::Refused(refusal);
+    }
+    releases::release_change(words, slots, lock, flags, value);
+    Done::Accepted
+}
+
+// A blocked lock waits no longer: a conversion is taken back, a waiting request is freed.
+pub fn cancel(words: &mut [u32], slots: &[u8], client: u32, lock: u32) -> Cancelled
+    ensures { λ r. ⌜ outcome (cancelled r) (now (words .exit)) (now (slots .entry)) ≡ cancel-entry (now (words .entry)) (now (slots .entry)) client lock ⌝ }
+{
+    if !sound(words, slots) {
+        return Cancelled::Refused(UNSOUND);
+    }
+    let refusal = refusals::cancel_refusal(words, client, lock);
+    if refusal != 0 {
+        return Cancelled::Refused(refusal);
+    }
+    releases::cancel_change(words, lock)
+}
+
+// All of a client's locks are freed, as when its unit died.
+pub fn purge(words: &mut [u32], slots: &mut [u8], client: u32) -> Purged
+    ensures { λ r. ⌜ outcome (purged r) (now (words .exit)) (now (slots .exit)) ≡ purge-entry (now (words .entry)) (now (slots .entry)) client ⌝ }
+{
+    if !sound(words, slots) {
+        return Purged::Refused(UNSOUND);
+    }
+    let refusal = refusals::client_refusal(client);
+    if refusal != 0 {
+        return Purged::Refused(refusal);
+    }
+    purges::purge_change(words, slots, client)
+}
+
+// The longest blocked request of a deadlock is denied. (`break` is a word of the language.)
+pub fn break_deadlock(words: &mut [u32], slots: &[u8]) -> Broken
+    ensures { λ r. ⌜ outcome (broken r) (now (words .exit)) (now (slots .entry)) ≡ break-entry (now (words .entry)) (now (slots .entry)) ⌝ }
+{
+    if !sound(words, slots) {
+        return Broken::Refused(UNSOUND);
+    }
+    notices::break_change(words)
+}
+
+// The client's first notice is taken.
+pub fn poll(words: &mut [u32], slots: &[u8], client: u32) -> Polled
+    ensures { λ r. ⌜ outcome (polled r) (now (words .exit)) (now (slots .entry)) ≡ poll-entry (now (words .entry)) (now (slots .entry)) client ⌝ }
+{
+    if !sound(words, slots) {
+        return Polled::Refused(UNSOUND);
+    }
+    let refusal = refusals::client_refusal(client);
+    if refusal != 0 {
+        return Polled::Refused(refusal);
+    }
+    notices::poll_change(words, client)
+}
+
+// What a read gives: a refusal or 0, and the value block with its validity, zeros where refused.
+pub struct ValueRead {
+    pub refusal: u32,
+    pub value: [u8; VALUE_BYTES],
+    pub valid: u32,
+}
+
+fn not_read(refusal: u32) -> ValueRead
+    ensures { λ r. ⌜ reading r ≡ unread refusal ⌝ }
+{
+    ValueRead {
+        refusal: refusal,
+        value: [0; VALUE_BYTES],
+        valid: 0,
+    }
+}
+
+// The value of the resource on which the lock k stands.
+fn value_of(words: &[u32], slots: &[u8], k: u32) -> ValueRead
+    requires { ⌜ Lent (Placed k) (now words) (now slots) ⌝ }
+    ensures { λ r. ⌜ TellsBoth (Placed k) (value-beside k) (now (words .entry)) (now (slots .entry)) (reading r) ⌝ }
+{
+    let r = lock_word(words, k, fields::LOCK_RESOURCE);
+    ValueRead {
+        refusal: 0,
+        value: names::value_at(slots, r),
+        valid: resource_word(words, r, fields::RESOURCE_VALID),
+    }
+}
+
+// The value block of a lock's resource.
+pub fn read(words: &[u32], slots: &[u8], client: u32, lock: u32) -> ValueRead
+    ensures { λ r. ⌜ reading r ≡ read-entry (now (words .entry)) (now (slots .entry)) client lock ⌝ }
+{
+    if !sound(words, slots) {
+        return not_read(UNSOUND);
+    }
+    let refusal = refusals::look_refusal(words, client, lock);
+    if refusal != 0 {
+        return not_read(refusal);
+    }
+    value_of(words, slots, lock)
+}

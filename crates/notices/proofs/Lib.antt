@@ -1,0 +1,3 @@
+pub mod Denying
+pub mod Looking
+pub mod Taking

@@ -1,0 +1,2 @@
+pub mod Purging
+pub mod Settling

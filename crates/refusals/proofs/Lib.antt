@@ -1,0 +1,4 @@
+pub mod Placing
+pub mod Standing
+pub mod Arguments
+pub mod Rooming

@@ -1,0 +1,3 @@
+pub mod Stepped
+pub mod Releasing
+pub mod Restoring

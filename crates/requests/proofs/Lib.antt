@@ -1,0 +1,3 @@
+pub mod Housing
+pub mod Entering
+pub mod Requesting

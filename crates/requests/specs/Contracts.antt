@@ -1,0 +1,35 @@
+-- What the functions of this crate stand on, and what the resource of a name is.
+use mathlib.Core.Path.{_≡_}
+use mathlib.Core.Bool.{true, false, _||_, not}
+use mathlib.Core.List.{List}
+use Prim.Native.Nat.{ℕ, _≤_}
+use lib.ListN.{length}
+use lib.Dec.{eqb}
+use Rattle.tables.specs.Lists.{within, null}
+use Rattle.tables.specs.State.{Tables, name-width, no-lock, lock}
+use Rattle.tables.specs.Layout.{words, slots}
+use Rattle.tables.proofs.Valid.{used, Core}
+use Rattle.rules.specs.Queues.{find}
+use Rattle.rules.specs.Calls.{resource-for, with-resource}
+
+-- n is a name, and a resource has it or is left for it
+pub record Nameable (n : List ℕ) (t : Tables) : Type 0 where
+  pub core : Core t
+  pub some : null n ≡ false
+  pub short : length n ≤ name-width
+  pub room : (not (eqb (find n t) 0) || not (null (t .free-resources))) ≡ true
+
+-- the words and slots of such a state became those of the one in which a resource has the name n, and r is that resource
+pub record Houses (n a sa b sb : List ℕ) (r : ℕ) : Type 0 where
+  pub then : (t : Tables) → Nameable n t → a ≡ words t → sa ≡ slots t →
+      (r ≡ resource-for (find n t) t) × (b ≡ words (with-resource (find n t) n t)) × (sb ≡ slots (with-resource (find n t) n t))
+
+-- the lock k, which is free, may become one of the client c on the resource r, which is in use, with the mode m
+pub record Enters (r k c m : ℕ) (t : Tables) : Type 0 where
+  pub core : Core t
+  pub in-use : used t r ≡ true
+  pub in-range : within (length (t .locks)) k ≡ true
+  pub free : lock t k ≡ no-lock
+  pub client-low : 1 ≤ c
+  pub client-high : c ≤ 255
+  pub mode : m ≤ 5

@@ -1,0 +1,82 @@
+// A request's change, in place: it takes a lock, and where its name is new a resource, and is granted or waits.
+use answers::Requested;
+use fields::header_word;
+use tables::Lock;
+ghost use mathlib.Core.Path.{_≡_};
+ghost use Rattle.rules.specs.Calls.{holding, queued, «request-on», «request-change»};
+ghost use Rattle.rules.proofs.Passing.{Requestable};
+ghost use Rattle.access.specs.Contracts.{Some};
+ghost use Rattle.queues.specs.Contracts.{Lent};
+ghost use Rattle.answers.specs.Answers.{requested};
+ghost use Rattle.answers.specs.Contracts.{Makes, MakesWords};
+ghost use Rattle.requests.specs.Contracts.{Nameable, Houses, Enters};
+
+// The resource of that name. Where no resource has it, the first free one takes it.
+fn resource_for(words: &mut [u32], slots: &mut [u8], name: &[u8]) -> u32
+    requires { ⌜ Lent (Nameable (now name)) (now words) (now slots) ⌝ }
+    ensures { λ r. ⌜ Houses (now (name .entry)) (now (words .entry)) (now (slots .entry)) (now (words .exit)) (now (slots .exit)) r ⌝ }
+{
+    let found = names::find(words, slots, name);
+    if found != 0 {
+        return found;
+    }
+    let first = header_word(words, fields::FREE_RESOURCES);
+    queues::take_resource(words, slots, first, name);
+    first
+}
+
+// A lock that the client holds on r, and one that waits there.
+fn holding(r: u32, client: u32, mode: u32) -> Lock
+    ensures { λ l. ⌜ l ≡ holding r client mode ⌝ }
+{
+    Lock {
+        resource: r,
+        client: client,
+        state: fields::STATE_GRANTED,
+        held: mode,
+        asked: 0,
+        completion: fields::COMPLETION_NONE,
+    }
+}
+
+fn queued(r: u32, client: u32, mode: u32) -> Lock
+    ensures { λ l. ⌜ l ≡ queued r client mode ⌝ }
+{
+    Lock {
+        resource: r,
+        client: client,
+        state: fields::STATE_WAITING,
+        held: 0,
+        asked: mode,
+        completion: fields::COMPLETION_NONE,
+    }
+}
+
+// The lock k, which is free, becomes the client's on r: granted if the mode is admitted there, else waiting.
+fn enter(words: &mut [u32], r: u32, k: u32, client: u32, mode: u32) -> Requested
+    requires { ⌜ Some (Enters r k client mode) (now words) ⌝ }
+    ensures { λ x. ⌜ MakesWords (Enters r k client mode) (request-on r k client mode) (now (words .entry)) (now (words .exit)) (requested x) ⌝ }
+{
+    if queues::admits(words, r, mode) {
+        access::move_lock(words, k, holding(r, client, mode));
+        return Requested::Granted(k);
+    }
+    access::move_lock(words, k, queued(r, client, mode));
+    Requested::Waiting(k)
+}
+
+// The client requests the mode on the name, and nothing refuses it.
+pub fn request_change(
+    words: &mut [u32],
+    slots: &mut [u8],
+    client: u32,
+    mode: u32,
+    name: &[u8],
+) -> Requested
+    requires { ⌜ Lent (Requestable client mode (now name)) (now words) (now slots) ⌝ }
+    ensures { λ r. ⌜ Makes (Requestable client mode (now (name .entry))) (request-change client mode (now (name .entry))) (now (words .entry)) (now (slots .entry)) (now (words .exit)) (now (slots .exit)) (requested r) ⌝ }
+{
+    let k = header_word(words, fields::FREE_LOCKS);
+    let r = resource_for(words, slots, name);
+    enter(words, r, k, client, mode)
+}

@@ -1,0 +1,122 @@
+-- What a call that is not refused has passed: what its change stands on.
+use mathlib.Core.Path.{_≡_, refl}
+use mathlib.Core.Bool.{Bool, true, false, _||_, not}
+use mathlib.Core.List.{List, [], _∷_}
+use Prim.Native.Nat.{ℕ, zero, suc, _≤_}
+use native.Mathlib.Omega.{arith}
+use lib.ListN.{length}
+use lib.Dec.{eqb}
+use borrow.Author.Tests.{leb-true, eqb-true, not-true}
+use Rattle.tables.specs.Lists.{null}
+use Rattle.tables.specs.State.{Tables, lock, granted, blocked-lock}
+use Rattle.tables.specs.Sound.{client-right}
+use Rattle.tables.proofs.Cases.{clash, parts}
+use Rattle.tables.proofs.Valid.{Valid}
+use Rattle.rules.specs.Queues.{find}
+use Rattle.rules.specs.Calls.{unless, stores, name-right, value-right, request-refusal, convert-refusal, release-refusal, cancel-refusal, purge-refusal}
+
+-- the client c may request the mode m on the name n: a resource and a lock are left for it
+pub record Requestable (c m : ℕ) (n : List ℕ) (t : Tables) : Type 0 where
+  pub valid : Valid t
+  pub client-low : 1 ≤ c
+  pub client-high : c ≤ 255
+  pub mode : m ≤ 5
+  pub some : null n ≡ false
+  pub short : length n ≤ 64
+  pub room : (not (eqb (find n t) 0) || not (null (t .free-resources))) ≡ true
+  pub lock-left : null (t .free-locks) ≡ false
+
+-- the lock k is granted, and where the flags f store a value, v is one
+pub record Releasable (k f : ℕ) (v : List ℕ) (t : Tables) : Type 0 where
+  pub valid : Valid t
+  pub is-granted : granted (lock t k) ≡ true
+  pub right : stores f ≡ true → length v ≡ 32
+
+-- .. and m is a mode
+pub record Convertible (k m f : ℕ) (v : List ℕ) (t : Tables) : Type 0 where
+  pub valid : Valid t
+  pub is-granted : granted (lock t k) ≡ true
+  pub mode : m ≤ 5
+  pub right : stores f ≡ true → length v ≡ 32
+
+-- the lock k is blocked
+pub record Cancellable (k : ℕ) (t : Tables) : Type 0 where
+  pub valid : Valid t
+  pub is-blocked : blocked-lock (lock t k) ≡ true
+
+-- no free lock is the client's
+pub record Purgeable (c : ℕ) (t : Tables) : Type 0 where
+  pub valid : Valid t
+  pub client-low : 1 ≤ c
+
+-- a test that a refusal of 0 has passed, and what is left after it
+pub passed : (b : Bool) (n rest : ℕ) → unless b (suc n) rest ≡ 0 → b ≡ true
+unfolding unless
+passed true n rest h = refl
+passed false n rest h = absurd (omega arith)
+
+pub next-test : (b : Bool) (n rest : ℕ) → unless b (suc n) rest ≡ 0 → rest ≡ 0
+unfolding unless
+next-test true n rest h = h
+next-test false n rest h = absurd (omega arith)
+
+right-value : (f : ℕ) (v : List ℕ) → value-right f v ≡ true → stores f ≡ true → length v ≡ 32
+unfolding value-right
+right-value f v h e = eqb-true (length v) 32 (rw e at h)
+
+client-is : (c : ℕ) → client-right c ≡ true → (1 ≤ c) × (c ≤ 255)
+unfolding client-right
+client-is c h = (leb-true 1 c (search parts), leb-true c 255 (search parts))
+
+name-is : (n : List ℕ) → name-right n ≡ true → (null n ≡ false) × (length n ≤ 64)
+unfolding name-right
+name-is [] h = clash false h refl
+name-is (x ∷ xs) h = (refl, leb-true (length (x ∷ xs)) 64 (search parts))
+
+module _ (t : Tables) (val : Valid t) where
+  pub request-passed : (c m f : ℕ) (n : List ℕ) → request-refusal c m f n t ≡ 0 → Requestable c m n t
+  unfolding request-refusal
+  request-passed c m f n h =
+      let h3 = next-test _ 2 _ h in
+      let h5 = next-test _ 4 _ (next-test _ 3 _ h3) in
+      let h6 = next-test _ 5 _ h5 in
+      record {
+        valid = val;
+        client-low = client-is c (passed _ 2 _ h) .0;
+        client-high = client-is c (passed _ 2 _ h) .1;
+        mode = leb-true m 5 (passed _ 3 _ h3);
+        some = name-is n (passed _ 5 _ h5) .0;
+        short = name-is n (passed _ 5 _ h5) .1;
+        room = passed _ 10 _ h6;
+        lock-left = not-true (null (t .free-locks)) (passed _ 11 _ (next-test _ 10 _ h6));
+      }
+
+  pub convert-passed : (c k m f : ℕ) (v : List ℕ) → convert-refusal c k m f v t ≡ 0 → Convertible k m f v t
+  unfolding convert-refusal
+  convert-passed c k m f v h =
+      let h3 = next-test _ 2 _ h in
+      let h5 = next-test _ 4 _ (next-test _ 3 _ h3) in
+      record {
+        valid = val;
+        is-granted = passed _ 9 _ (next-test _ 8 _ (next-test _ 7 _ (next-test _ 6 _ h5)));
+        mode = leb-true m 5 (passed _ 3 _ h3);
+        right = right-value f v (passed _ 6 _ h5);
+      }
+
+  pub release-passed : (c k f : ℕ) (v : List ℕ) → release-refusal c k f v t ≡ 0 → Releasable k f v t
+  unfolding release-refusal
+  release-passed c k f v h =
+      let h5 = next-test _ 4 _ (next-test _ 2 _ h) in
+      record {
+        valid = val;
+        is-granted = passed _ 9 _ (next-test _ 8 _ (next-test _ 7 _ (next-test _ 6 _ h5)));
+        right = right-value f v (passed _ 6 _ h5);
+      }
+
+  pub cancel-passed : (c k : ℕ) → cancel-refusal c k t ≡ 0 → Cancellable k t
+  unfolding cancel-refusal
+  cancel-passed c k h = record { valid = val; is-blocked = passed _ 9 _ (next-test _ 8 _ (next-test _ 7 _ (next-test _ 2 _ h))) }
+
+  pub purge-passed : (c : ℕ) → purge-refusal c ≡ 0 → Purgeable c t
+  unfolding purge-refusal
+  purge-passed c h = record { valid = val; client-low = client-is c (passed _ 2 _ h) .0 }
