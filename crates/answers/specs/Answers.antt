@@ -1,6 +1,6 @@
 -- Document 01's numbers for each case of each answer: the refusal, or 0; the answer; the lock number, where it gives one.
 use mathlib.Core.List.{List}
-use Prim.Native.Nat.{ℕ}
+use Prim.Native.Nat.{ℕ, zero, suc}
 use Rattle.rules.specs.Entries.{Outcome}
 use Rattle.answers.specs.declared.Done.{Done}
 use Rattle.answers.specs.declared.Requested.{Requested}
@@ -25,9 +25,14 @@ pub record Numbers : Type 0 where
 abbrev pub accepted : ℕ → ℕ → Numbers
 accepted a k = record { refusal = 0; answer = a; number = k }
 
--- "answered with zeros in all other fields"
+-- there is no refusal 15: these are the numbers of a case that no call may give
+abbrev pub never : Numbers
+never = record { refusal = 15; answer = 0; number = 0 }
+
+-- "answered with zeros in all other fields". Refusals are numbered from 1.
 abbrev pub refused : ℕ → Numbers
-refused n = record { refusal = n; answer = 0; number = 0 }
+refused zero = never
+refused (suc n) = record { refusal = suc n; answer = 0; number = 0 }
 
 -- "Start, image and load answer 0." Release "answers 0".
 abbrev pub done : Done → Numbers
@@ -57,9 +62,13 @@ abbrev pub purged : Purged → Numbers
 purged (purged-cases.Freed n) = accepted n 0
 purged (purged-cases.Refused n) = refused n
 
--- "is denied and its number answered; 0 if there is none"
+-- "is denied and its number answered; 0 if there is none". Locks are numbered from 1.
+abbrev pub denied : ℕ → Numbers
+denied zero = never
+denied (suc k) = accepted (suc k) 0
+
 abbrev pub broken : Broken → Numbers
-broken (broken-cases.Denied k) = accepted k 0
+broken (broken-cases.Denied k) = denied k
 broken broken-cases.NoDeadlock = accepted 0 0
 broken (broken-cases.Refused n) = refused n
 

@@ -53,7 +53,7 @@ break-ruled : Ruled to-break (λ t. 0) break Valid
 unfolding refused-or
 break-ruled = record { step-is = λ t. refl; passes = λ t val h. val }
 
-refused-step : (n : ℕ) (s : Step) (t : Tables) → (n ≡ 0 → ⊥) → refused-or n s t ≡ record { refusal = n; answer = 0; number = 0; tables = t }
+refused-step : (n : ℕ) (s : Step) (t : Tables) → (n ≡ 0 → ⊥) → outcome (refused n) (words t) (slots t) ≡ out-of (refused-or n s t)
 unfolding refused-or
 refused-step zero s t z = absurd (z refl)
 refused-step (suc n) s t z = refl
@@ -97,7 +97,8 @@ module _ (ws ss : List ℕ) (b : Bool) (checked : b ≡ sound ws ss) where
       refused-by : (n ≡ 0 → ⊥) → outcome (refused n) ws ss ≡ call-entry call ws ss
       refused-by z =
           ap₂ (outcome (refused n)) words-are slots-are
-          ∙ ap out-of (sym (refused-step n (change t) t z) ∙ ap (λ (i : ℕ). refused-or i (change t) t) n-is ∙ sym (rule .step-is t))
+          ∙ refused-step n (change t) t z
+          ∙ ap out-of (ap (λ (i : ℕ). refused-or i (change t) t) n-is ∙ sym (rule .step-is t))
           ∙ entry-is call
 
       module _ (none : n ≡ 0) where

@@ -21,7 +21,7 @@ use Rattle.rules.specs.Calls.{done, denied-lock, deny, deny-victim, break}
 use Rattle.rules.proofs.Passing.{Cancellable}
 use Rattle.access.specs.Contracts.{Some, Turns, Tells, Movable, Moving, Moved, Resourced}
 use Rattle.queues.proofs.Slotting.{slots-sweep}
-use Rattle.answers.specs.Answers.{broken}
+use Rattle.answers.specs.Answers.{accepted, denied, broken, outcome}
 use Rattle.answers.specs.declared.Broken.the-variants as broken-cases
 use Rattle.answers.specs.Contracts.{MakesWords}
 use Rattle.releases.specs.Contracts.{Restorable, restore}
@@ -135,6 +135,11 @@ break-is : (k : ℕ) (t : Tables) → k ≡ victim t → break t ≡ deny-victim
 unfolding break
 break-is k t e = ap (λ (x : ℕ). deny-victim x t) (sym e)
 
+-- the numbers of a denied lock
+denied-is : (k : ℕ) → k ≢ 0 → (ws ss : List ℕ) → outcome (denied k) ws ss ≡ outcome (accepted k 0) ws ss
+denied-is zero n ws ss = absurd (n refl)
+denied-is (suc k) n ws ss = refl
+
 -- break_change
 pub valid-core : (a : List ℕ) → Some Valid a → Some Core a
 valid-core a s = record { state = s .state; good = s .good .core; is = s .is }
@@ -155,7 +160,8 @@ module _ (a : List ℕ) (k : ℕ) (tells : Tells Core victim a k) where
     pub break-denied : (b : List ℕ) → Turns (Cancellable k) (deny k) a b → MakesWords Valid break a b (broken (broken-cases.Denied k))
     break-denied b denies = record {
       then = λ t v is.
-          stepped (break t) k 0 (deny k t) b (slots t) (break-is k t (tells .then t (v .core) is) ∙ deny-some k t n) (denies .then t (blocked-at t v is) is) (sym (slots-deny k t));
+          denied-is k n b (slots t)
+          ∙ stepped (break t) k 0 (deny k t) b (slots t) (break-is k t (tells .then t (v .core) is) ∙ deny-some k t n) (denies .then t (blocked-at t v is) is) (sym (slots-deny k t));
     }
 
 pub ruleset break-laws = (needs, valid-core, break-none, break-blocked, break-denied)

@@ -1,0 +1,116 @@
+-- The ways out of image and load.
+use mathlib.Core.Path.{_≡_, refl, sym, ap, ap₂, _∙_}
+use mathlib.Core.Bool.{Bool, true, false, _&&_, not}
+use mathlib.Core.List.{List, _++_, append-nil}
+use Prim.Native.Nat.{ℕ, _+_, _*_, _-_, _≤_}
+use native.Mathlib.Omega.{arith}
+use borrow.Author.Needs.{needs}
+use borrow.Author.Tests.{eqb-true, eq-eqb, ne-eqb, not-true, not-false}
+use borrow.Rule.Slice.PartMut.{putMid}
+use lib.Dec.{eqb}
+use lib.ListN.{length, take, drop, length-drop, drop-of-length-le}
+use lib.Seq.{take-at, length-take-le}
+use Rattle.tables.specs.Sound.{sound}
+use Rattle.tables.proofs.Cases.{and-left, and-right}
+use Rattle.rules.specs.Calls.{unless}
+use Rattle.rules.specs.Images.{image-bytes, image-refusal, image-into, image-entry, image-size, image-words, image-slots, image-sound, load-refusal, load-into, load-entry}
+use Rattle.answers.specs.Answers.{accepted, refused, outcome}
+use Rattle.encoding.specs.Bytes.{encoded, decoded}
+use Rattle.encoding.proofs.Loops.{length-encoded, length-decoded}
+use Rattle.image.specs.Contracts.{imaged, Unpacked}
+use Rattle.image.proofs.Measuring.{words-decoded, rest-slots, unpacked-none, unpacked-sound, unpacked-size}
+
+-- image
+module _ (ws ss area : List ℕ) (x : Bool) (ex : x ≡ sound ws ss) where
+  pub image-unsound : not x ≡ true → imaged (refused 1) area ≡ image-entry ws ss area
+  unfolding image-entry image-refusal unless image-into
+  image-unsound h = let s : sound ws ss ≡ false = sym ex ∙ not-true x h in rw s
+
+  module _ (right : not x ≡ false) where
+    is-sound : sound ws ss ≡ true
+    is-sound = sym ex ∙ not-false x right
+
+    pub image-misfit : (length area ≡ 4 * length ws + length ss → ⊥) → imaged (refused 14) area ≡ image-entry ws ss area
+    unfolding image-entry image-refusal unless image-into
+    image-misfit n = rw (is-sound, ne-eqb (length area) (4 * length ws + length ss) n)
+
+    module _ (long : length area ≡ 4 * length ws + length ss) where
+      image-done : imaged (accepted 0 0) (image-bytes ws ss) ≡ image-entry ws ss area
+      unfolding image-entry image-refusal unless image-into
+      image-done = rw (is-sound, eq-eqb (length area) (4 * length ws + length ss) long)
+
+      pub image-made : (zs ys : List ℕ) → zs ≡ encoded ws → ys ≡ ss
+          → imaged (accepted 0 0) (putMid (4 * length ws) (length (zs ++ drop (4 * length ws) area) - 4 * length ws) (zs ++ drop (4 * length ws) area) ys) ≡ image-entry ws ss area
+      unfolding image-bytes encoded
+      image-made zs ys ez ey = ap (imaged (accepted 0 0)) (whole (zs ++ drop (4 * length ws) area) refl) ∙ image-done
+        where
+          zs-long : length zs ≡ 4 * length ws
+          zs-long = ap length ez ∙ length-encoded ws
+
+          whole : (all : List ℕ) → zs ++ drop (4 * length ws) area ≡ all → putMid (4 * length ws) (length all - 4 * length ws) all ys ≡ image-bytes ws ss
+          whole all e =
+              let front : take (4 * length ws) all ≡ encoded ws = ap (take (4 * length ws)) (sym e) ∙ take-at zs (drop (4 * length ws) area) (4 * length ws) zs-long ∙ ez in
+              let short : length (drop (4 * length ws) all) ≤ length all - 4 * length ws = rw (length-drop (4 * length ws) all) (omega arith) in
+              ap₂ (λ (us vs : List ℕ). us ++ (ys ++ vs)) front (drop-of-length-le (drop (4 * length ws) all) short) ∙ ap (λ (vs : List ℕ). encoded ws ++ vs) (append-nil ys ∙ ey)
+
+-- the bytes for the words, of an area of this length
+module _ (ws area : List ℕ) (m : ℕ) (long : length area ≡ 4 * length ws + m) where
+  pub area-front : 4 * length ws ≡ length (take (4 * length ws) area)
+  area-front = sym (length-take-le (4 * length ws) area (omega arith))
+
+  pub area-words : length (take (4 * length ws) area) ≡ 4 * length ws
+  area-words = sym area-front
+
+pub ruleset imaging = (needs, image-unsound, image-misfit, image-made, area-front, area-words)
+
+-- load
+module _ (bs buffer ws ss : List ℕ) (n : ℕ) (u : Unpacked bs buffer n) where
+  pub load-unsound : n ≡ 0 → outcome (refused 1) ws ss ≡ load-entry bs ws ss
+  unfolding load-entry load-refusal unless load-into
+  load-unsound e = rw (unpacked-none bs buffer n u e)
+
+  module _ (some : n ≡ 0 → ⊥) where
+    sound-here : image-sound bs ≡ true
+    sound-here = unpacked-sound bs buffer n u some
+
+    size-here : n ≡ image-size bs
+    size-here = unpacked-size bs buffer n u some
+
+    words-long : length (image-words bs) ≡ n
+    words-long = ap length (words-decoded bs) ∙ length-decoded bs (image-size bs) ∙ sym size-here
+
+    slots-long : length (image-slots bs) ≡ length bs - 4 * n
+    unfolding image-slots
+    slots-long = length-drop (4 * image-size bs) bs ∙ ap (λ (k : ℕ). length bs - 4 * k) (sym size-here)
+
+    pub load-misfit : not (eqb (length ws) n && eqb (length ss) (length bs - 4 * n)) ≡ true → outcome (refused 14) ws ss ≡ load-entry bs ws ss
+    unfolding load-entry load-refusal unless load-into
+    load-misfit h = rw (sound-here, words-long, slots-long, not-true (eqb (length ws) n && eqb (length ss) (length bs - 4 * n)) h)
+
+    module _ (right : not (eqb (length ws) n && eqb (length ss) (length bs - 4 * n)) ≡ false) where
+      both : (eqb (length ws) n && eqb (length ss) (length bs - 4 * n)) ≡ true
+      both = not-false (eqb (length ws) n && eqb (length ss) (length bs - 4 * n)) right
+
+      words-fit : length ws ≡ n
+      words-fit = eqb-true (length ws) n (and-left _ _ both)
+
+      slots-fit : length ss ≡ length bs - 4 * n
+      slots-fit = eqb-true (length ss) (length bs - 4 * n) (and-right (eqb (length ws) n) _ both)
+
+      pub load-room : 4 * length ws ≤ length bs
+      load-room = let i = u .inside in rw words-fit i
+
+      part-is : take (length bs - 4 * n) (drop (4 * n) bs) ≡ image-slots bs
+      part-is = rest-slots bs n size-here
+
+      pub load-slots : length ss ≡ length (take (length bs - 4 * n) (drop (4 * n) bs))
+      load-slots = slots-fit ∙ sym slots-long ∙ ap length (sym part-is)
+
+      pub load-done : (vs ts : List ℕ) → vs ≡ decoded bs (length ws) → ts ≡ take (length bs - 4 * n) (drop (4 * n) bs) → outcome (accepted 0 0) vs ts ≡ load-entry bs ws ss
+      unfolding load-entry load-refusal unless load-into
+      load-done vs ts ev et =
+          let a : vs ≡ image-words bs = ev ∙ ap (decoded bs) (words-fit ∙ size-here) ∙ sym (words-decoded bs) in
+          let b : ts ≡ image-slots bs = et ∙ part-is in
+          rw (sound-here, words-long, slots-long, both) (ap₂ (outcome (accepted 0 0)) a b)
+
+pub ruleset loading = (needs, load-unsound, load-misfit, load-room, load-slots, load-done)

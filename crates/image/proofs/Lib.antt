@@ -1,0 +1,5 @@
+pub mod Measuring
+pub mod Entries
+pub mod Holding
+pub mod Answering
+pub mod Inverse
