@@ -2,12 +2,9 @@
 use mathlib.Core.Path.{_≡_, refl}
 use mathlib.Core.List.{[], _∷_, _++_}
 use lib.ListN.{replicate}
-use Rattle.commands.specs.Numbers.{is-number, number, digits, decimal}
-use Rattle.commands.specs.Fields.{parted}
+use Rattle.scanning.specs.Numbers.{is-number, number}
+use Rattle.scanning.specs.Fields.{parted}
 use Rattle.commands.specs.Forms.{request, convert, release, cancel, purge, break, poll, malformed, numbers-then, as-request, as-convert, as-release, as-cancel, as-purge, as-break, as-poll, of-letter, of-fields, meant}
-use Rattle.commands.specs.Printing.{spaced-number, printed}
-use Rattle.commands.specs.Reading.{lines}
-use Rattle.commands.specs.declared.Outcome.the-variants.{Answer, AnswerAndLock, Refusal, Unknown}
 
 -- `q 1 5 0 vip-7`
 line-1 : meant (113 ∷ 32 ∷ 49 ∷ 32 ∷ 53 ∷ 32 ∷ 48 ∷ 32 ∷ 118 ∷ 105 ∷ 112 ∷ 45 ∷ 55 ∷ []) ≡ request 1 5 0 (118 ∷ 105 ∷ 112 ∷ 45 ∷ 55 ∷ [])
@@ -128,58 +125,3 @@ line-256 = refl
 line-257 : meant ((113 ∷ 32 ∷ 49 ∷ 32 ∷ 53 ∷ 32 ∷ 48 ∷ 32 ∷ []) ++ replicate 249 97) ≡ malformed
 unfolding meant of-fields of-letter as-request as-convert as-release as-cancel as-purge as-break as-poll numbers-then parted is-number number
 line-257 = refl
-
--- `q 1 1`
-prints-1 : printed (AnswerAndLock 113 1 1) ≡ (113 ∷ 32 ∷ 49 ∷ 32 ∷ 49 ∷ 10 ∷ [])
-unfolding printed spaced-number decimal digits
-prints-1 = refl
-
--- `q ! 13`
-prints-3 : printed (Refusal 113 13) ≡ (113 ∷ 32 ∷ 33 ∷ 32 ∷ 49 ∷ 51 ∷ 10 ∷ [])
-unfolding printed spaced-number decimal digits
-prints-3 = refl
-
--- `p 1`
-prints-4 : printed (Answer 112 1) ≡ (112 ∷ 32 ∷ 49 ∷ 10 ∷ [])
-unfolding printed spaced-number decimal digits
-prints-4 = refl
-
--- `n 0 0`
-prints-6 : printed (AnswerAndLock 110 0 0) ≡ (110 ∷ 32 ∷ 48 ∷ 32 ∷ 48 ∷ 10 ∷ [])
-unfolding printed spaced-number decimal digits
-prints-6 = refl
-
--- `n 4294967295 4294967295`
-prints-most : printed (AnswerAndLock 110 4294967295 4294967295) ≡ (110 ∷ 32 ∷ 52 ∷ 50 ∷ 57 ∷ 52 ∷ 57 ∷ 54 ∷ 55 ∷ 50 ∷ 57 ∷ 53 ∷ 32 ∷ 52 ∷ 50 ∷ 57 ∷ 52 ∷ 57 ∷ 54 ∷ 55 ∷ 50 ∷ 57 ∷ 53 ∷ 10 ∷ [])
-unfolding printed spaced-number decimal digits
-prints-most = refl
-
--- `c 1002000`
-prints-ten : printed (Answer 99 1002000) ≡ (99 ∷ 32 ∷ 49 ∷ 48 ∷ 48 ∷ 50 ∷ 48 ∷ 48 ∷ 48 ∷ 10 ∷ [])
-unfolding printed spaced-number decimal digits
-prints-ten = refl
-
--- `?`
-prints-other : printed Unknown ≡ (63 ∷ 10 ∷ [])
-unfolding printed spaced-number decimal digits
-prints-other = refl
-
--- no input, no line
-no-input : lines ([]) ≡ []
-unfolding lines
-no-input = refl
-
--- after a last byte 10 there is no further line
-ended : lines (97 ∷ 98 ∷ 10 ∷ 99 ∷ 10 ∷ []) ≡ ((97 ∷ 98 ∷ []) ∷ (99 ∷ []) ∷ [])
-unfolding lines
-ended = refl
-
--- a last line without byte 10
-not-ended : lines (97 ∷ 98 ∷ 10 ∷ 99 ∷ []) ≡ ((97 ∷ 98 ∷ []) ∷ (99 ∷ []) ∷ [])
-unfolding lines
-not-ended = refl
-
--- empty lines
-empty-lines : lines (10 ∷ 10 ∷ 97 ∷ []) ≡ (([]) ∷ ([]) ∷ (97 ∷ []) ∷ [])
-unfolding lines
-empty-lines = refl

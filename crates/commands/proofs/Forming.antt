@@ -9,18 +9,18 @@ use borrow.Author.Needs.{needs}
 use lib.Dec.{eqb, leb, eqb·suc-zero}
 use lib.ListN.{length, drop, length-drop}
 use lib.Seq.{drop-drop}
-use Rattle.commands.specs.Numbers.{is-number, number, is-digit, all-digits}
-use Rattle.commands.specs.Fields.{spaced, until, past, parted}
+use Rattle.scanning.specs.Numbers.{is-number, number, is-digit, all-digits}
+use Rattle.scanning.specs.Fields.{spaced, until, past, parted}
 use Rattle.commands.specs.Forms.{malformed, numbers-then, Says}
-use Rattle.commands.specs.Steps.{number-in, next-field}
+use Rattle.scanning.specs.Steps.{number-in, next-field}
 use Rattle.commands.specs.declared.Command.the-variants.{Malformed}
-use Rattle.commands.specs.declared.Number.{Number}
-use Rattle.commands.specs.declared.Number.the-variants.{Is, NoNumber}
-use Rattle.commands.specs.declared.Next.{Next}
-use Rattle.commands.specs.declared.Next.the-variants.{Field, NoField}
-use Rattle.commands.proofs.Basics.{by-cases, and-no, and-left, and-right}
-use Rattle.commands.proofs.Numerals.{number-not, number-is, number-of}
-use Rattle.commands.proofs.Parting.{past-drop, spaced-until}
+use Rattle.scanning.specs.declared.Number.{Number}
+use Rattle.scanning.specs.declared.Number.the-variants.{Is, NoNumber}
+use Rattle.scanning.specs.declared.Next.{Next}
+use Rattle.scanning.specs.declared.Next.the-variants.{Field, NoField}
+use Rattle.scanning.proofs.Basics.{by-cases, and-no, and-left, and-right}
+use Rattle.scanning.proofs.Numerals.{number-not, number-is, number-of}
+use Rattle.scanning.proofs.Parting.{past-drop, spaced-until}
 
 -- digits have no space among them
 digit-no-space : (b : ℕ) → is-digit b ≡ true → eqb b 32 ≡ false

@@ -8,11 +8,11 @@ use borrow.Author.Tests.{ne-eqb, lt-ltb, le-ltb, eqb-true}
 use borrow.Author.Needs.{needs}
 use lib.Dec.{eqb}
 use lib.ListN.{length, getD, drop}
-use Rattle.commands.specs.Fields.{spaced, until, parted}
+use Rattle.scanning.specs.Fields.{spaced, until, parted}
 use Rattle.commands.specs.Forms.{break, malformed, numbers-then, Says, as-request, as-convert, as-release, as-cancel, as-purge, as-break, as-poll, of-letter, of-fields, meant}
 use Rattle.commands.specs.declared.Command.{Command}
 use Rattle.commands.specs.declared.Command.the-variants.{Break, Malformed}
-use Rattle.commands.proofs.Basics.{by-cases, cond-same}
+use Rattle.scanning.proofs.Basics.{by-cases, cond-same}
 use Rattle.commands.proofs.Forming.{none, parted-some}
 
 -- the letter decides which form is asked

@@ -1,10 +1,4 @@
-pub mod Basics
-pub mod Numerals
-pub mod Parting
 pub mod Forming
 pub mod Ways
 pub mod Letters
-pub mod Digits
-pub mod Writing
-pub mod Gathering
 pub mod Examples

@@ -1,24 +1,19 @@
 -- The ways through the functions of the forms: for each way out what the command says, from the answers met on the way.
-use Prim.Native.Nat.{ℕ, suc, _-_, _≤_}
+use Prim.Native.Nat.{ℕ, suc}
 use mathlib.Core.Path.{_≡_, _∙_}
 use mathlib.Core.List.{List}
 use native.Mathlib.Omega.{arith}
 use borrow.Author.Needs.{needs}
-use lib.ListN.{length, take, drop, length-drop}
-use lib.Seq.{take-all}
-use Rattle.commands.specs.Fields.{parted}
+use lib.ListN.{drop}
+use Rattle.scanning.specs.Fields.{parted}
 use Rattle.commands.specs.Forms.{numbers-then, Says, as-request, as-convert, as-release, as-cancel, as-purge, as-poll}
-use Rattle.commands.specs.Steps.{number-in, next-field}
+use Rattle.scanning.specs.Steps.{number-in, next-field}
 use Rattle.commands.specs.declared.Command.the-variants.{Request, Convert, Release, Cancel, Purge, Poll, Malformed}
-use Rattle.commands.specs.declared.Number.{Number}
-use Rattle.commands.specs.declared.Number.the-variants.{Is, NoNumber}
-use Rattle.commands.specs.declared.Next.{Next}
-use Rattle.commands.specs.declared.Next.the-variants.{Field, NoField}
+use Rattle.scanning.specs.declared.Number.{Number}
+use Rattle.scanning.specs.declared.Number.the-variants.{Is, NoNumber}
+use Rattle.scanning.specs.declared.Next.{Next}
+use Rattle.scanning.specs.declared.Next.the-variants.{Field, NoField}
 use Rattle.commands.proofs.Forming.{Took, took, less, missed, next-within, last-is, last-of, last-fields, last-missed, none}
-
--- all from a place on
-pub rest-part : (l : List ℕ) (a : ℕ) {r : Number} → r ≡ number-in (take (length l - a) (drop a l)) → r ≡ number-in (drop a l)
-rest-part l a e = let q : length (drop a l) ≤ length l - a = rw (length-drop a l) (omega arith) in e ∙ rw (take-all (length l - a) (drop a l) q)
 
 -- `p` and `n`: one number
 module _ (l : List ℕ) {r : Number} (e : r ≡ number-in (drop 2 l)) where
@@ -144,4 +139,4 @@ module _ (l : List ℕ) {r₁ : Next} (e₁ : r₁ ≡ next-field l 2) where
                     within = search needs;
                   }
 
-pub ruleset form-rules = (needs, rest-part, next-within, purge-no, purge-yes, poll-no, poll-yes, cancel-1, cancel-2, cancel-3, release-1, release-2, release-3, release-4, request-1, request-2, request-3, request-4, convert-1, convert-2, convert-3, convert-4, convert-5)
+pub ruleset form-rules = (needs, next-within, purge-no, purge-yes, poll-no, poll-yes, cancel-1, cancel-2, cancel-3, release-1, release-2, release-3, release-4, request-1, request-2, request-3, request-4, convert-1, convert-2, convert-3, convert-4, convert-5)

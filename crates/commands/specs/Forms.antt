@@ -5,8 +5,8 @@ use mathlib.Core.Bool.{Bool, false, _&&_, cond}
 use mathlib.Core.List.{List, [], _∷_}
 use lib.Dec.{eqb, ltb}
 use lib.ListN.{length, getD, drop}
-use Rattle.commands.specs.Numbers.{is-number, number}
-use Rattle.commands.specs.Fields.{parted}
+use Rattle.scanning.specs.Numbers.{is-number, number}
+use Rattle.scanning.specs.Fields.{parted}
 use Rattle.commands.specs.declared.Command.{Command}
 use Rattle.commands.specs.declared.Command.the-variants.{Request, Convert, Release, Cancel, Purge, Break, Poll, Malformed}
 
