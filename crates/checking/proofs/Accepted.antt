@@ -6,7 +6,7 @@ use Prim.Native.Nat.{ℕ, zero, suc, _*_, _≤_}
 use native.Mathlib.Omega.{arith}
 use lib.ListN.{length}
 use lib.Dec.{eqb, leb}
-use borrow.Author.Tests.{eqb-true, eq-eqb, leb-true, le-leb}
+use borrow.Author.Tests.{not-true, eqb-true, eq-eqb, leb-true, le-leb}
 use Rattle.tables.specs.Lists.{count, bit, all, from}
 use Rattle.tables.specs.State.{resource, blocked-lock, told, Queue, grants, converts, waits, LockChain, free-locks, denied, blocked, notices, queue, free-resources, of-locks, chain, belongs}
 use Rattle.tables.specs.Layout.{of-header, of-resource, of-lock, slot-width, resources-in, locks-in, word-in, link-in, read-chain, read-lock, read}
@@ -18,7 +18,7 @@ use Rattle.tables.proofs.Reading.{resources-read, lock-of}
 use Rattle.tables.proofs.Conditions.{each-at, each-intro}
 use Rattle.tables.proofs.Fields.{fields-are}
 use Rattle.names.specs.Names.{named, names-differ}
-use Rattle.checking.specs.Check.{used-words, resource-words-fine, resource-fine, fields-fine, links-fine, lock-fine, home-on, check}
+use Rattle.checking.specs.Check.{row-in, used-row, row-fine, resource-fine, on-named, fields-fine, links-fine, lock-fine, home-on, check}
 use Rattle.checking.proofs.Stepping.{first-low, links-low}
 use Rattle.checking.proofs.Walking.{link-of, head-of, queue-in}
 use Rattle.checking.proofs.Heads.{home-low, ModesLow, grants-read, converts-read, waits-read, fit-is, heads-are}
@@ -83,7 +83,7 @@ module _ (ws ss : List ℕ) (h : check ws ss ≡ true) where
 
     fields : fields-right (read ws ss) (read-lock ws k) (read-lock ws k .state) ≡ true
     unfolding lock-fine
-    fields = sym (fields-same ws ss sized (read-lock ws k)) ∙ and-left (fields-fine ws (read-lock ws k)) _ fine
+    fields = sym (fields-same ws ss sized (read-lock ws k)) ∙ and-left (fields-fine (on-named ws (read-lock ws k .resource)) (read-lock ws k)) _ fine
 
     ok : StateOk (used (read ws ss)) (read-lock ws k) (read-lock ws k .state)
     ok = fields-are (read ws ss) (read-lock ws k) (read-lock ws k .state) refl fields
@@ -107,18 +107,22 @@ module _ (ws ss : List ℕ) (h : check ws ss ≡ true) where
 
   -- 1. WORDS GIVEN AS ZERO, INDICES, CHAINS
   zeros : zeros-right ws ≡ true
-  unfolding zeros-right resource-fine resource-words-fine
+  unfolding zeros-right resource-fine row-fine row-in
   zeros =
       and-intro _ _ header-zero
       (each-intro (λ r. eqb (word-in ws (of-resource r 6)) 0 && eqb (word-in ws (of-resource r 7)) 0) (resources-in ws)
       (λ r p q. let z = each-at (resource-fine ws ss) (resources-in ws) resources-fine r p q in search (and-intro, and-left, and-right) depth 20))
 
+  named-bytes : (r : ℕ) → named ws r ≡ true → eqb (word-in ws (of-resource r 4)) 0 ≡ false
+  unfolding named
+  named-bytes r u = not-true (eqb (word-in ws (of-resource r 4)) 0) u
+
   resource-link : (r : ℕ) → 1 ≤ r → r ≤ resources-in ws → word-in ws (of-resource r 0) ≤ resources-in ws
-  unfolding resource-fine resource-words-fine used-words
+  unfolding resource-fine row-fine used-row row-in
   resource-link zero p q = absurd (omega arith)
   resource-link (suc r) p q =
       by-cases (named ws (suc r))
-      (λ u. let z = rw u at (each-at (resource-fine ws ss) (resources-in ws) resources-fine (suc r) p q) in
+      (λ u. let z = rw (named-bytes (suc r) u) at (each-at (resource-fine ws ss) (resources-in ws) resources-fine (suc r) p q) in
       let e : word-in ws (of-resource (suc r) 0) ≡ 0 = eqb-true (word-in ws (of-resource (suc r) 0)) 0 (search parts depth 20) in omega arith)
       (λ u. side-link (link-in ws free-resources) _ (resources-in ws) _ spare (suc r) p q (rw u))
 

@@ -20,7 +20,7 @@ use Rattle.tables.proofs.Grid.{Within}
 use Rattle.tables.proofs.Reading.{lock-of}
 use Rattle.tables.proofs.Conditions.{each-at, each-intro, state, locks-low, slots-sized, header-zero, resource-zeros, chain-ended, chain-inside, fields-tested, stands-as, blocked-off, notice-off, compatible-tested, heads-tested}
 use Rattle.tables.proofs.Fields.{fields-are}
-use Rattle.checking.specs.Check.{resource-fine, fields-fine, links-fine, lock-fine, home-on, check}
+use Rattle.checking.specs.Check.{resource-fine, on-named, fields-fine, links-fine, lock-fine, home-on, check}
 use Rattle.checking.proofs.Stepping.{Passed}
 use Rattle.checking.proofs.Fitting.{fitting}
 use Rattle.checking.proofs.Walking.{held-in, queue-in, Right, Walked}
@@ -74,7 +74,7 @@ module _ (ws ss : List ℕ) (h : sound ws ss ≡ true) where
   unfolding lock-fine links-fine
   lock-passes zero p q = absurd (omega arith)
   lock-passes (suc k) p q =
-      and-intro (fields-fine ws (read-lock ws (suc k))) _ (fields-same ws ss sized (read-lock ws (suc k)) ∙ fields (suc k) p q)
+      and-intro (fields-fine (on-named ws (read-lock ws (suc k) .resource)) (read-lock ws (suc k))) _ (fields-same ws ss sized (read-lock ws (suc k)) ∙ fields (suc k) p q)
       (and-intro (blocked-lock (read-lock ws (suc k)) || eqb (word-in ws (of-lock (suc k) 1)) 0) _
       (by-cases (blocked-lock (read-lock ws (suc k)))
       (λ b. rw b)

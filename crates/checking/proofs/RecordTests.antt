@@ -19,7 +19,7 @@ use Rattle.tables.proofs.Valid.{used, StateOk, absent, used-within}
 use Rattle.tables.proofs.Reading.{resources-read, resource-of, slot-in-length}
 use Rattle.tables.proofs.Conditions.{each-at, each-intro}
 use Rattle.names.specs.Names.{named, slot-fine, name-in, apart, apart-after, names-differ}
-use Rattle.checking.specs.Check.{free-words, used-words, resource-words-fine, resource-fine, on-named, fields-fine}
+use Rattle.checking.specs.Check.{row-in, free-row, used-row, row-fine, resource-fine, on-named, fields-fine}
 use Rattle.checking.proofs.Stepping.{follow-null}
 use Rattle.checking.proofs.Walking.{link-of, head-of, queue-in}
 use Rattle.checking.proofs.Heads.{grants-read, converts-read, waits-read}
@@ -54,11 +54,11 @@ module _ (ws ss : List ℕ) (sized : length ss ≡ slot-width * resources-in ws)
           (λ b. rw (a, b)))
           (λ a. rw a)
 
-  pub fields-same : (l : Lock) → fields-fine ws l ≡ fields-right (read ws ss) l (l .state)
+  pub fields-same : (l : Lock) → fields-fine (on-named ws (l .resource)) l ≡ fields-right (read ws ss) l (l .state)
   unfolding fields-fine fields-right on-resource
   fields-same l = go (l .state) refl
     where
-      go : (s : ℕ) → l .state ≡ s → fields-fine ws l ≡ fields-right (read ws ss) l s
+      go : (s : ℕ) → l .state ≡ s → fields-fine (on-named ws (l .resource)) l ≡ fields-right (read ws ss) l s
       go zero e = rw e (simp or-false)
       go (suc zero) e = rw (e, on-is (l .resource)) (simp or-false)
       go (suc (suc zero)) e = rw (e, on-is (l .resource)) (simp or-false)
@@ -117,7 +117,7 @@ module _ (ws ss : List ℕ) (sized : length ss ≡ slot-width * resources-in ws)
 
     pub fine-right : count r (read ws ss .free-resources) ≡ bit (not (named ws r)) → (named ws r ≡ true → name-unique (read ws ss) r ≡ true) →
         resource-fine ws ss r ≡ true → resource-right ws ss (read ws ss) r ≡ true
-    unfolding resource-right free-resource-right used-resource-right resource-fine resource-words-fine slot-fine named free-words used-words
+    unfolding resource-right free-resource-right used-resource-right resource-fine row-fine slot-fine named free-row used-row row-in
     fine-right a b h =
         by-cases (eqb (word-in ws (of-resource r 4)) 0)
         (λ z. let h2 = rw z at h in
@@ -128,7 +128,7 @@ module _ (ws ss : List ℕ) (sized : length ss ≡ slot-width * resources-in ws)
         rw (z, empty-is, a2, b (rw z)) (search (and-intro, and-left, and-right) depth 20))
 
     pub right-fine : eqb (word-in ws (of-resource r 6)) 0 ≡ true → eqb (word-in ws (of-resource r 7)) 0 ≡ true → resource-right ws ss (read ws ss) r ≡ true → resource-fine ws ss r ≡ true
-    unfolding resource-right free-resource-right used-resource-right resource-fine resource-words-fine slot-fine named free-words used-words
+    unfolding resource-right free-resource-right used-resource-right resource-fine row-fine slot-fine named free-row used-row row-in
     right-fine a b h =
         by-cases (eqb (word-in ws (of-resource r 4)) 0)
         (λ z. let h2 = rw (z, empty-is) at h in

@@ -13,36 +13,48 @@ use Rattle.tables.specs.Layout.{of-header, of-resource, of-lock, resources-in, 
 use Rattle.tables.specs.Sound.{client-right, modes-right, sizes-right}
 use Rattle.names.specs.Names.{named, slot-fine, names-differ}
 pub use Rattle.checking.specs.declared.Held.{Held}
+pub use Rattle.checking.specs.declared.Row.{Row}
 
--- RECORDS. The words of a resource: free, all zero; or in use, with a name of at most 64 bytes and a first lock on some chain
-unfoldable pub free-words : List ℕ → ℕ → Bool
-free-words ws r =
-    eqb (word-in ws (of-resource r 5)) 0 && eqb (word-in ws (of-resource r 1)) 0 && eqb (word-in ws (of-resource r 2)) 0
-    && eqb (word-in ws (of-resource r 3)) 0
+-- RECORDS. The words of a resource (the record is the code's struct)
+unfoldable pub row-in : List ℕ → ℕ → Row
+row-in ws r =
+    record {
+      next = word-in ws (of-resource r 0);
+      grant = word-in ws (of-resource r 1);
+      convert = word-in ws (of-resource r 2);
+      wait = word-in ws (of-resource r 3);
+      bytes = word-in ws (of-resource r 4);
+      valid = word-in ws (of-resource r 5);
+      zero = word-in ws (of-resource r 6);
+      last = word-in ws (of-resource r 7);
+    }
 
-unfoldable pub used-words : List ℕ → ℕ → Bool
-used-words ws r =
-    eqb (word-in ws (of-resource r 0)) 0 && leb (word-in ws (of-resource r 4)) name-width && leb (word-in ws (of-resource r 5)) 1
-    && not (eqb (word-in ws (of-resource r 1)) 0 && eqb (word-in ws (of-resource r 2)) 0 && eqb (word-in ws (of-resource r 3)) 0)
+-- free: all else zero; or in use: a name of at most 64 bytes, and a first lock on some chain
+unfoldable pub free-row : Row → Bool
+free-row x = eqb (x .valid) 0 && eqb (x .grant) 0 && eqb (x .convert) 0 && eqb (x .wait) 0
 
-unfoldable pub resource-words-fine : List ℕ → ℕ → Bool
-resource-words-fine ws r =
-    eqb (word-in ws (of-resource r 6)) 0 && eqb (word-in ws (of-resource r 7)) 0 && cond (named ws r) (used-words ws r) (free-words ws r)
+unfoldable pub used-row : Row → Bool
+used-row x =
+    eqb (x .next) 0 && leb (x .bytes) name-width && leb (x .valid) 1 && not (eqb (x .grant) 0 && eqb (x .convert) 0 && eqb (x .wait) 0)
+
+unfoldable pub row-fine : Row → Bool
+row-fine x = eqb (x .zero) 0 && eqb (x .last) 0 && cond (eqb (x .bytes) 0) (free-row x) (used-row x)
 
 unfoldable pub resource-fine : List ℕ → List ℕ → ℕ → Bool
-resource-fine ws ss r = resource-words-fine ws r && slot-fine ws ss r
+resource-fine ws ss r = row-fine (row-in ws r) && slot-fine ws ss r
 
--- the fields of a lock, by its state; a lock with a resource has one that is in use
+-- the number is that of a resource in use
 unfoldable pub on-named : List ℕ → ℕ → Bool
 on-named ws r = leb 1 r && leb r (resources-in ws) && named ws r
 
-unfoldable pub fields-fine : List ℕ → Lock → Bool
-fields-fine ws l =
+-- the fields of a lock, by its state, where it is told whether its resource is in use
+unfoldable pub fields-fine : Bool → Lock → Bool
+fields-fine in-use l =
     eqb (l .state) 0 && eqb (l .resource) 0 && eqb (l .client) 0 && eqb (l .held) 0 && eqb (l .asked) 0 && eqb (l .completion) 0
-    || eqb (l .state) 1 && on-named ws (l .resource) && client-right (l .client) && modes-right l && eqb (l .asked) 0
+    || eqb (l .state) 1 && in-use && client-right (l .client) && modes-right l && eqb (l .asked) 0
     && (eqb (l .completion) 0 || eqb (l .completion) 1 || eqb (l .completion) 3)
-    || eqb (l .state) 2 && on-named ws (l .resource) && client-right (l .client) && modes-right l && eqb (l .completion) 0
-    || eqb (l .state) 3 && on-named ws (l .resource) && client-right (l .client) && modes-right l && eqb (l .completion) 0 && eqb (l .held) 0
+    || eqb (l .state) 2 && in-use && client-right (l .client) && modes-right l && eqb (l .completion) 0
+    || eqb (l .state) 3 && in-use && client-right (l .client) && modes-right l && eqb (l .completion) 0 && eqb (l .held) 0
     || eqb (l .state) 4 && client-right (l .client) && eqb (l .resource) 0 && eqb (l .held) 0 && eqb (l .asked) 0 && eqb (l .completion) 2
 
 -- off the blocked and the notice chain its links there are zero
@@ -51,7 +63,7 @@ links-fine ws k =
     (blocked-lock (read-lock ws k) || eqb (word-in ws (of-lock k 1)) 0) && (told (read-lock ws k) || eqb (word-in ws (of-lock k 2)) 0)
 
 unfoldable pub lock-fine : List ℕ → ℕ → Bool
-lock-fine ws k = fields-fine ws (read-lock ws k) && links-fine ws k
+lock-fine ws k = fields-fine (on-named ws (read-lock ws k .resource)) (read-lock ws k) && links-fine ws k
 
 -- CHAINS. The number of steps from k to the end, or n + 1 if it isn't reached in n steps or the test fails on the way.
 unfoldable pub steps : (ℕ → ℕ) → (ℕ → Bool) → ℕ → ℕ → ℕ

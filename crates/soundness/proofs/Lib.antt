@@ -1,6 +1,2 @@
-pub mod Laws
-pub mod Records
-pub mod Walks
-pub mod Holders
-pub mod Queues
-pub mod Standing
+pub mod Adding
+pub mod Sounding

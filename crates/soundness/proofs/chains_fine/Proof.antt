@@ -1,5 +1,5 @@
-use Rattle.soundness.specs.Passes.{chains-fine}
-use Rattle.soundness.proofs.Laws.{and-chain}
+use Rattle.soundness.specs.Chains.{chains-fine}
+use Rattle.records.proofs.Runs.{and-chain}
 use borrow.Author.Needs.{needs}
 use Rattle.soundness.proofs.chains_fine.Statement.{statement}
 use Rattle.soundness.proofs.chains_fine.Tie as tie

@@ -1,4 +1,4 @@
-use Rattle.soundness.proofs.Queues.{homes}
+use Rattle.soundness.proofs.Adding.{homes}
 use borrow.Author.Needs.{needs}
 use Rattle.soundness.proofs.homes_fine.Statement.{statement}
 use Rattle.soundness.proofs.homes_fine.Tie as tie

@@ -4,8 +4,8 @@ use mathlib.Core.Path.{_≡_}
 use Rattle.tables.specs.Lists.{from}
 use Rattle.tables.specs.Layout.{resources-in}
 use Rattle.checking.specs.Check.{queues-walk}
-use Rattle.soundness.specs.Passes.{upto}
-use Rattle.soundness.proofs.Queues.{queues-start, queues-over, queues-next, queues-end}
+use Rattle.records.specs.Passes.{upto}
+use Rattle.soundness.proofs.Adding.{queues-start, queues-over, queues-next, queues-end}
 use borrow.Author.Needs.{needs}
 use native.Mathlib.Omega.{arith}
 use Rattle.soundness.proofs.queues_fine.Statement.{statement}

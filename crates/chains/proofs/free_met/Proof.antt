@@ -1,0 +1,42 @@
+-- what is met, and what is left of the chain from there on, is the whole
+use Prim.Native.Nat.{_≤_, _-_}
+use mathlib.Core.Path.{_≡_}
+use mathlib.Core.Bool.{not}
+use Rattle.tables.specs.Layout.{of-resource, word-in}
+use Rattle.names.specs.Names.{named}
+use Rattle.chains.specs.Walks.{left, free-met}
+use Rattle.chains.proofs.Walking.{walk-loop}
+use Rattle.chains.proofs.Starts.{starts}
+use Rattle.chains.proofs.free_met.Statement.{statement}
+use Rattle.chains.proofs.free_met.Tie as tie
+
+abbrev Inv-loop : tie.InvT-loop
+Inv-loop words n r₀ met₀ r met = (met ≤ n) × (free-met words ≡ left (λ j. word-in words (of-resource j 0)) (λ j. not (named words j)) n met r)
+
+abbrev μ-loop : tie.MeasureT-loop
+μ-loop words n r₀ met₀ r met = n - met
+
+loop-holds : tie.Need-loop-holds Inv-loop μ-loop
+loop-holds c = search starts
+
+pub free-met-spec : {M : Type 1} → statement M
+free-met-spec =
+    tie.close
+    (tie.spec
+    Inv-loop
+    μ-loop
+    (λ c. search walk-loop)
+    (λ c. search walk-loop)
+    loop-holds
+    (λ c. search walk-loop)
+    (λ c. search walk-loop)
+    (λ c. search walk-loop)
+    (λ c. search walk-loop)
+    (λ c κs. search walk-loop)
+    (λ c. search walk-loop)
+    (λ c. search walk-loop)
+    (λ c κs. search walk-loop)
+    (λ c. search walk-loop)
+    (λ c. search walk-loop)
+    (λ c. search walk-loop)
+    (λ c. search walk-loop))

@@ -1,0 +1,17 @@
+use Rattle.checking.specs.Check.{free-resources-fine}
+use Rattle.chains.specs.Walks.{free-met}
+use Rattle.records.specs.Passes.{free-count}
+use borrow.Author.Needs.{needs}
+use Rattle.chains.proofs.free_resources_fine.Statement.{statement}
+use Rattle.chains.proofs.free_resources_fine.Tie as tie
+
+returns : tie.Need-returns
+unfolding free-resources-fine free-met free-count
+returns c = cc
+
+pub free-resources-fine-spec : {M : Type 1} → statement M
+free-resources-fine-spec =
+    tie.close
+    (tie.spec
+    (λ c κs. search needs)
+    returns)

@@ -1,0 +1,190 @@
+// The chains of whatever tables are lent: how many records each has. A walk counts its steps, so that it ends.
+use fields::BLOCKED;
+use fields::FREE_RESOURCES;
+use fields::LOCK_NEXT;
+use fields::LOCK_NEXT_BLOCKED;
+use fields::LOCK_NEXT_NOTICE;
+use fields::LOCKS;
+use fields::NOTICES;
+use fields::RESOURCE_NEXT;
+use fields::RESOURCES;
+use fields::lock_at;
+use fields::lock_word;
+use fields::resource_word;
+use records::in_use;
+use records::is_blocked;
+use records::is_noticed;
+use tables::Lock;
+ghost use mathlib.Core.Path.{_≡_};
+ghost use mathlib.Core.Bool.{not};
+ghost use Prim.Native.Nat.{_+_, _≤_};
+ghost use Rattle.tables.specs.State.{«blocked-lock», told};
+ghost use Rattle.tables.specs.Layout.{«resources-in», «locks-in», «read-lock»};
+ghost use Rattle.fields.specs.Sizes.{Sized};
+ghost use Rattle.names.specs.Names.{named};
+ghost use Rattle.checking.specs.Check.{«home-steps», «free-resources-fine», «blocked-fine», «notices-fine»};
+ghost use Rattle.records.specs.Passes.{«free-count», «blocked-count», «noticed-count»};
+ghost use Rattle.chains.specs.Walks.{«at-home», «free-met», «blocked-met», «noticed-met»};
+
+// Resource r has no name.
+fn nameless(words: &[u32], r: u32) -> bool
+    requires { ⌜ Sized (now words) ⌝ }
+    requires { ⌜ (1 ≤ r) × (r ≤ resources-in (now words)) ⌝ }
+    ensures { λ x. ⌜ x ≡ not (named (now (words .entry)) r) ⌝ }
+{
+    !in_use(words, r)
+}
+
+// Lock k is converting or waiting.
+fn blocked(words: &[u32], k: u32) -> bool
+    requires { ⌜ Sized (now words) ⌝ }
+    requires { ⌜ (1 ≤ k) × (k ≤ locks-in (now words)) ⌝ }
+    ensures { λ x. ⌜ x ≡ blocked-lock (read-lock (now (words .entry)) k) ⌝ }
+{
+    is_blocked(lock_at(words, k))
+}
+
+// Its completion is unread.
+fn noticed(words: &[u32], k: u32) -> bool
+    requires { ⌜ Sized (now words) ⌝ }
+    requires { ⌜ (1 ≤ k) × (k ≤ locks-in (now words)) ⌝ }
+    ensures { λ x. ⌜ x ≡ told (read-lock (now (words .entry)) k) ⌝ }
+{
+    is_noticed(lock_at(words, k))
+}
+
+// The lock has this state and this resource.
+pub fn at_home(l: Lock, state: u32, r: u32) -> bool
+    ensures { λ x. ⌜ x ≡ at-home state r l ⌝ }
+{
+    (l.state == state) & (l.resource == r)
+}
+
+fn stands(words: &[u32], state: u32, r: u32, k: u32) -> bool
+    requires { ⌜ Sized (now words) ⌝ }
+    requires { ⌜ (1 ≤ k) × (k ≤ locks-in (now words)) ⌝ }
+    ensures { λ x. ⌜ x ≡ at-home state r (read-lock (now (words .entry)) k) ⌝ }
+{
+    at_home(lock_at(words, k), state, r)
+}
+
+// How many resources the free chain has; one more than there are if it does not end, or has another.
+fn free_met(words: &[u32]) -> u32
+    requires { ⌜ Sized (now words) ⌝ }
+    ensures { λ x. ⌜ x ≡ free-met (now (words .entry)) ⌝ }
+{
+    let n = words[RESOURCES];
+    let mut r = words[FREE_RESOURCES];
+    let mut met = 0;
+    while r != 0 {
+        if n <= met {
+            return n + 1;
+        }
+        if n < r {
+            return n + 1;
+        }
+        if !nameless(words, r) {
+            return n + 1;
+        }
+        r = resource_word(words, r, RESOURCE_NEXT);
+        met += 1;
+    }
+    met
+}
+
+// How many locks the blocked chain has; one more than there are if it does not end, or has another.
+fn blocked_met(words: &[u32]) -> u32
+    requires { ⌜ Sized (now words) ⌝ }
+    ensures { λ x. ⌜ x ≡ blocked-met (now (words .entry)) ⌝ }
+{
+    let n = words[LOCKS];
+    let mut k = words[BLOCKED];
+    let mut met = 0;
+    while k != 0 {
+        if n <= met {
+            return n + 1;
+        }
+        if n < k {
+            return n + 1;
+        }
+        if !blocked(words, k) {
+            return n + 1;
+        }
+        k = lock_word(words, k, LOCK_NEXT_BLOCKED);
+        met += 1;
+    }
+    met
+}
+
+// How many locks the notice chain has; one more than there are if it does not end, or has another.
+fn noticed_met(words: &[u32]) -> u32
+    requires { ⌜ Sized (now words) ⌝ }
+    ensures { λ x. ⌜ x ≡ noticed-met (now (words .entry)) ⌝ }
+{
+    let n = words[LOCKS];
+    let mut k = words[NOTICES];
+    let mut met = 0;
+    while k != 0 {
+        if n <= met {
+            return n + 1;
+        }
+        if n < k {
+            return n + 1;
+        }
+        if !noticed(words, k) {
+            return n + 1;
+        }
+        k = lock_word(words, k, LOCK_NEXT_NOTICE);
+        met += 1;
+    }
+    met
+}
+
+// How many locks a home chain has; one more than there are if it does not end, or has one of another state or resource.
+pub fn home_met(words: &[u32], state: u32, r: u32, head: u32) -> u32
+    requires { ⌜ Sized (now words) ⌝ }
+    ensures { λ x. ⌜ (x ≡ home-steps (now (words .entry)) state r head) × (x ≤ locks-in (now (words .entry)) + 1) ⌝ }
+{
+    let n = words[LOCKS];
+    let mut k = head;
+    let mut met = 0;
+    while k != 0 {
+        if n <= met {
+            return n + 1;
+        }
+        if n < k {
+            return n + 1;
+        }
+        if !stands(words, state, r, k) {
+            return n + 1;
+        }
+        k = lock_word(words, k, LOCK_NEXT);
+        met += 1;
+    }
+    met
+}
+
+// The free, the blocked and the notice chain: as many as belong there, and no others.
+pub fn free_resources_fine(words: &[u32], count: u32) -> bool
+    requires { ⌜ Sized (now words) ⌝ }
+    requires { ⌜ count ≡ free-count (now words) ⌝ }
+    ensures { λ x. ⌜ x ≡ free-resources-fine (now (words .entry)) ⌝ }
+{
+    free_met(words) == count
+}
+
+pub fn blocked_fine(words: &[u32], count: u32) -> bool
+    requires { ⌜ Sized (now words) ⌝ }
+    requires { ⌜ count ≡ blocked-count (now words) ⌝ }
+    ensures { λ x. ⌜ x ≡ blocked-fine (now (words .entry)) ⌝ }
+{
+    blocked_met(words) == count
+}
+
+pub fn notices_fine(words: &[u32], count: u32) -> bool
+    requires { ⌜ Sized (now words) ⌝ }
+    requires { ⌜ count ≡ noticed-count (now words) ⌝ }
+    ensures { λ x. ⌜ x ≡ notices-fine (now (words .entry)) ⌝ }
+{
+    noticed_met(words) == count
+}

@@ -1,0 +1,35 @@
+use Rattle.holders.proofs.Queues.{convert-off, convert-other, convert-clash, convert-on}
+use borrow.Author.Needs.{needs}
+use Rattle.holders.proofs.convert_from.Statement.{statement}
+use Rattle.holders.proofs.convert_from.Tie as tie
+
+returns : tie.Need-returns
+returns c = search convert-off
+
+returns-2 : tie.Need-returns-2
+returns-2 c = search convert-other
+
+returns-3 : tie.Need-returns-3
+returns-3 c = search convert-clash
+
+returns-4 : tie.Need-returns-4
+returns-4 c = search convert-on
+
+pub convert-from-spec : {M : Type 1} → statement M
+convert-from-spec =
+    tie.close
+    (tie.spec
+    (λ c. search needs)
+    (λ c κs. search needs)
+    returns
+    (λ c κs. search needs)
+    (λ c κs. search needs)
+    (λ c κs. search needs)
+    returns-2
+    (λ c κs. search needs)
+    (λ c κs. search needs)
+    returns-3
+    (λ c κs. search needs)
+    (λ c κs. search needs)
+    (λ c. search needs)
+    returns-4)

@@ -1,0 +1,110 @@
+-- What records that passed give to what comes after.
+use mathlib.Core.Path.{_≡_, refl, sym, _∙_}
+use mathlib.Core.Bool.{Bool, true, false, not, cond}
+use mathlib.Core.List.{List}
+use Prim.Native.Nat.{ℕ, _+_, _*_, _≤_}
+use native.Mathlib.Omega.{arith}
+use lib.Dec.{eqb, leb}
+use lib.ListN.{length}
+use borrow.Author.Tests.{not-false, leb-true, eqb-true}
+use Rattle.tables.specs.Lists.{all, from, keep}
+use Rattle.tables.specs.State.{name-width, blocked-lock, told}
+use Rattle.tables.specs.Layout.{of-resource, size, slot-width, resources-in, locks-in, word-in, read-lock}
+use Rattle.tables.specs.Sound.{sizes-right}
+use Rattle.tables.proofs.Cases.{by-cases, clash, and-left, and-right, parts}
+use Rattle.fields.specs.Sizes.{Sized}
+use Rattle.names.specs.Names.{named, slot-fine}
+use Rattle.names.specs.Standing.{Slotted, Tidy}
+use Rattle.checking.specs.Check.{row-in, used-row, row-fine, resource-fine, lock-fine}
+use Rattle.records.specs.Passes.{ResourceCounts, LockCounts, free-count, blocked-count, noticed-count, resources-on, resources-pass, locks-on, locks-pass, Fine}
+use Rattle.records.proofs.Runs.{all-from}
+
+-- SIZES
+module _ (ws ss : List ℕ) {a : Bool} (e : a ≡ sizes-right ws ss) (f : not a ≡ false) where
+  right : sizes-right ws ss ≡ true
+  right = sym e ∙ not-false a f
+
+  pub slotted : Slotted ws ss
+  unfolding sizes-right
+  slotted =
+      let h = right in
+      let p : eqb (length ws) (size (resources-in ws) (locks-in ws)) ≡ true = search parts depth 20 in
+      let q : leb (resources-in ws) 256 ≡ true = search parts depth 20 in
+      let r : leb (locks-in ws) 1024 ≡ true = search parts depth 20 in
+      let s : eqb (length ss) (slot-width * resources-in ws) ≡ true = search parts depth 20 in
+      record {
+        sized = record { long = eqb-true _ _ p; few-resources = leb-true _ _ q; few-locks = leb-true _ _ r };
+        long = eqb-true _ _ s;
+      }
+
+  pub sized : Sized ws
+  sized = slotted .sized
+
+  some-lock : 1 ≤ locks-in ws
+  unfolding sizes-right
+  some-lock = let h = right in let p : leb 1 (locks-in ws) ≡ true = search parts depth 20 in leb-true _ _ p
+
+  -- RESOURCES
+  module _ (g : all (resource-fine ws ss) (from 1 (resources-in ws)) ≡ true) where
+    fine-at : (r : ℕ) → 1 ≤ r → r ≤ resources-in ws → resource-fine ws ss r ≡ true
+    fine-at r l h = all-from (resource-fine ws ss) (resources-in ws) 1 r g l (omega arith)
+
+    short-at : (r : ℕ) → 1 ≤ r → r ≤ resources-in ws → word-in ws (of-resource r 4) ≤ name-width
+    unfolding resource-fine row-fine used-row row-in
+    short-at r l h =
+        let x = and-left (row-fine (row-in ws r)) (slot-fine ws ss r) (fine-at r l h) in
+        let w = word-in ws (of-resource r 4) in
+        by-cases (eqb w 0)
+        (λ z. omega (arith, eqb-true w 0 z))
+        (λ z.
+        let y = rw z at x in
+        let v : leb w name-width ≡ true = search parts depth 20 in
+        leb-true w name-width v)
+
+    pub tidy : Tidy ws ss
+    unfolding resource-fine
+    tidy =
+        record {
+          named = record { slotted = slotted; lengths = record { sized = sized; short = short-at } };
+          fine = λ r l h. and-right (row-fine (row-in ws r)) (slot-fine ws ss r) (fine-at r l h);
+        }
+
+  -- LOCKS
+  pub fine : all (lock-fine ws) (from 1 (locks-in ws)) ≡ true → Fine ws
+  fine h = record { sized = sized; some = some-lock; passed = h }
+
+-- what the passes found
+module _ (ws ss : List ℕ) {x : ResourceCounts} (e : x ≡ resources-pass ws ss) where
+  resources-tested : (a : Bool) (n : ℕ) (y : ResourceCounts) → y ≡ cond a (record { fine = true; free = 0 + n }) (record { fine = false; free = 0 }) → (y .fine ≡ a) × (y .fine ≡ true → y .free ≡ n)
+  resources-tested true n y q = rw q (refl, λ t. omega arith)
+  resources-tested false n y q = rw q (refl, λ t. clash false t refl)
+
+  resources-said : (x .fine ≡ all (resource-fine ws ss) (from 1 (resources-in ws))) × (x .fine ≡ true → x .free ≡ free-count ws)
+  unfolding resources-pass resources-on free-count
+  resources-said = resources-tested (all (resource-fine ws ss) (from 1 (resources-in ws))) (length (keep (λ r. not (named ws r)) (from 1 (resources-in ws)))) x e
+
+  pub resources-fine : x .fine ≡ all (resource-fine ws ss) (from 1 (resources-in ws))
+  resources-fine = resources-said .0
+
+  pub resources-free : x .fine ≡ true → x .free ≡ free-count ws
+  resources-free = resources-said .1
+
+module _ (ws : List ℕ) {x : LockCounts} (e : x ≡ locks-pass ws) where
+  locks-tested : (a : Bool) (m n : ℕ) (y : LockCounts) → y ≡ cond a (record { fine = true; blocked = 0 + m; noticed = 0 + n }) (record { fine = false; blocked = 0; noticed = 0 }) → (y .fine ≡ a) × ((y .fine ≡ true → y .blocked ≡ m) × (y .fine ≡ true → y .noticed ≡ n))
+  locks-tested true m n y q = rw q (refl, (λ t. omega arith, λ t. omega arith))
+  locks-tested false m n y q = rw q (refl, (λ t. clash false t refl, λ t. clash false t refl))
+
+  locks-said : (x .fine ≡ all (lock-fine ws) (from 1 (locks-in ws))) × ((x .fine ≡ true → x .blocked ≡ blocked-count ws) × (x .fine ≡ true → x .noticed ≡ noticed-count ws))
+  unfolding locks-pass locks-on blocked-count noticed-count
+  locks-said =
+      locks-tested (all (lock-fine ws) (from 1 (locks-in ws))) (length (keep (λ k. blocked-lock (read-lock ws k)) (from 1 (locks-in ws))))
+      (length (keep (λ k. told (read-lock ws k)) (from 1 (locks-in ws)))) x e
+
+  pub locks-fine : x .fine ≡ all (lock-fine ws) (from 1 (locks-in ws))
+  locks-fine = locks-said .0
+
+  pub locks-blocked : x .fine ≡ true → x .blocked ≡ blocked-count ws
+  locks-blocked = locks-said .1 .0
+
+  pub locks-noticed : x .fine ≡ true → x .noticed ≡ noticed-count ws
+  locks-noticed = locks-said .1 .1

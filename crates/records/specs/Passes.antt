@@ -1,0 +1,56 @@
+-- What the passes over the records find, and what stands on it.
+use mathlib.Core.Path.{_≡_}
+use mathlib.Core.Bool.{true, false, not, cond}
+use mathlib.Core.List.{List}
+use Prim.Native.Nat.{ℕ, _+_, _-_, _≤_}
+use lib.ListN.{length}
+use Rattle.tables.specs.Lists.{all, from, keep}
+use Rattle.tables.specs.State.{blocked-lock, told}
+use Rattle.tables.specs.Layout.{resources-in, locks-in, read-lock}
+use Rattle.fields.specs.Sizes.{Sized}
+use Rattle.names.specs.Names.{named}
+use Rattle.checking.specs.Check.{resource-fine, lock-fine}
+pub use Rattle.records.specs.declared.ResourceCounts.{ResourceCounts}
+pub use Rattle.records.specs.declared.LockCounts.{LockCounts}
+
+-- the numbers from a to b
+unfoldable pub upto : ℕ → ℕ → List ℕ
+upto a b = from a (b + 1 - a)
+
+-- how many records belong on the chain of free resources, on the blocked and on the notice chain
+unfoldable pub free-count : List ℕ → ℕ
+free-count ws = length (keep (λ r. not (named ws r)) (from 1 (resources-in ws)))
+
+unfoldable pub blocked-count : List ℕ → ℕ
+blocked-count ws = length (keep (λ k. blocked-lock (read-lock ws k)) (from 1 (locks-in ws)))
+
+unfoldable pub noticed-count : List ℕ → ℕ
+noticed-count ws = length (keep (λ k. told (read-lock ws k)) (from 1 (locks-in ws)))
+
+-- the resources rs, after some of which so many were free: each is fine, and so many are free; or one is not
+unfoldable pub resources-on : List ℕ → List ℕ → ℕ → List ℕ → ResourceCounts
+resources-on ws ss free rs =
+    cond (all (resource-fine ws ss) rs) (record { fine = true; free = free + length (keep (λ r. not (named ws r)) rs) }) (record { fine = false; free = 0 })
+
+unfoldable pub resources-pass : List ℕ → List ℕ → ResourceCounts
+resources-pass ws ss = resources-on ws ss 0 (from 1 (resources-in ws))
+
+-- the locks ks, after some of which so many were blocked and so many had a completion
+unfoldable pub locks-on : List ℕ → ℕ → ℕ → List ℕ → LockCounts
+locks-on ws blocked noticed ks =
+    cond (all (lock-fine ws) ks)
+    (record {
+      fine = true;
+      blocked = blocked + length (keep (λ k. blocked-lock (read-lock ws k)) ks);
+      noticed = noticed + length (keep (λ k. told (read-lock ws k)) ks);
+    })
+    (record { fine = false; blocked = 0; noticed = 0 })
+
+unfoldable pub locks-pass : List ℕ → LockCounts
+locks-pass ws = locks-on ws 0 0 (from 1 (locks-in ws))
+
+-- words whose locks passed: each has modes up to 5
+pub record Fine (ws : List ℕ) : Type 0 where
+  pub sized : Sized ws
+  pub some : 1 ≤ locks-in ws
+  pub passed : all (lock-fine ws) (from 1 (locks-in ws)) ≡ true
