@@ -1,4 +1,6 @@
 // The chains of whatever tables are lent: how many records each has. A walk counts its steps, so that it ends.
+use access::is_blocked;
+use access::is_told;
 use fields::BLOCKED;
 use fields::FREE_RESOURCES;
 use fields::LOCK_NEXT;
@@ -12,8 +14,6 @@ use fields::lock_at;
 use fields::lock_word;
 use fields::resource_word;
 use records::in_use;
-use records::is_blocked;
-use records::is_noticed;
 use tables::Lock;
 ghost use mathlib.Core.Path.{_≡_};
 ghost use mathlib.Core.Bool.{not};
@@ -50,7 +50,7 @@ fn noticed(words: &[u32], k: u32) -> bool
     requires { ⌜ (1 ≤ k) × (k ≤ locks-in (now words)) ⌝ }
     ensures { λ x. ⌜ x ≡ told (read-lock (now (words .entry)) k) ⌝ }
 {
-    is_noticed(lock_at(words, k))
+    is_told(lock_at(words, k))
 }
 
 // The lock has this state and this resource.

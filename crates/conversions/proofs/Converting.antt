@@ -1,27 +1,23 @@
 -- A conversion that is not refused: in place, or on the convert queue.
-use mathlib.Core.Path.{_≡_, sym, _∙_}
+use mathlib.Core.Path.{_≡_, sym, _∙_, refl}
 use mathlib.Core.Bool.{Bool, true, false}
 use mathlib.Core.List.{List}
 use Prim.Native.Nat.{ℕ, _<_}
 use native.Mathlib.Omega.{arith}
 use borrow.Author.Needs.{needs}
 use Rattle.tables.specs.State.{Tables, lock}
-use Rattle.tables.specs.Layout.{words, slots}
+use Rattle.tables.specs.Layout.{words}
 use Rattle.tables.proofs.Slots.{slots-move}
-use Rattle.rules.specs.Calls.{done, asking, in-place, convert-change}
-use Rattle.rules.proofs.Lists.{out-of}
+use Rattle.rules.specs.Calls.{asking, in-place, convert-change}
 use Rattle.rules.proofs.Passing.{Convertible}
 use Rattle.access.specs.Contracts.{Some, Turns, Tells, Changes}
 use Rattle.queues.specs.Contracts.{Lent}
+use Rattle.answers.proofs.Steps.{stepped}
 use Rattle.answers.specs.declared.Converted.the-variants.{Granted, Waiting}
-use Rattle.answers.specs.Answers.{accepted, converted, outcome}
+use Rattle.answers.specs.Answers.{converted}
 use Rattle.answers.specs.Contracts.{Makes}
 use Rattle.refusals.specs.Contracts.{Held}
 use Rattle.conversions.specs.Contracts.{lowers, granted-in-place, on-convert-queue, Asks, Placed}
-
--- the words and slots of a step
-step-is : (n : ℕ) (u : Tables) (b sb : List ℕ) → b ≡ words u → sb ≡ slots u → outcome (accepted n 0) b sb ≡ out-of (done n 0 u)
-step-is n u b sb e f = λ i. record { refusal = 0; answer = n; number = 0; words = e i; slots = f i }
 
 module _ (k m f : ℕ) (v a sa : List ℕ) where
   module _ (t : Tables) (p : Convertible k m f v t) where
@@ -57,7 +53,7 @@ module _ (k m f : ℕ) (v a sa : List ℕ) where
       convert-granted b sb h = record {
         then = λ t p is iss.
             let d = h .then t (placed-at t p is) is iss in
-            rw (told-at t p is ∙ q, convert-change) (step-is 1 (granted-in-place k m f v t) b sb (d .0) (d .1));
+            rw (told-at t p is ∙ q, convert-change) (stepped _ 1 0 (granted-in-place k m f v t) b sb refl (d .0) (d .1));
       }
 
     pub convert-waits : x ≡ false → (b : List ℕ) → Turns (Asks k m) (on-convert-queue k m) a b → Makes (Convertible k m f v) (convert-change k m f v) a sa b sa (converted Waiting)
@@ -65,7 +61,7 @@ module _ (k m f : ℕ) (v a sa : List ℕ) where
     convert-waits q b h = record {
       then = λ t p is iss.
           rw (told-at t p is ∙ q, convert-change)
-          (step-is 2 (on-convert-queue k m t) b sa (h .then t (asks-it t p) is) (iss ∙ sym (slots-move (lock t k .resource) k (asking m (lock t k)) t)));
+          (stepped _ 2 0 (on-convert-queue k m t) b sa refl (h .then t (asks-it t p) is) (iss ∙ sym (slots-move (lock t k .resource) k (asking m (lock t k)) t)));
     }
 
 pub ruleset convert-laws = (needs, convert-held, convert-mode, convert-asks, convert-placed, convert-granted, convert-waits)

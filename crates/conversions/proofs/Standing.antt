@@ -1,20 +1,18 @@
 -- A granted lock that asks for a mode, on a state: what it may become.
-use mathlib.Core.Path.{_≡_, refl, _∙_}
+use mathlib.Core.Path.{_≡_, refl}
 use mathlib.Core.Bool.{Bool, true}
 use mathlib.Core.List.{List}
 use Prim.Native.Nat.{ℕ, _≤_}
 use native.Mathlib.Omega.{arith}
 use lib.ListN.{length}
 use borrow.Author.Tests.{eqb-true}
-use Rattle.modes.specs.Modes.{down}
-use Rattle.modes.proofs.Laws.{compatible-sym, down-use}
-use Rattle.tables.specs.Lists.{within, null}
-use Rattle.tables.specs.State.{Tables, lock, resource, converting, move}
-use Rattle.tables.proofs.Cases.{by-cases, or-left, and-right}
+use Rattle.tables.specs.Lists.{within}
+use Rattle.tables.specs.State.{Tables, lock, resource, move}
 use Rattle.tables.proofs.Counts.{within-le}
-use Rattle.tables.proofs.Valid.{used, Place, ok-at, holder-place, Fits, used-within, resources-length, core-move}
-use Rattle.tables.proofs.Standing.{state-within, fits-true}
-use Rattle.rules.specs.Calls.{leave-value, held-at, asking, in-place}
+use Rattle.tables.proofs.Valid.{used, Place, ok-at, used-within, resources-length, core-move}
+use Rattle.tables.proofs.Standing.{state-within}
+use Rattle.rules.proofs.Keeps.{convert-fits}
+use Rattle.rules.specs.Calls.{leave-value, held-at, asking}
 use Rattle.rules.proofs.Resources.{Quiet, leave-quiet}
 use Rattle.access.specs.Contracts.{Movable, Resourced}
 use Rattle.queues.specs.Contracts.{Valued}
@@ -30,16 +28,6 @@ module _ (k : ℕ) (t : Tables) (p : Held k t) where
 
   held-place : Place (used t) (lock t k)
   held-place = ok-at (used t) (lock t k) 1 (p .core .lock-ok k) (p .is-granted) .place
-
-  -- a mode that it can take in place is compatible with what others hold
-  held-fits : (m : ℕ) → in-place k m t ≡ true → Fits t (lock t k .resource) k m
-  unfolding in-place
-  held-fits m h =
-      by-cases (down (lock t k .held) m)
-      (λ d j n o e. compatible-sym (lock t j .held) m
-      ∙ down-use (lock t k .held) m d (lock t j .held) (holder-place (used t) (lock t j) (p .core .lock-ok j) o .held-mode)
-      (compatible-sym (lock t k .held) (lock t j .held) ∙ p .core .agree j k n o (or-left _ (converting (lock t k)) (p .is-granted)) e))
-      (λ d. fits-true t (p .core .linked) (lock t k .resource) k m (and-right (null (resource t (lock t k .resource) .convert)) _ (rw d at h)))
 
 -- on the convert queue
 pub asking-movable : (k m : ℕ) (t : Tables) → Asks k m t → Movable (lock t k .resource) k (asking m (lock t k)) t
@@ -90,6 +78,6 @@ module _ (k m f : ℕ) (v : List ℕ) (t : Tables) (p : Placed k m f v t) where
         let t0 = leave-value b f v r t in
         record {
           core = core-move r k l t0 (g .core) (g .in-range) (g .near-old) (g .near-new) (g .ok)
-              (λ z j n. rw (quiet .lock-is j) (held-fits k t (p .asks .held) m (p .at-once) j n));
+              (λ z j n. rw (quiet .lock-is j) (convert-fits k m t (p .asks .held .core) (p .asks .held .is-granted) (p .at-once) j n));
           in-range = rw (resources-length r k l t0, quiet .resources-are) (placed-valued .in-range);
         }

@@ -25,7 +25,8 @@ use Rattle.answers.specs.Answers.{accepted, denied, broken, outcome}
 use Rattle.answers.specs.declared.Broken.the-variants as broken-cases
 use Rattle.answers.specs.Contracts.{MakesWords}
 use Rattle.releases.specs.Contracts.{Restorable, restore}
-use Rattle.releases.proofs.Stepped.{stepped, lock-is}
+use Rattle.answers.proofs.Steps.{stepped}
+use Rattle.releases.proofs.Locks.{lock-is}
 use Rattle.releases.proofs.Restoring.{slots-restore, blocked-there, blocked-range, blocked-resource, restorable-at, cancel-sized, cancel-low, cancel-high}
 
 -- STATES. The blocked lock k, denied

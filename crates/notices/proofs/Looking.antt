@@ -25,7 +25,7 @@ use Rattle.access.specs.Contracts.{Some, Tells}
 use Rattle.deadlock.specs.Chained.{onward, Runs, stop, on, Walking}
 use Rattle.deadlock.proofs.Onward.{some-sized, walk-splits, walk-ends}
 use Rattle.deadlock.proofs.Noting.{walk-sized, walk-low, walk-high, walk-less, walk-on}
-use Rattle.releases.proofs.Stepped.{lock-is}
+use Rattle.releases.proofs.Locks.{lock-is}
 use Rattle.notices.specs.Contracts.{first-notice}
 
 -- the links of the notice chain

@@ -26,7 +26,8 @@ use Rattle.queues.proofs.Slotting.{slots-free}
 use Rattle.answers.specs.Answers.{Numbers, polled}
 use Rattle.answers.specs.declared.Polled.the-variants as polled-cases
 use Rattle.answers.specs.Contracts.{MakesWords}
-use Rattle.releases.proofs.Stepped.{stepped, lock-sized, lock-low, lock-high, lock-is}
+use Rattle.answers.proofs.Steps.{stepped}
+use Rattle.releases.proofs.Locks.{lock-sized, lock-low, lock-high, lock-is}
 use Rattle.notices.specs.Contracts.{first-notice, Noticed}
 use Rattle.notices.proofs.Denying.{valid-core}
 

@@ -34,7 +34,7 @@ linked-leads : (ws : List ℕ) (f : ℕ → ℕ) → ((j : ℕ) → 1 ≤ j → 
 linked-leads ws f l y [] h e z q = q ∙ h
 linked-leads ws f l y (x ∷ xs) h e z q = (q ∙ h .0, (e .0, linked-leads ws f l x xs (h .1) (e .1) (word-in ws (of-lock x 0)) (sym (l x (e .0 .low)))))
 
-null-first : (xs : List ℕ) → count 0 xs ≡ 0 → eqb (first xs) 0 ≡ null xs
+pub null-first : (xs : List ℕ) → count 0 xs ≡ 0 → eqb (first xs) 0 ≡ null xs
 null-first [] h = refl
 null-first (zero ∷ xs) h = absurd (omega (arith, count-same 0 xs))
 null-first (suc x ∷ xs) h = ne-eqb (suc x) 0 (omega arith)

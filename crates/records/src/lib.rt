@@ -1,5 +1,7 @@
 // The records of whatever tables are lent: what each is to be, and how many belong on the chains that are no lock's home.
 // Every record is looked at in one pass.
+use access::is_blocked;
+use access::is_told;
 use checking::Row;
 use fields::COMPLETION_CONVERSION_DENIED;
 use fields::COMPLETION_DENIED;
@@ -234,20 +236,6 @@ fn fields_fine(named: bool, l: Lock) -> bool
         | (l.state == STATE_DENIED) & client_right & nowhere & holds_none & asks_none & denied_right
 }
 
-// The lock is converting or waiting.
-pub fn is_blocked(l: Lock) -> bool
-    ensures { λ x. ⌜ x ≡ blocked-lock l ⌝ }
-{
-    (l.state == STATE_CONVERTING) | (l.state == STATE_WAITING)
-}
-
-// Its completion is unread.
-pub fn is_noticed(l: Lock) -> bool
-    ensures { λ x. ⌜ x ≡ told l ⌝ }
-{
-    l.completion != COMPLETION_NONE
-}
-
 // Off the blocked and the notice chain the links there of lock k, which is l, are zero.
 fn links_fine(words: &[u32], k: u32, l: Lock) -> bool
     requires { ⌜ Sized (now words) ⌝ }
@@ -256,7 +244,7 @@ fn links_fine(words: &[u32], k: u32, l: Lock) -> bool
     ensures { λ x. ⌜ x ≡ links-fine (now (words .entry)) k ⌝ }
 {
     (is_blocked(l) | (lock_word(words, k, LOCK_NEXT_BLOCKED) == 0))
-        & (is_noticed(l) | (lock_word(words, k, LOCK_NEXT_NOTICE) == 0))
+        & (is_told(l) | (lock_word(words, k, LOCK_NEXT_NOTICE) == 0))
 }
 
 // Lock k, which is l.
@@ -289,7 +277,7 @@ pub fn locks_pass(words: &[u32]) -> LockCounts
             };
         }
         blocked += bit(is_blocked(l));
-        noticed += bit(is_noticed(l));
+        noticed += bit(is_told(l));
         k += 1;
     }
     LockCounts {

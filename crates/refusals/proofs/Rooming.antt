@@ -1,19 +1,19 @@
 -- The refusals of a request for want of a record, or since it would block, from the words and slots of a state.
 use mathlib.Core.Path.{_≡_, refl, sym, _∙_, ap, ap₂}
 use mathlib.Core.Bool.{Bool, true, false, _&&_, _||_, not}
-use mathlib.Core.List.{List, [], _∷_}
+use mathlib.Core.List.{List, []}
 use Prim.Native.Nat.{ℕ, zero, suc, _<_}
 use native.Mathlib.Omega.{arith}
 use lib.ListN.{getD, length}
 use lib.Dec.{eqb}
 use borrow.Author.Needs.{needs}
 use borrow.Author.Tests.{eqb-true, eqb-false, eq-eqb, ne-eqb, not-false}
-use Rattle.tables.specs.Lists.{within, count, all, first, null, from}
+use Rattle.tables.specs.Lists.{within, all, null, from}
 use Rattle.tables.specs.State.{Tables, resource, free-locks}
 use Rattle.tables.specs.Layout.{of-header, words, slots}
 use Rattle.tables.specs.Grants.{holders, fits, admits}
 use Rattle.tables.proofs.Cases.{by-cases, and-left, and-right, or-right, nor-left, nor-right}
-use Rattle.tables.proofs.Counts.{count-same, count-from, bit-one, first-in}
+use Rattle.tables.proofs.Counts.{count-from, bit-one, first-in}
 use Rattle.tables.proofs.Links.{next-here}
 use Rattle.tables.proofs.Words.{read-word}
 use Rattle.tables.proofs.Valid.{Core}
@@ -24,16 +24,12 @@ use Rattle.access.proofs.States.{sized-is}
 use Rattle.names.specs.Names.{find-in}
 use Rattle.names.specs.Standing.{Named}
 use Rattle.names.proofs.States.{core-named, find-is}
+use Rattle.queues.proofs.Telling.{null-first}
 use Rattle.queues.specs.Contracts.{Lent}
 use Rattle.refusals.specs.Contracts.{TellsBoth}
 use Rattle.refusals.specs.Rests.{room-refusal}
 
 -- a chain of records begins with 0 exactly if it has none
-null-first : (xs : List ℕ) → count 0 xs ≡ 0 → eqb (first xs) 0 ≡ null xs
-null-first [] h = refl
-null-first (zero ∷ xs) h = absurd (omega (arith, count-same 0 xs))
-null-first (suc x ∷ xs) h = ne-eqb (suc x) 0 (omega arith)
-
 spare-null : (t : Tables) → Core t → (ws : List ℕ) → ws ≡ words t → eqb (getD ws 2 0) 0 ≡ null (t .free-resources)
 spare-null t g ws is =
     ap (λ (x : ℕ). eqb x 0) (ap (λ (w : List ℕ). getD w 2 0) is ∙ read-word t (of-header 2) (omega arith) ∙ next-here 0 0 (t .free-resources) refl)

@@ -1,3 +1,3 @@
-pub mod Stepped
+pub mod Locks
 pub mod Releasing
 pub mod Restoring

@@ -23,7 +23,8 @@ use Rattle.queues.proofs.Slotting.{slots-free}
 use Rattle.queues.proofs.After.{left-locked, left-resourced, freed-resourced}
 use Rattle.answers.specs.Answers.{accepted}
 use Rattle.answers.specs.Contracts.{Makes}
-use Rattle.releases.proofs.Stepped.{stepped, lock-sized, lock-low, lock-high, lock-is}
+use Rattle.answers.proofs.Steps.{stepped}
+use Rattle.releases.proofs.Locks.{lock-sized, lock-low, lock-high, lock-is}
 
 -- STATES
 module _ (k f : ℕ) (v : List ℕ) (t : Tables) (p : Releasable k f v t) where

@@ -27,7 +27,8 @@ use Rattle.answers.specs.Answers.{cancelled}
 use Rattle.answers.specs.declared.Cancelled.the-variants as cancelled-cases
 use Rattle.answers.specs.Contracts.{MakesWords}
 use Rattle.releases.specs.Contracts.{Restorable, restore}
-use Rattle.releases.proofs.Stepped.{stepped, lock-sized, lock-low, lock-high, lock-is}
+use Rattle.answers.proofs.Steps.{stepped}
+use Rattle.releases.proofs.Locks.{lock-sized, lock-low, lock-high, lock-is}
 
 -- STATES. The lock k converts
 module _ (k e : ℕ) (t : Tables) (p : Restorable k e t) where

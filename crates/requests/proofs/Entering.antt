@@ -7,21 +7,17 @@ use native.Mathlib.Omega.{arith}
 use borrow.Author.Needs.{needs}
 use Rattle.tables.specs.declared.Lock.{Lock}
 use Rattle.tables.specs.State.{Tables, lock, move}
-use Rattle.tables.specs.Layout.{words, slots}
+use Rattle.tables.specs.Layout.{slots}
 use Rattle.tables.specs.Grants.{admits}
 use Rattle.tables.proofs.Slots.{slots-move}
 use Rattle.tables.proofs.Valid.{used, LockOk, used-within}
-use Rattle.rules.specs.Calls.{done, holding, queued, request-on}
-use Rattle.rules.proofs.Lists.{out-of}
+use Rattle.rules.specs.Calls.{holding, queued, request-on}
 use Rattle.access.specs.Contracts.{Some, Tells, Movable, Moving, Moved, Resourced}
+use Rattle.answers.proofs.Steps.{stepped}
 use Rattle.answers.specs.declared.Requested.the-variants.{Granted, Waiting}
-use Rattle.answers.specs.Answers.{accepted, requested, outcome}
+use Rattle.answers.specs.Answers.{requested}
 use Rattle.answers.specs.Contracts.{MakesWords}
 use Rattle.requests.specs.Contracts.{Enters}
-
--- the words and slots of a step
-step-is : (n k : ℕ) (t u : Tables) (b : List ℕ) → b ≡ words u → slots u ≡ slots t → outcome (accepted n k) b (slots t) ≡ out-of (done n k u)
-step-is n k t u b e f = λ i. record { refusal = 0; answer = n; number = k; words = e i; slots = sym f i }
 
 module _ (r k c m : ℕ) where
   module _ (t : Tables) (p : Enters r k c m t) where
@@ -71,7 +67,7 @@ module _ (r k c m : ℕ) where
         then = λ t p is.
             let h : admits t r m ≡ true = sym (told .then t (enters-resourced t p) is) ∙ q in
             rw (h, request-on)
-            (step-is 1 k t (move r k (holding r c m) t) b ((rw e at (moved .then r t)) (enters-held t p) is) (slots-move r k (holding r c m) t));
+            (stepped _ 1 k (move r k (holding r c m) t) b (slots t) refl ((rw e at (moved .then r t)) (enters-held t p) is) (sym (slots-move r k (holding r c m) t)));
       }
 
       pub enter-waits : x ≡ false → l ≡ queued r c m → MakesWords (Enters r k c m) (request-on r k c m) a b (requested (Waiting k))
@@ -80,7 +76,7 @@ module _ (r k c m : ℕ) where
         then = λ t p is.
             let h : admits t r m ≡ false = sym (told .then t (enters-resourced t p) is) ∙ q in
             rw (h, request-on)
-            (step-is 2 k t (move r k (queued r c m) t) b ((rw e at (moved .then r t)) (enters-queued t p) is) (slots-move r k (queued r c m) t));
+            (stepped _ 2 k (move r k (queued r c m) t) b (slots t) refl ((rw e at (moved .then r t)) (enters-queued t p) is) (sym (slots-move r k (queued r c m) t)));
       }
 
 pub ruleset enter-laws = (needs, enter-resourced, enter-mode, enter-held, enter-queued, enter-grants, enter-waits)

@@ -1,7 +1,6 @@
 -- The resource of a name: the one that has it, or the first free one, which takes it.
 use mathlib.Core.Path.{_≡_, refl, sym, _∙_, ap}
-use mathlib.Core.Bool.{true, false}
-use mathlib.Core.List.{List, [], _∷_}
+use mathlib.Core.List.{List, []}
 use Prim.Native.Nat.{ℕ, zero, suc, _≤_}
 use native.Mathlib.Omega.{arith}
 use borrow.Author.Needs.{needs}
@@ -9,14 +8,13 @@ use borrow.Author.Tests.{not-true}
 use Rattle.tables.specs.Lists.{count, first, null}
 use Rattle.tables.specs.State.{Tables, resource, move-resource}
 use Rattle.tables.specs.Layout.{of-header, words, slots, word-in}
-use Rattle.tables.proofs.Cases.{clash}
-use Rattle.tables.proofs.Counts.{count-same}
 use Rattle.tables.proofs.Links.{next-here}
 use Rattle.tables.proofs.Read.{word-read}
 use Rattle.tables.proofs.Standing.{and-bit}
 use Rattle.tables.proofs.Valid.{used}
 use Rattle.rules.specs.Queues.{find}
 use Rattle.rules.specs.Calls.{new-resource, resource-for, with-resource}
+use Rattle.rules.proofs.Requests.{first-member}
 use Rattle.fields.specs.Sizes.{Sized}
 use Rattle.access.specs.Contracts.{Changes}
 use Rattle.names.specs.Names.{find-in}
@@ -24,10 +22,6 @@ use Rattle.names.specs.Standing.{Named}
 use Rattle.names.proofs.States.{core-named, find-is}
 use Rattle.queues.specs.Contracts.{Lent, Takes}
 use Rattle.requests.specs.Contracts.{Nameable, Houses}
-
-pub first-member : (xs : List ℕ) → null xs ≡ false → 1 ≤ count (first xs) xs
-first-member [] h = clash true refl h
-first-member (x ∷ xs) h = rw count-same (omega arith)
 
 -- the header names the first free resource
 first-free : (t : Tables) (a : List ℕ) → a ≡ words t → word-in a (of-header 2) ≡ first (t .free-resources)

@@ -19,6 +19,7 @@ use Rattle.rules.proofs.Passing.{Requestable}
 use Rattle.rules.proofs.Requests.{found}
 use Rattle.rules.proofs.Resources.{lock-kept, used-changed}
 use Rattle.fields.specs.Sizes.{Sized}
+use Rattle.rules.proofs.Requests.{first-member}
 use Rattle.access.specs.Contracts.{Some}
 use Rattle.access.proofs.States.{sized-is}
 use Rattle.answers.specs.Answers.{Numbers}
@@ -26,7 +27,7 @@ use Rattle.answers.specs.Contracts.{Makes, MakesWords}
 use Rattle.queues.specs.Contracts.{Lent}
 use Rattle.queues.proofs.After.{taken-core}
 use Rattle.requests.specs.Contracts.{Nameable, Houses, Enters}
-use Rattle.requests.proofs.Housing.{first-member, takes-first}
+use Rattle.requests.proofs.Housing.{takes-first}
 
 -- the header names the first free lock
 first-free : (t : Tables) (a : List ℕ) → a ≡ words t → word-in a (of-header 3) ≡ first (t .free-locks)

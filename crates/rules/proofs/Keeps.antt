@@ -356,13 +356,13 @@ break-after t val = go (victim t) refl
     go (suc k) e = deny-after (suc k) t val (on-chain t (val .core .linked) blocked (suc k) (first-in _ (t .blocked) k e) .1)
 
 -- CONVERT
-convert-fits : (k m : ℕ) (t : Tables) → Valid t → granted (lock t k) ≡ true → in-place k m t ≡ true → Fits t (lock t k .resource) k m
+pub convert-fits : (k m : ℕ) (t : Tables) → Core t → granted (lock t k) ≡ true → in-place k m t ≡ true → Fits t (lock t k .resource) k m
 unfolding in-place
-convert-fits k m t val g h =
+convert-fits k m t c g h =
     by-cases (down (lock t k .held) m)
-    (λ d j n o e. compatible-sym (lock t j .held) m ∙ down-use (lock t k .held) m d (lock t j .held) (holder-place (used t) (lock t j) (val .core .lock-ok j) o .held-mode)
-    (compatible-sym (lock t k .held) (lock t j .held) ∙ val .core .agree j k n o (or-left _ _ g) e))
-    (λ d. fits-true t (val .core .linked) (lock t k .resource) k m (and-right (null (resource t (lock t k .resource) .convert)) _ (rw d at h)))
+    (λ d j n o e. compatible-sym (lock t j .held) m ∙ down-use (lock t k .held) m d (lock t j .held) (holder-place (used t) (lock t j) (c .lock-ok j) o .held-mode)
+    (compatible-sym (lock t k .held) (lock t j .held) ∙ c .agree j k n o (or-left _ _ g) e))
+    (λ d. fits-true t (c .linked) (lock t k .resource) k m (and-right (null (resource t (lock t k .resource) .convert)) _ (rw d at h)))
 
 in-place-after : (k m : ℕ) (b : Bool) (f : ℕ) (v : List ℕ) (t : Tables) → Valid t → granted (lock t k) ≡ true → m ≤ 5 → (stores f ≡ true → length v ≡ 32) → in-place k m t ≡ true →
     After t (sweep (lock t k .resource) (move (lock t k .resource) k (held-at m (lock t k)) (leave-value b f v (lock t k .resource) t))) (t .free-locks)
@@ -381,7 +381,7 @@ in-place-after k m b f v t val g low right h =
       notice = omega arith;
       not-denied = omega arith;
     } in
-    let fit : holds l ≡ true → Fits t0 r k m = λ z j n. rw (q .lock-is j) (convert-fits k m t val g h j n) in
+    let fit : holds l ≡ true → Fits t0 r k m = λ z j n. rw (q .lock-is j) (convert-fits k m t (val .core) g h j n) in
     quiet-after t t0 _ (t0 .free-locks) (t .free-locks) q (q .free-is)
     (then-sweep t0 (q .core) r k l (λ s n. q .settled s (val .settled s)) w near (λ z. refl) ok fit _ (free-kept r k l t0 (rw (q .lock-is k, s)) refl)
     (granted-full t0 r k l (core-move r k l t0 (q .core) w near (λ z. refl) ok fit) w refl refl))

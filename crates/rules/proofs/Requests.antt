@@ -131,7 +131,7 @@ unused-chains t c r u n =
         (λ y. clash (used t r) (h (leb-true 1 (count j (chain t x)) y)) u)
         (λ y. omega (arith, leb-false 1 (count j (chain t x)) y))
 
-first-member : (xs : List ℕ) → null xs ≡ false → 1 ≤ count (first xs) xs
+pub first-member : (xs : List ℕ) → null xs ≡ false → 1 ≤ count (first xs) xs
 first-member [] h = clash true refl h
 first-member (x ∷ xs) h = rw count-same (omega arith)
 

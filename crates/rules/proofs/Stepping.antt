@@ -9,9 +9,9 @@ use lib.ListN.{length, replicate, length-replicate, getD-replicate}
 use lib.Dec.{eqb, eqb·suc-zero}
 use borrow.Author.Tests.{ltb-true}
 use Rattle.tables.specs.Lists.{nth, within, count, bit, keep, first-that, first, null, from}
-use Rattle.tables.specs.State.{Resource, Tables, no-lock, no-resource, lock, resource, started, granted, converting, blocked-lock, LockChain, chain, belongs, grants, converts, waits, free-locks, denied, blocked, notices, queue}
+use Rattle.tables.specs.State.{Resource, Tables, no-lock, no-resource, lock, resource, started, converting, LockChain, chain, belongs, grants, converts, waits, free-locks, denied, blocked, notices, queue}
 use Rattle.tables.specs.Grants.{admits}
-use Rattle.tables.proofs.Cases.{by-cases, clash, parts}
+use Rattle.tables.proofs.Cases.{by-cases, clash}
 use Rattle.tables.proofs.Counts.{nth-out, count-nil, count-from}
 use Rattle.tables.proofs.Valid.{used, line, idle, Valid}
 use Rattle.rules.specs.Queues.{find}
