@@ -1,5 +1,6 @@
 # The commands of this repository. `make test` is the gate.
-.PHONY: test check fmt
+.PHONY: test check fmt play
+.DELETE_ON_ERROR:
 
 # Prove every crate from nothing, try the must-fail edits, run the programs. Its last line is 'N passed, 0 failed'.
 test:
@@ -11,3 +12,19 @@ check:
 
 fmt:
 	@rt fmt
+
+# Play a script of calls on fresh tables, each line beside its answer. SCRIPT=- plays standard input as it is, for use by hand.
+SCRIPT ?= examples/failover.txt
+
+play: target/bin/lockplay
+ifeq ($(SCRIPT),-)
+	@target/bin/lockplay
+else
+	@test -r '$(SCRIPT)' || { echo 'there is no $(SCRIPT)' >&2; exit 1; }
+	@target/bin/lockplay <'$(SCRIPT)' | paste '$(SCRIPT)' - | expand -t 24
+endif
+
+# Proves what lockplay stands on, where that is not done yet: some minutes the first time.
+target/bin/lockplay: crates.txt $(shell find crates -name '*.rt' -o -name '*.antt')
+	@rt check lockplay </dev/null >&2
+	@touch $@

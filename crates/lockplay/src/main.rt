@@ -1,0 +1,83 @@
+// Plays the lines of standard input on fresh tables and prints a line for each. What comes is played as soon as it is
+// there, so that a user at a terminal sees each answer at once.
+use gathering::Line;
+use libc::STDIN_FILENO;
+use libc::STDOUT_FILENO;
+ghost use mathlib.Core.Path.{_≡_};
+ghost use Prim.Native.Nat.{_≤_};
+ghost use lib.ListN.{length};
+ghost use Rattle.gathering.specs.Reading.{Room};
+
+// What is read at once, and room for what its lines can print.
+const CHUNK: usize = 1024;
+
+const PRINTED: usize = 24576;
+
+fn chunk_space() -> [u8; CHUNK]
+    ensures { λ r. ⌜ 1024 ≡ length r ⌝ }
+{
+    [0; CHUNK]
+}
+
+fn print_space() -> [u8; PRINTED]
+    ensures { λ r. ⌜ 24576 ≡ length r ⌝ }
+{
+    [0; PRINTED]
+}
+
+// After a read: the line that has begun, and whether the input has ended.
+struct Input {
+    line: Line,
+    ended: bool,
+}
+
+// Reads what is there, plays it, and prints what its lines print.
+fn play_some(words: &mut [u32], slots: &mut [u8], buffer: &mut [u8], line: Line) -> Input
+    requires { ⌜ Room (now buffer) line ⌝ }
+    ensures { λ r. ⌜ Room (now (buffer .exit)) (r .line) ⌝ }
+{
+    let mut chunk = chunk_space();
+    let got = libc::read(STDIN_FILENO, &mut chunk);
+    let n = io::count(got, &chunk);
+    if n == 0 {
+        return Input { line, ended: true };
+    }
+    let mut out = print_space();
+    let p = play::play_bytes(words, slots, buffer, line, &chunk[..n], &mut out);
+    let at = p.at;
+    let next = p.line;
+    let written = io::write_all(STDOUT_FILENO, &out[..at]);
+    Input {
+        line: next,
+        ended: !written,
+    }
+}
+
+// A proved loop has to end, and nothing says that an input does: it counts down from a number that no run uses up.
+fn play_all(words: &mut [u32], slots: &mut [u8], buffer: &mut [u8]) -> Line
+    requires { ⌜ 256 ≤ length (now buffer) ⌝ }
+    ensures { λ r. ⌜ Room (now (buffer .exit)) r ⌝ }
+{
+    let mut line = gathering::start();
+    let mut turns = u64::MAX;
+    while turns > 0 {
+        let input = play_some(words, slots, buffer, line);
+        line = input.line;
+        if input.ended {
+            return line;
+        }
+        turns -= 1;
+    }
+    line
+}
+
+fn main() {
+    let mut words = play::word_space();
+    let mut slots = play::slot_space();
+    let mut buffer = play::line_space();
+    play::start_tables(&mut words, &mut slots);
+    let line = play_all(&mut words, &mut slots, &mut buffer);
+    let mut out = print_space();
+    let n = play::play_end(&mut words, &mut slots, &buffer, line, &mut out);
+    io::write_all(STDOUT_FILENO, &out[..n]);
+}
