@@ -1,5 +1,5 @@
 # The commands of this repository. `make test` is the gate.
-.PHONY: test check fmt play
+.PHONY: test check fmt play lib test-c
 .DELETE_ON_ERROR:
 
 # Prove every crate from nothing, try the must-fail edits, run the programs. Its last line is 'N passed, 0 failed'.
@@ -28,3 +28,15 @@ endif
 target/bin/lockplay: crates.txt $(shell find crates -name '*.rt' -o -name '*.antt')
 	@rt check lockplay </dev/null >&2
 	@touch $@
+
+# The library for C programs: target/lib/libzamgyorud.a, and its header.
+lib:
+	@rt staticlib capi
+	@mkdir -p target/lib
+	@cp target/staticlib/libcapi.a target/lib/libzamgyorud.a
+	@cp include/zamgyorud.h target/lib/zamgyorud.h
+
+# A C program that calls each function of the library. Its last line is 'capi: N checks passed'.
+test-c: lib
+	@$(CC) -std=c11 -O2 -Wall -Wextra -Werror -pedantic -I target/lib tests/capi_test.c target/lib/libzamgyorud.a -o target/lib/capi_test
+	@target/lib/capi_test

@@ -167,11 +167,3 @@ pub fn holder(image: &[u8], name: &[u8]) -> u32
     let start = WORD_BYTES * n;
     ex_holder(&buffer[..n], &image[start..], name)
 }
-
-// What the C takeover program calls.
-#[no_mangle]
-pub extern "C" fn zamgyorud_holder(image: &[u8], name: &[u8]) -> u32
-    ensures { λ r. ⌜ r ≡ holder-entry (now (image .entry)) (now (name .entry)) ⌝ }
-{
-    holder(image, name)
-}

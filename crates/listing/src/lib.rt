@@ -14,7 +14,7 @@ pub enum Listed {
 }
 
 // Why a listing is turned down, or 0.
-fn list_refusal(words: &[u32], slots: &[u8], client: u32, k: u32) -> u32
+pub fn list_refusal(words: &[u32], slots: &[u8], client: u32, k: u32) -> u32
     ensures { λ x. ⌜ x ≡ list-refusal (now (words .entry)) (now (slots .entry)) client k ⌝ }
 {
     if !soundness::sound(words, slots) {
@@ -24,7 +24,7 @@ fn list_refusal(words: &[u32], slots: &[u8], client: u32, k: u32) -> u32
 }
 
 // The resource of lock k.
-fn resource_of(words: &[u32], k: u32) -> u32
+pub fn resource_of(words: &[u32], k: u32) -> u32
     requires { ⌜ Some (Queued k) (now words) ⌝ }
     ensures { λ x. ⌜ Tells (Queued k) (resource-of k) (now (words .entry)) x ⌝ }
 {
@@ -32,7 +32,7 @@ fn resource_of(words: &[u32], k: u32) -> u32
 }
 
 // What a listing says of lock k.
-fn entry_of(words: &[u32], k: u32) -> LockEntry
+pub fn entry_of(words: &[u32], k: u32) -> LockEntry
     requires { ⌜ Some (Queued k) (now words) ⌝ }
     ensures { λ x. ⌜ Tells (Queued k) (entry-of k) (now (words .entry)) x ⌝ }
 {
@@ -47,7 +47,7 @@ fn entry_of(words: &[u32], k: u32) -> LockEntry
 }
 
 // As many of the locks as fit into the room.
-fn fitting(count: u32, room: usize) -> usize
+pub fn fitting(count: u32, room: usize) -> usize
     ensures { λ x. ⌜ x ≡ fitting count room ⌝ }
 {
     let all = count as usize;

@@ -1,6 +1,6 @@
 use borrow.Author.Needs.{needs}
-use Rattle.image.proofs.zamgyorud_holder.Statement.{statement}
-use Rattle.image.proofs.zamgyorud_holder.Tie as tie
+use Rattle.capi.proofs.zamgyorud_holder.Statement.{statement}
+use Rattle.capi.proofs.zamgyorud_holder.Tie as tie
 
 holder-requires : tie.Need-holder-requires
 holder-requires c κs = search needs
