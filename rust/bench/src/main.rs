@@ -1,0 +1,59 @@
+//! Times the library against `flat` and writes docs/BENCHMARKS.md and docs/benchmarks.svg.
+#![forbid(unsafe_code)]
+
+mod call;
+mod fill;
+mod measure;
+mod report;
+mod rows;
+mod svg;
+
+use crate::measure::{Effort, measure};
+use crate::report::Results;
+use crate::rows::ROWS;
+use std::path::{Path, PathBuf};
+use std::process::ExitCode;
+use std::time::Duration;
+
+const USAGE: &str = "usage: bench [--quick] [--out FOLDER]   (FOLDER is the repository's docs unless given)";
+
+/// Enough for steady medians, and for a look.
+const THOROUGH: Effort = Effort { time: Duration::from_millis(150), most_turns: 201 };
+const QUICK: Effort = Effort { time: Duration::from_millis(10), most_turns: 25 };
+
+fn main() -> ExitCode {
+    let mut effort = THOROUGH;
+    let mut folder = PathBuf::from(concat!(env!("CARGO_MANIFEST_DIR"), "/../../docs"));
+    let mut arguments = std::env::args().skip(1);
+    while let Some(argument) = arguments.next() {
+        match (argument.as_str(), arguments.len()) {
+            ("--quick", _) => effort = QUICK,
+            ("--out", 1..) => folder = arguments.next().unwrap_or_default().into(),
+            _ => {
+                eprintln!("{USAGE}");
+                return ExitCode::from(2);
+            }
+        }
+    }
+    match run(effort, &folder) {
+        Ok(()) => ExitCode::SUCCESS,
+        Err(error) => {
+            eprintln!("{}: {error}", folder.display());
+            ExitCode::FAILURE
+        }
+    }
+}
+
+fn run(effort: Effort, folder: &Path) -> std::io::Result<()> {
+    std::fs::create_dir_all(folder)?;
+    let results = Results::all(|row, size, fill| {
+        if row == 0 {
+            eprintln!("R {}, L {}, {}", size.resources, size.locks, fill.title());
+        }
+        measure(&ROWS[row], size, fill, effort)
+    });
+    std::fs::write(folder.join("BENCHMARKS.md"), report::page(&results))?;
+    std::fs::write(folder.join("benchmarks.svg"), svg::plot(&results))?;
+    println!("wrote BENCHMARKS.md and benchmarks.svg to {}", folder.display());
+    Ok(())
+}

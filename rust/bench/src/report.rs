@@ -1,0 +1,144 @@
+//! The results as Markdown tables.
+
+use crate::fill::{Fill, SIZES, Size};
+use crate::measure::{Cell, median};
+use crate::rows::{ROWS, SOUND};
+use std::fmt::Write;
+
+/// All cells, by size, filling and row.
+pub struct Results {
+    cells: Vec<((usize, usize, usize), Cell)>,
+}
+
+impl Results {
+    /// Measures all of them by a function of row, size and filling.
+    pub fn all(mut measure: impl FnMut(usize, Size, Fill) -> Cell) -> Results {
+        let mut cells = Vec::new();
+        for (at_size, size) in SIZES.iter().enumerate() {
+            for (at_fill, fill) in Fill::ALL.iter().enumerate() {
+                cells.extend((0..ROWS.len()).map(|row| ((at_size, at_fill, row), measure(row, *size, *fill))));
+            }
+        }
+        Results { cells }
+    }
+
+    pub fn cell(&self, size: usize, fill: Fill, row: usize) -> Cell {
+        let at_fill = Fill::ALL.iter().position(|other| *other == fill).expect("a filling");
+        self.cells.iter().find(|(key, _)| *key == (size, at_fill, row)).expect("all are measured").1
+    }
+
+    pub fn row(title: &str) -> usize {
+        ROWS.iter().position(|row| row.title == title).expect("a row")
+    }
+
+    /// The middle of the ratios of all cells.
+    fn middle_ratio(&self) -> f64 {
+        median(self.cells.iter().map(|(_, cell)| cell.ratio))
+    }
+}
+
+/// A time as a person reads it.
+pub fn time(nanoseconds: f64) -> String {
+    match nanoseconds {
+        n if n < 1e4 => format!("{n:.0} ns"),
+        n if n < 1e7 => format!("{:.1} µs", n / 1e3),
+        n => format!("{:.1} ms", n / 1e6),
+    }
+}
+
+/// What machine this is, if it says.
+fn machine() -> String {
+    let information = std::fs::read_to_string("/proc/cpuinfo").unwrap_or_default();
+    let models: Vec<&str> = information.lines().filter_map(|line| line.strip_prefix("model name")).collect();
+    let model = models.first().and_then(|line| line.split_once(':')).map_or("an unknown processor", |(_, model)| model.trim());
+    format!("{model}, {} of its cores", models.len())
+}
+
+/// The whole page.
+pub fn page(results: &Results) -> String {
+    let mut page = String::new();
+    introduction(&mut page, results);
+    for (at, size) in SIZES.iter().enumerate() {
+        size_table(&mut page, results, at, *size);
+    }
+    share_table(&mut page, results);
+    growth_table(&mut page, results);
+    page
+}
+
+fn introduction(page: &mut String, results: &Results) {
+    let _ = write!(
+        page,
+        "# Benchmarks\n\n\
+         Made by `rust/bench`; not to be edited by hand. The library is compared with `rust/flat`, a plain Rust manager written for speed that \
+         works on the same tables and checks their soundness first in each call, as the library does. Both get the same calls on copies of the \
+         same tables, by turns in one run. Times are medians in each call; a ratio is the middle one of the turns' own ratios, library over \
+         flat, and is what counts: the times themselves depend on the machine ({}), which other programs share.\n\n\
+         Names have 48 bytes and differ in the last eight only. \"Empty\" tables have no locks but those that the call needs; \"full\" ones leave \
+         three locks and two resources free for it; in \"full, one name\" all locks stand on one resource, half of them granted, an eighth \
+         converting, the others waiting. \"Break, no deadlock\" searches from every blocked lock in vain. The mixed list is 64 calls one after the \
+         other on the same tables: requests, conversions, releases, and a few cancels, polls and reads.\n\n\
+         The middle of all ratios is **{:.2}**.\n\n\
+         ![Ratios and growth](benchmarks.svg)\n",
+        machine(),
+        results.middle_ratio()
+    );
+}
+
+fn size_table(page: &mut String, results: &Results, at: usize, size: Size) {
+    let _ = write!(page, "\n## R {}, L {}\n\n| entry |", size.resources, size.locks);
+    for fill in Fill::ALL {
+        let _ = write!(page, " {}: library | flat | ratio |", fill.title());
+    }
+    let _ = write!(page, "\n|---|{}\n", "--:|--:|--:|".repeat(Fill::ALL.len()));
+    for (row, spec) in ROWS.iter().enumerate() {
+        let _ = write!(page, "| {} |", spec.title);
+        for fill in Fill::ALL {
+            let cell = results.cell(at, fill, row);
+            let _ = write!(page, " {} | {} | {:.2} |", time(cell.library), time(cell.flat), cell.ratio);
+        }
+        page.push('\n');
+    }
+}
+
+/// How much of a call is the check of the tables.
+fn share_table(page: &mut String, results: &Results) {
+    page.push_str(
+        "\n## Share of the soundness check\n\n\
+         `zamgyorud_sound` timed alone, as a part of the library's call (in brackets the same for flat). Start doesn't check; load and holder \
+         check an image. Above 100 % is noise, or a check that was quicker alone.\n\n| entry |",
+    );
+    for size in SIZES {
+        let _ = write!(page, " R {}, L {}, full |", size.resources, size.locks);
+    }
+    let _ = write!(page, " R 256, L 1024, one name |\n|---|{}\n", "--:|".repeat(SIZES.len() + 1));
+    let sound = Results::row(SOUND);
+    let share = |size: usize, fill: Fill, row: usize| {
+        let (alone, call) = (results.cell(size, fill, sound), results.cell(size, fill, row));
+        format!(" {:.0} % ({:.0} %) |", 100.0 * alone.library / call.library, 100.0 * alone.flat / call.flat)
+    };
+    for (row, spec) in ROWS.iter().enumerate().filter(|(row, spec)| *row != sound && spec.title != "start") {
+        let columns: String = (0..SIZES.len()).map(|size| share(size, Fill::Full, row)).collect();
+        let _ = writeln!(page, "| {} |{columns}{}", spec.title, share(SIZES.len() - 1, Fill::Deep, row));
+    }
+}
+
+/// How times grow from one size to the next.
+fn growth_table(page: &mut String, results: &Results) {
+    page.push_str(
+        "\n## Growth with R and L\n\n\
+         How many times longer a call takes on full tables of the next size: from R 4, L 8 to R 64, L 256 the tables become about 30 times as \
+         large, from there to R 256, L 1024 four times.\n\n\
+         | entry | library, to 64, 256 | to 256, 1024 | flat, to 64, 256 | to 256, 1024 | one name: library, to 64, 256 | to 256, 1024 |\n\
+         |---|--:|--:|--:|--:|--:|--:|\n",
+    );
+    for (row, spec) in ROWS.iter().enumerate() {
+        let grown = |fill: Fill, of: fn(Cell) -> f64| {
+            let times: Vec<f64> = (0..SIZES.len()).map(|size| of(results.cell(size, fill, row))).collect();
+            format!(" {:.1} | {:.1} |", times[1] / times[0], times[2] / times[1])
+        };
+        let library: fn(Cell) -> f64 = |cell| cell.library;
+        let flat: fn(Cell) -> f64 = |cell| cell.flat;
+        let _ = writeln!(page, "| {} |{}{}{}", spec.title, grown(Fill::Full, library), grown(Fill::Full, flat), grown(Fill::Deep, library));
+    }
+}

@@ -1,0 +1,413 @@
+//! Noteworthy branches: what a call met and did, told from the states before and after it.
+
+use crate::call::Call;
+use model::{Lock, Mode, Resource, Standing, State, Unread};
+
+macro_rules! events {
+    ($($name:ident = $label:literal,)*) => {
+        /// Something that must occur at least once.
+        #[derive(Clone, Copy, Debug, PartialEq, Eq, PartialOrd, Ord)]
+        pub enum Event { $($name,)* }
+
+        impl Event {
+            pub const ALL: &'static [Event] = &[$(Event::$name,)*];
+
+            pub fn label(self) -> &'static str {
+                match self { $(Event::$name => $label,)* }
+            }
+        }
+    };
+}
+
+events! {
+    SmallestTables = "start with R 1, L 1",
+    LargestTables = "a call on tables of R 256, L 1024",
+    LargestTablesFull = "a call on tables of R 256, L 1024 with no free lock",
+    NewName = "request: new name takes a resource",
+    NewNameNoLock = "request: new name, a resource is free, no lock is: 12",
+    GrantedBeside = "request: granted beside other holders",
+    GrantedPastWaiters = "request: granted although others wait",
+    NlBesideEx = "request: NL granted beside EX",
+    WaitsIncompatible = "request: waits for a held mode",
+    WaitsForConversion = "request: compatible, waits behind a conversion",
+    DontQueueGranted = "request: flag 4 and granted",
+    DontQueueNoLock = "request: flag 4 would block, no lock free: 12 before 13",
+    NoResourceNoLock = "request: neither resource nor lock free: 11 before 12",
+    LongestName = "request: name of 64 bytes",
+    NameEndsInZero = "request: name that ends in a zero byte",
+    DeepWaitQueue = "request: eighth or later in a wait queue",
+    ConvertSame = "convert: to the same mode",
+    ConvertDownPastQueue = "convert: down in place past a convert queue",
+    ConvertDownSweeps = "convert: down, the sweep grants",
+    ConvertDownSweepsMany = "convert: down, the sweep grants three or more",
+    ConvertDownSweepsBoth = "convert: down, the sweep grants from both queues",
+    ConvertUpInPlace = "convert: not down, in place",
+    ConvertUpSweeps = "convert: not down, in place, the sweep grants",
+    ConvertPrCwInPlace = "convert: PR to CW or back in place",
+    ConvertPrCwQueued = "convert: PR to CW or back queued",
+    ConvertOwnMode = "convert: its own held mode, incompatible, doesn't hold it up",
+    ConvertQueuedIncompatible = "convert: queued for a held mode",
+    ConvertQueuedBehind = "convert: compatible, queued behind a conversion",
+    ConvertDeepQueue = "convert: fourth or later in a convert queue",
+    ConvertDontQueueGranted = "convert: flag 4 and granted",
+    ConvertStores = "convert: flag 1 stores the value",
+    ConvertStoresValid = "convert: flag 1 makes a value valid again",
+    ConvertInvalidates = "convert: flag 2 makes the value not valid",
+    ConvertFlagLowMode = "convert: flag 1 or 2 ignored from below PW",
+    ConvertFlagNotSmaller = "convert: flag 1 or 2 ignored from PW or EX, not to a smaller mode",
+    ConvertFlagQueued = "convert: flag 1 or 2 ignored where it is queued",
+    ReleaseFreesResource = "release: frees the resource",
+    ReleaseFirst = "release: first of several granted",
+    ReleaseMiddle = "release: between others granted",
+    ReleaseLast = "release: last of several granted",
+    ReleaseSweeps = "release: the sweep grants",
+    ReleaseSweepsMany = "release: the sweep grants three or more",
+    ReleaseSweepsBoth = "release: the sweep grants from both queues",
+    ReleaseSweepStops = "release: the sweep grants and stops at a head",
+    ReleaseMovesNothing = "release: blocked locks stay blocked",
+    ReleaseStores = "release: flag 1 stores the value",
+    ReleaseStoresEmptied = "release: flag 1 where the resource is freed",
+    ReleaseInvalidates = "release: flag 2 makes the value not valid",
+    ReleaseFlagLowMode = "release: flag 1 or 2 ignored from below PW",
+    CancelConvertHead = "cancel: the convert head",
+    CancelConvertBehind = "cancel: a conversion behind others",
+    CancelConvertSweeps = "cancel: a conversion, the sweep grants",
+    CancelWaitHead = "cancel: the wait head",
+    CancelWaitBehind = "cancel: a request behind others",
+    CancelWaitSweeps = "cancel: a request, the sweep grants",
+    PurgeMany = "purge: five or more locks",
+    PurgeDenied = "purge: a denied lock",
+    PurgeUnread = "purge: a granted lock with a completion unread",
+    PurgeBlocked = "purge: a blocked lock",
+    PurgeInvalidates = "purge: a value becomes not valid",
+    PurgeReaderKeepsValid = "purge: a value stays valid after a holder below PW",
+    PurgeFreesResources = "purge: frees two or more resources",
+    PurgeSweeps = "purge: a sweep grants",
+    PurgeSweepsTwo = "purge: sweeps grant on two or more resources",
+    BreakNoneBlocked = "break: no lock is blocked",
+    BreakNoDeadlock = "break: locks are blocked, no deadlock",
+    BreakRequest = "break: denies a request",
+    BreakConversion = "break: denies a conversion",
+    BreakSelf = "break: a lock leads to itself at once",
+    BreakInTwo = "break: a cycle of two steps",
+    BreakInMore = "break: a cycle of three or more steps",
+    BreakTwoResources = "break: a cycle over two resources",
+    BreakMoreResources = "break: a cycle over three or more resources",
+    BreakConversionsOnly = "break: a cycle of conversions on one resource",
+    BreakNotFirst = "break: an earlier blocked lock isn't on a cycle",
+    BreakBehindCycle = "break: an earlier blocked lock leads to the cycle and isn't on it",
+    BreakSweeps = "break: the sweep grants",
+    BreakAgain = "break: a deadlock remains",
+    PollOthers = "poll: only others have notices",
+    PollNotFirst = "poll: a notice behind others'",
+    PollFreesBetween = "poll: a denied lock between other denied ones",
+    ReadNotValid = "read: not valid",
+    ReadStored = "read: a stored value",
+    ReadConverting = "read: by a converting lock",
+    ReadUnread = "read: by a lock with a completion unread",
+    ReadLittleRoom = "read: less than 32 bytes of room",
+    ListCutShort = "list: more locks than fit",
+    ListNoRoom = "list: no room",
+    ListRoomLeft = "list: room left over",
+    ListAllQueues = "list: locks in all three queues",
+    LoadOtherSizes = "load: accepted with other sizes",
+    HolderConverting = "holder: a converting lock holds EX",
+    HolderNobody = "holder: known name, nobody holds EX",
+    HolderUnknown = "holder: unknown name",
+    ImageSound = "an image of sound tables",
+    ImageOfRandomState = "an image of a random sound state",
+    ImageOfWrongLength = "an image of a wrong length",
+    DamageOfNothing = "a change that changes nothing",
+    SoundDamageAccepted = "damaged tables still sound, call accepted",
+    SoundDamageRefused = "damaged tables still sound, call refused",
+    FewerThanEightWords = "fewer than eight words",
+}
+
+/// What was noteworthy about a call.
+pub fn events(before: &State, call: &Call, answer: u64, refused: Option<u32>, after: &State) -> Vec<Event> {
+    let mut found = Vec::new();
+    let notes = Notes { before, after, answer };
+    match (call, refused) {
+        (Call::Request { flags, name, .. }, Some(number)) => notes.refused_request(number, *flags, name, &mut found),
+        (_, Some(_)) => {}
+        (Call::Start { resources: 1, locks: 1, .. }, None) => found.push(Event::SmallestTables),
+        (Call::Request { mode, flags, name, .. }, None) => notes.request(*mode, *flags, name, &mut found),
+        (Call::Convert { lock, mode, flags, .. }, None) => notes.convert(*lock, *mode, *flags, &mut found),
+        (Call::Release { lock, flags, .. }, None) => notes.release(*lock, *flags, &mut found),
+        (Call::Cancel { lock, .. }, None) => notes.cancel(*lock, &mut found),
+        (Call::Purge { client }, None) => notes.purge(*client, &mut found),
+        (Call::Break, None) => notes.break_deadlock(&mut found),
+        (Call::Poll { .. }, None) => notes.poll(&mut found),
+        (Call::Read { lock, room, .. }, None) => notes.read(*lock, *room, &mut found),
+        (Call::List { lock, room, .. }, None) => notes.list(*lock, *room, &mut found),
+        (Call::Load { .. }, None) if before.most_locks != after.most_locks => found.push(Event::LoadOtherSizes),
+        (Call::Holder { image: crate::call::Image::OfTables { changes, .. }, name }, None) if changes.is_empty() => {
+            notes.holder(name, &mut found);
+        }
+        _ => {}
+    }
+    if (before.most_resources, before.most_locks) == (256, 1024) {
+        found.push(Event::LargestTables);
+        found.extend(before.free_locks.is_empty().then_some(Event::LargestTablesFull));
+    }
+    found
+}
+
+struct Notes<'a> {
+    before: &'a State,
+    after: &'a State,
+    answer: u64,
+}
+
+/// Adds an event if something is so.
+fn note(found: &mut Vec<Event>, so: bool, event: Event) {
+    if so {
+        found.push(event);
+    }
+}
+
+impl Notes<'_> {
+    fn was(&self, lock: u32) -> &Lock {
+        &self.before.locks[&lock]
+    }
+
+    /// The resource that a lock stood on before the call.
+    fn queues(&self, lock: u32) -> (u32, &Resource) {
+        let number = self.was(lock).resource().expect("not a denied lock");
+        (number, &self.before.resources[&number])
+    }
+
+    /// The locks that sweeps granted.
+    fn swept(&self) -> Vec<u32> {
+        let granted = |lock: &Lock| matches!(lock.standing, Standing::Granted { unread: Some(Unread::Granted), .. });
+        let now = |lock: &u32| self.after.locks.get(lock).is_some_and(granted);
+        self.before.blocked.iter().copied().filter(now).collect()
+    }
+
+    /// Notes that a sweep granted, granted three or more, or from both queues.
+    fn sweep(&self, found: &mut Vec<Event>, [some, many, both]: [Event; 3]) {
+        let swept = self.swept();
+        let converting = swept.iter().filter(|lock| self.was(**lock).held().is_some()).count();
+        note(found, !swept.is_empty(), some);
+        note(found, swept.len() >= 3, many);
+        note(found, converting > 0 && converting < swept.len(), both);
+    }
+
+    fn refused_request(&self, number: u32, flags: u32, name: &[u8], found: &mut Vec<Event>) {
+        let known = self.before.named(name);
+        let no_lock = self.before.free_locks.is_empty();
+        note(found, number == 12 && known.is_none(), Event::NewNameNoLock);
+        note(found, number == 11 && no_lock, Event::NoResourceNoLock);
+        let would_block = known.is_some_and(|resource| !self.before.fits(resource, Mode::Ex, 0));
+        note(found, number == 12 && flags == 4 && would_block, Event::DontQueueNoLock);
+    }
+
+    fn request(&self, mode: u32, flags: u32, name: &[u8], found: &mut Vec<Event>) {
+        note(found, name.len() == 64, Event::LongestName);
+        note(found, name.last() == Some(&0), Event::NameEndsInZero);
+        let granted = self.answer >> 32 == 1;
+        note(found, granted && flags == 4, Event::DontQueueGranted);
+        let Some(resource) = self.before.named(name) else {
+            return found.push(Event::NewName);
+        };
+        let queues = &self.before.resources[&resource];
+        let fits = Mode::from_number(mode).is_some_and(|mode| self.before.fits(resource, mode, 0));
+        let ex_held = !self.before.fits(resource, Mode::Cr, 0);
+        note(found, granted, Event::GrantedBeside);
+        note(found, granted && !queues.waiting.is_empty(), Event::GrantedPastWaiters);
+        note(found, granted && mode == 0 && ex_held, Event::NlBesideEx);
+        note(found, !granted && !fits, Event::WaitsIncompatible);
+        note(found, !granted && fits, Event::WaitsForConversion);
+        note(found, !granted && queues.waiting.len() >= 7, Event::DeepWaitQueue);
+    }
+
+    fn convert(&self, lock: u32, mode: u32, flags: u32, found: &mut Vec<Event>) {
+        let (resource, queues) = self.queues(lock);
+        let (Some(old), Some(new)) = (self.was(lock).held(), Mode::from_number(mode)) else {
+            return;
+        };
+        let down = old.down_to(new);
+        let granted = self.answer == 1;
+        let between_pr_and_cw = matches!((old, new), (Mode::Pr, Mode::Cw) | (Mode::Cw, Mode::Pr));
+        note(found, old == new, Event::ConvertSame);
+        note(found, down && old != new && !queues.converting.is_empty(), Event::ConvertDownPastQueue);
+        note(found, granted && flags & 4 != 0, Event::ConvertDontQueueGranted);
+        if down {
+            self.sweep(found, [Event::ConvertDownSweeps, Event::ConvertDownSweepsMany, Event::ConvertDownSweepsBoth]);
+        } else if granted {
+            note(found, true, Event::ConvertUpInPlace);
+            note(found, !self.swept().is_empty(), Event::ConvertUpSweeps);
+            note(found, between_pr_and_cw, Event::ConvertPrCwInPlace);
+            note(found, !old.compatible(new), Event::ConvertOwnMode);
+        } else {
+            let fits = self.before.fits(resource, new, lock);
+            note(found, between_pr_and_cw, Event::ConvertPrCwQueued);
+            note(found, !fits, Event::ConvertQueuedIncompatible);
+            note(found, fits, Event::ConvertQueuedBehind);
+            note(found, queues.converting.len() >= 3, Event::ConvertDeepQueue);
+        }
+        self.convert_flags(lock, new, flags, found);
+    }
+
+    fn convert_flags(&self, lock: u32, new: Mode, flags: u32, found: &mut Vec<Event>) {
+        let (_, queues) = self.queues(lock);
+        let Some(old) = self.was(lock).held() else { return };
+        let acts = old.writes_value() && new < old;
+        let set = flags & 3 != 0;
+        note(found, acts && flags & 1 != 0, Event::ConvertStores);
+        note(found, acts && flags & 1 != 0 && !queues.valid, Event::ConvertStoresValid);
+        note(found, acts && flags & 2 != 0 && queues.valid, Event::ConvertInvalidates);
+        note(found, set && !old.writes_value(), Event::ConvertFlagLowMode);
+        note(found, set && old.writes_value() && !acts, Event::ConvertFlagNotSmaller);
+        note(found, set && self.answer == 2, Event::ConvertFlagQueued);
+    }
+
+    fn release(&self, lock: u32, flags: u32, found: &mut Vec<Event>) {
+        let (resource, queues) = self.queues(lock);
+        let emptied = !self.after.resources.contains_key(&resource);
+        let place = queues.granted.iter().position(|other| *other == lock);
+        let last = queues.granted.len() - 1;
+        note(found, emptied, Event::ReleaseFreesResource);
+        note(found, last > 0 && place == Some(0), Event::ReleaseFirst);
+        note(found, place.is_some_and(|place| place > 0 && place < last), Event::ReleaseMiddle);
+        note(found, last > 0 && place == Some(last), Event::ReleaseLast);
+        self.sweep(found, [Event::ReleaseSweeps, Event::ReleaseSweepsMany, Event::ReleaseSweepsBoth]);
+        let still_blocked = self.after.resources.get(&resource).is_some_and(|r| r.converting.len() + r.waiting.len() > 0);
+        note(found, still_blocked && !self.swept().is_empty(), Event::ReleaseSweepStops);
+        note(found, still_blocked && self.swept().is_empty(), Event::ReleaseMovesNothing);
+        let writer = self.was(lock).held().is_some_and(Mode::writes_value);
+        note(found, writer && flags == 1 && !emptied, Event::ReleaseStores);
+        note(found, writer && flags == 1 && emptied, Event::ReleaseStoresEmptied);
+        note(found, writer && flags == 2 && !emptied && queues.valid, Event::ReleaseInvalidates);
+        note(found, !writer && flags != 0, Event::ReleaseFlagLowMode);
+    }
+
+    fn cancel(&self, lock: u32, found: &mut Vec<Event>) {
+        let (_, queues) = self.queues(lock);
+        let swept = !self.swept().is_empty();
+        let first = [queues.converting.front(), queues.waiting.front()].contains(&Some(&lock));
+        let (head, behind, sweeps) = if self.was(lock).held().is_some() {
+            (Event::CancelConvertHead, Event::CancelConvertBehind, Event::CancelConvertSweeps)
+        } else {
+            (Event::CancelWaitHead, Event::CancelWaitBehind, Event::CancelWaitSweeps)
+        };
+        note(found, first, head);
+        note(found, !first, behind);
+        note(found, swept, sweeps);
+    }
+
+    fn purge(&self, client: u32, found: &mut Vec<Event>) {
+        let its: Vec<&Lock> = self.before.locks.values().filter(|lock| u32::from(lock.client) == client).collect();
+        note(found, self.answer >= 5, Event::PurgeMany);
+        note(found, its.iter().any(|lock| lock.standing == Standing::Denied), Event::PurgeDenied);
+        note(found, its.iter().any(|lock| lock.held().is_some() && lock.completion() != 0), Event::PurgeUnread);
+        note(found, its.iter().any(|lock| lock.blocked()), Event::PurgeBlocked);
+        let valid_before = |number: u32| self.before.resources.get(&number).is_some_and(|resource| resource.valid);
+        let valid_after = |number: u32| self.after.resources.get(&number).map(|resource| resource.valid);
+        let stood_on: Vec<u32> = its.iter().filter_map(|lock| lock.resource()).collect();
+        note(found, stood_on.iter().any(|r| valid_before(*r) && valid_after(*r) == Some(false)), Event::PurgeInvalidates);
+        let low = its.iter().filter(|lock| lock.held().is_some_and(|held| !held.writes_value())).filter_map(|lock| lock.resource());
+        note(found, low.clone().any(|r| valid_after(r) == Some(true)), Event::PurgeReaderKeepsValid);
+        note(found, self.before.resources.len() >= self.after.resources.len() + 2, Event::PurgeFreesResources);
+        let mut swept: Vec<Option<u32>> = self.swept().iter().map(|lock| self.was(*lock).resource()).collect();
+        swept.sort();
+        swept.dedup();
+        note(found, !swept.is_empty(), Event::PurgeSweeps);
+        note(found, swept.len() >= 2, Event::PurgeSweepsTwo);
+    }
+
+    fn break_deadlock(&self, found: &mut Vec<Event>) {
+        let denied = self.answer as u32;
+        if denied == 0 {
+            let none = self.before.blocked.is_empty();
+            return found.push(if none { Event::BreakNoneBlocked } else { Event::BreakNoDeadlock });
+        }
+        let converting = self.was(denied).held().is_some();
+        note(found, true, if converting { Event::BreakConversion } else { Event::BreakRequest });
+        note(found, self.before.blocked.front() != Some(&denied), Event::BreakNotFirst);
+        note(found, !self.swept().is_empty(), Event::BreakSweeps);
+        // The rest asks the model again and again, so only for few locks.
+        if self.before.blocked.len() <= 24 {
+            self.cycle(denied, found);
+            note(found, self.after.clone().break_deadlock() != 0, Event::BreakAgain);
+        }
+    }
+
+    /// What the shortest way from a lock back to itself is like.
+    fn cycle(&self, denied: u32, found: &mut Vec<Event>) {
+        let way = self.way(denied, denied);
+        let mut resources: Vec<Option<u32>> = way.iter().map(|lock| self.was(*lock).resource()).collect();
+        resources.sort();
+        resources.dedup();
+        let all_convert = way.iter().all(|lock| self.was(*lock).held().is_some());
+        note(found, way.len() == 1, Event::BreakSelf);
+        note(found, way.len() == 2, Event::BreakInTwo);
+        note(found, way.len() >= 3, Event::BreakInMore);
+        note(found, resources.len() == 2, Event::BreakTwoResources);
+        note(found, resources.len() >= 3, Event::BreakMoreResources);
+        note(found, way.len() >= 2 && all_convert && resources.len() == 1, Event::BreakConversionsOnly);
+        let mut earlier = self.before.blocked.iter().take_while(|lock| **lock != denied);
+        note(found, earlier.any(|lock| !self.way(*lock, denied).is_empty()), Event::BreakBehindCycle);
+    }
+
+    /// A shortest way of one or more steps from one blocked lock to another: the locks stepped to. Empty if there is none.
+    fn way(&self, from: u32, to: u32) -> Vec<u32> {
+        let mut ways: Vec<Vec<u32>> = vec![Vec::new()];
+        let mut met = Vec::new();
+        while !ways.is_empty() {
+            let mut longer = Vec::new();
+            for way in ways {
+                let at = way.last().copied().unwrap_or(from);
+                for next in self.before.blocked.iter().filter(|next| self.before.leads_in_one_step(at, **next)) {
+                    let on = [way.clone(), vec![*next]].concat();
+                    if *next == to {
+                        return on;
+                    }
+                    if !met.contains(next) {
+                        met.push(*next);
+                        longer.push(on);
+                    }
+                }
+            }
+            ways = longer;
+        }
+        Vec::new()
+    }
+
+    fn poll(&self, found: &mut Vec<Event>) {
+        let lock = self.answer as u32;
+        note(found, lock == 0 && !self.before.notices.is_empty(), Event::PollOthers);
+        note(found, lock != 0 && self.before.notices.front() != Some(&lock), Event::PollNotFirst);
+        let place = self.before.denied.iter().position(|other| *other == lock);
+        let between = place.is_some_and(|place| place > 0 && place + 1 < self.before.denied.len());
+        note(found, between, Event::PollFreesBetween);
+    }
+
+    fn read(&self, lock: u32, room: usize, found: &mut Vec<Event>) {
+        let (_, queues) = self.queues(lock);
+        note(found, !queues.valid, Event::ReadNotValid);
+        note(found, queues.value != [0; 32], Event::ReadStored);
+        note(found, self.was(lock).blocked(), Event::ReadConverting);
+        note(found, self.was(lock).completion() != 0, Event::ReadUnread);
+        note(found, room < 32, Event::ReadLittleRoom);
+    }
+
+    fn list(&self, lock: u32, room: usize, found: &mut Vec<Event>) {
+        let (_, queues) = self.queues(lock);
+        let count = queues.locks().count();
+        note(found, room / 5 > 0 && room / 5 < count, Event::ListCutShort);
+        note(found, room == 0, Event::ListNoRoom);
+        note(found, room / 5 > count, Event::ListRoomLeft);
+        let all = !queues.granted.is_empty() && !queues.converting.is_empty() && !queues.waiting.is_empty();
+        note(found, all && room / 5 >= count, Event::ListAllQueues);
+    }
+
+    fn holder(&self, name: &[u8], found: &mut Vec<Event>) {
+        let Some(resource) = self.before.named(name) else {
+            return found.push(Event::HolderUnknown);
+        };
+        let mut converting = self.before.resources[&resource].converting.iter();
+        note(found, self.answer == 0, Event::HolderNobody);
+        note(found, converting.any(|lock| self.was(*lock).held() == Some(Mode::Ex)), Event::HolderConverting);
+    }
+}

@@ -1,0 +1,422 @@
+//! Games: seeded lists of calls, skewed so that queues grow deep, conversions meet, deadlocks close and every refusal comes.
+
+use crate::call::{Call, Image};
+use crate::damage::Damager;
+use crate::manager::Tables;
+use crate::rng::Rng;
+use crate::states::{Filling, random};
+use model::{Lock, State};
+
+/// What a game's next call may be, with how often it comes. A game multiplies these by numbers of its own.
+const ACTIONS: [(Action, usize); 15] = [
+    (Action::Request, 30),
+    (Action::Convert, 24),
+    (Action::Release, 13),
+    (Action::Cancel, 6),
+    (Action::Purge, 2),
+    (Action::Break, 6),
+    (Action::Poll, 16),
+    (Action::Read, 3),
+    (Action::List, 3),
+    (Action::Image, 2),
+    (Action::Load, 3),
+    (Action::Holder, 3),
+    (Action::Sound, 1),
+    (Action::Start, 1),
+    (Action::Damaged, 10),
+];
+
+#[derive(Clone, Copy, PartialEq, Eq)]
+enum Action {
+    Request,
+    Convert,
+    Release,
+    Cancel,
+    Purge,
+    Break,
+    Poll,
+    Read,
+    List,
+    Image,
+    Load,
+    Holder,
+    Sound,
+    Start,
+    Damaged,
+}
+
+/// How often each mode is asked for, in different kinds of games.
+const MODES: [[usize; 6]; 6] =
+    [[1, 1, 1, 1, 1, 1], [1, 1, 1, 1, 4, 8], [1, 2, 1, 8, 1, 2], [6, 1, 1, 2, 2, 4], [1, 1, 6, 6, 1, 1], [2, 6, 2, 2, 6, 1]];
+
+/// The kinds of sizes: how often, the most resources and locks, and the most calls.
+const SIZES: [(usize, usize, usize, usize); 5] = [(5, 1, 1, 60), (43, 4, 8, 300), (32, 8, 32, 260), (14, 64, 256, 120), (6, 256, 1024, 60)];
+
+/// How often the actions come in games of other styles than the plain one.
+const RING: [usize; 15] = [60, 4, 2, 2, 1, 5, 12, 1, 1, 1, 1, 1, 1, 1, 3];
+const PILE: [usize; 15] = [50, 14, 10, 4, 1, 3, 16, 1, 1, 1, 1, 1, 1, 1, 3];
+
+/// What a game is out for.
+#[derive(Clone, Copy, PartialEq, Eq)]
+enum Style {
+    /// A bit of everything.
+    Plain,
+    /// Clients that hold each other up in rings: exclusive modes, each name once for each client, and few releases.
+    Ring,
+    /// Deep queues on one or two names, readers behind writers.
+    Pile,
+}
+
+pub struct Game {
+    rng: Rng,
+    resources: u32,
+    locks: u32,
+    clients: Vec<u32>,
+    names: Vec<Vec<u8>>,
+    modes: [usize; 6],
+    actions: Vec<usize>,
+    length: usize,
+    style: Style,
+    /// In how many of a hundred cases a field of the call being made is out of order.
+    wild: usize,
+}
+
+impl Game {
+    /// The game of a seed.
+    pub fn new(seed: u64) -> Game {
+        let mut rng = Rng::new(seed);
+        let (_, most_resources, most_locks, most_calls) = SIZES[rng.weighted(&SIZES.map(|(weight, ..)| weight))];
+        let (resources, locks) = sizes(&mut rng, most_resources, most_locks);
+        let clients = clients(&mut rng, locks);
+        let names = names(&mut rng, resources);
+        let style = [Style::Plain, Style::Ring, Style::Pile][rng.weighted(&[70, 15, 15])];
+        let modes = match style {
+            Style::Plain => *rng.pick(&MODES),
+            Style::Ring => [0, 0, 0, 1, 1, 9],
+            Style::Pile => [3, 4, 1, 9, 1, 3],
+        };
+        let often = match style {
+            Style::Plain => ACTIONS.map(|(_, often)| often),
+            Style::Ring => RING,
+            Style::Pile => PILE,
+        };
+        let actions = often.iter().map(|often| often * rng.between(1, 6)).collect();
+        let length = rng.between(most_calls / 3, most_calls);
+        Game { rng, resources, locks, clients, names, modes, actions, length, style, wild: 0 }
+    }
+
+    /// How many calls the game has.
+    pub fn length(&self) -> usize {
+        self.length
+    }
+
+    /// The first call: start, or the load of a random sound state.
+    pub fn opening(&mut self) -> Call {
+        let (resources, locks) = (self.resources, self.locks);
+        // Large tables are hardly ever filled by calls alone.
+        if self.rng.percent(if locks > 64 { 25 } else { 60 }) {
+            let (words, slots) = lengths(resources, locks);
+            return Call::Start { resources, locks, words, slots };
+        }
+        self.load_random(resources, locks)
+    }
+
+    /// A call for tables that have a state.
+    pub fn next(&mut self, tables: &Tables, state: &State) -> Call {
+        if self.rng.weighted(&self.actions) == ACTIONS.len() - 1 {
+            let changes = Damager { rng: &mut self.rng, tables, state }.changes();
+            let call = Box::new(self.plain(state, false));
+            return Call::Damaged { changes, call, stays: self.rng.percent(60) };
+        }
+        self.plain_or_tables(tables, state)
+    }
+
+    /// A call without damage before it; load and holder may damage their image.
+    fn plain_or_tables(&mut self, tables: &Tables, state: &State) -> Call {
+        match self.plain(state, true) {
+            Call::Load { image: Image::OfTables { longer_by, .. }, words, slots } if self.rng.percent(50) => {
+                let changes = Damager { rng: &mut self.rng, tables, state }.changes();
+                Call::Load { image: Image::OfTables { changes, longer_by }, words, slots }
+            }
+            Call::Holder { image: Image::OfTables { longer_by, .. }, name } if self.rng.percent(30) => {
+                let changes = Damager { rng: &mut self.rng, tables, state }.changes();
+                Call::Holder { image: Image::OfTables { changes, longer_by }, name }
+            }
+            call => call,
+        }
+    }
+
+    fn plain(&mut self, state: &State, may_replace: bool) -> Call {
+        self.wild = if self.rng.percent(88) { 1 } else { 35 };
+        loop {
+            let action = self.action(state);
+            if let Some(call) = self.make(action, state, may_replace) {
+                return call;
+            }
+        }
+    }
+
+    /// An action; requests come more often while few locks are in use.
+    fn action(&mut self, state: &State) -> Action {
+        let few = state.locks.len() < (state.most_locks as usize / 3).min(12);
+        if few && self.rng.percent(45) {
+            return Action::Request;
+        }
+        ACTIONS[self.rng.weighted(&self.actions)].0
+    }
+
+    /// A call of a kind; none if that kind can't be here.
+    fn make(&mut self, action: Action, state: &State, may_replace: bool) -> Option<Call> {
+        let call = match action {
+            Action::Request => self.request(state),
+            Action::Convert => {
+                let (client, lock) = self.lock(state, |lock| lock.state_number() == 1 && lock.completion() == 0);
+                let flags = self.flags(&[0, 0, 0, 1, 2, 4, 5, 6], 7);
+                Call::Convert { client, lock, mode: self.mode(), flags, value: self.value(flags) }
+            }
+            Action::Release => {
+                let (client, lock) = self.lock(state, |lock| lock.state_number() == 1 && lock.completion() == 0);
+                let flags = self.flags(&[0, 0, 1, 2], 3);
+                Call::Release { client, lock, flags, value: self.value(flags) }
+            }
+            Action::Cancel => {
+                let (client, lock) = self.lock(state, Lock::blocked);
+                Call::Cancel { client, lock }
+            }
+            Action::Purge => Call::Purge { client: self.client() },
+            Action::Break => Call::Break,
+            Action::Poll => Call::Poll { client: self.client_with_notice(state) },
+            Action::Read => {
+                let (client, lock) = self.lock(state, |lock| lock.held().is_some());
+                Call::Read { client, lock, room: *self.rng.pick(&[32, 32, 32, 0, 5, 31, 40]) }
+            }
+            Action::List => {
+                let (client, lock) = self.lock(state, |lock| lock.held().is_some());
+                Call::List { client, lock, room: self.list_room(state, lock) }
+            }
+            Action::Image => Call::Image { room: self.image_room(state) },
+            Action::Holder => Call::Holder { image: self.image(), name: self.name() },
+            Action::Sound => Call::Sound,
+            Action::Load if may_replace => self.load(state),
+            Action::Start if may_replace => self.start(),
+            Action::Load | Action::Start | Action::Damaged => return None,
+        };
+        Some(call)
+    }
+
+    fn request(&mut self, state: &State) -> Call {
+        let (mut client, mut name) = (self.client(), self.name());
+        // In a ring, a client asks for what it has no lock on, else it would mostly be in its own way.
+        let mut tries = if self.style == Style::Ring { 6 } else { 0 };
+        while tries > 0 && has_lock_on(state, client, &name) {
+            (client, name) = (self.client(), self.name());
+            tries -= 1;
+        }
+        Call::Request { client, mode: self.mode(), flags: self.flags(&[0, 0, 4], 4), name }
+    }
+
+    fn is_wild(&mut self) -> bool {
+        self.rng.percent(self.wild)
+    }
+
+    fn client(&mut self) -> u32 {
+        if self.is_wild() { *self.rng.pick(&[0, 256, 257, 1 << 16, u32::MAX]) } else { *self.rng.pick(&self.clients) }
+    }
+
+    fn client_with_notice(&mut self, state: &State) -> u32 {
+        if state.notices.is_empty() || self.rng.percent(25) {
+            return self.client();
+        }
+        let lock = state.notices[self.rng.below(state.notices.len().min(4))];
+        u32::from(state.locks[&lock].client)
+    }
+
+    fn mode(&mut self) -> u32 {
+        if self.is_wild() { *self.rng.pick(&[6, 7, 256, u32::MAX]) } else { self.rng.weighted(&self.modes) as u32 }
+    }
+
+    /// Flags among the usual ones, or any.
+    fn flags(&mut self, usual: &[u32], allowed: u32) -> u32 {
+        match self.is_wild() {
+            false => *self.rng.pick(usual),
+            true => match self.rng.below(4) {
+                0 => 3,
+                1 => allowed + 1,
+                2 => self.rng.below(9) as u32,
+                _ => self.rng.next() as u32,
+            },
+        }
+    }
+
+    /// A value for flags: 32 bytes if they store it, mostly.
+    fn value(&mut self, flags: u32) -> Vec<u8> {
+        let right = flags & 1 != 0 && !self.is_wild();
+        let length = if right { 32 } else { *self.rng.pick(&[0, 0, 31, 33, 32, 64]) };
+        self.rng.bytes(length)
+    }
+
+    /// A name in use in this game, the first ones more often; seldom another, or one of a wrong length.
+    fn name(&mut self) -> Vec<u8> {
+        if self.is_wild() {
+            let length = *self.rng.pick(&[0, 65, 66, 200]);
+            return self.rng.bytes(length);
+        }
+        if self.rng.percent(3) {
+            let length = self.rng.between(1, 64);
+            return self.rng.bytes(length);
+        }
+        let hot = match self.style {
+            Style::Plain => 65,
+            Style::Ring => 0,
+            Style::Pile => 97,
+        };
+        let reach = if self.rng.percent(hot) { self.names.len().min(2) } else { self.names.len() };
+        self.names[self.rng.below(reach)].clone()
+    }
+
+    /// A lock and its client: one that fits the call, mostly; else any in use, another's, a free or an impossible one.
+    fn lock(&mut self, state: &State, fits: impl Fn(&Lock) -> bool) -> (u32, u32) {
+        let client = self.client();
+        if self.is_wild() {
+            let number = *self.rng.pick(&[0, state.most_locks + 1, 1025, u32::MAX]);
+            return (client, number);
+        }
+        let any = self.rng.percent(14);
+        let chosen: Vec<u32> = state.locks.iter().filter(|(_, lock)| any || fits(lock)).map(|(number, _)| *number).collect();
+        if chosen.is_empty() || self.rng.percent(2) {
+            return (client, self.rng.between(1, state.most_locks as usize) as u32);
+        }
+        let number = *self.rng.pick(&chosen);
+        let owner = u32::from(state.locks[&number].client);
+        (if self.is_wild() || self.rng.percent(2) { client } else { owner }, number)
+    }
+
+    /// Room in words for a list: just right, too little, none, not a whole entry more, or plenty.
+    fn list_room(&mut self, state: &State, lock: u32) -> usize {
+        let resource = state.locks.get(&lock).and_then(Lock::resource);
+        let count = resource.map_or(1, |resource| state.resources[&resource].locks().count());
+        match self.rng.below(6) {
+            0 => 0,
+            1 => 5 * count + 3,
+            2 => 5 * self.rng.below(count) + 4,
+            3 => 5 * self.rng.below(count + 1),
+            4 => 5 * count + 20,
+            _ => 5 * count,
+        }
+    }
+
+    fn image_room(&mut self, state: &State) -> usize {
+        let (words, slots) = lengths(state.most_resources, state.most_locks);
+        let right = 4 * words + slots;
+        if self.rng.percent(80) { right } else { *self.rng.pick(&[0, right - 1, right + 1, right + 4, words]) }
+    }
+
+    /// The image of the tables, mostly of the right length, or of a random state.
+    fn image(&mut self) -> Image {
+        if self.rng.percent(12) {
+            let Call::Load { image, .. } = self.load_random(self.resources, self.locks) else { unreachable!("a load") };
+            return image;
+        }
+        let longer_by = if self.rng.percent(88) { 0 } else { *self.rng.pick(&[-1, 1, -96, 96, -4, 4, -100_000]) };
+        Image::OfTables { changes: Vec::new(), longer_by }
+    }
+
+    /// A load of the tables' image, or of a random state; seldom into tables of wrong lengths.
+    fn load(&mut self, state: &State) -> Call {
+        if self.rng.percent(15) {
+            let (resources, locks) = sizes(&mut self.rng, self.resources as usize, self.locks as usize);
+            return self.load_random(resources, locks);
+        }
+        let (words, slots) = lengths(state.most_resources, state.most_locks);
+        let (words, slots) = match self.rng.below(8) {
+            0 => (words + 1, slots),
+            1 => (words - 1, slots),
+            2 => (words, slots + 96),
+            3 => (0, 0),
+            _ => (words, slots),
+        };
+        Call::Load { image: self.image(), words, slots }
+    }
+
+    fn load_random(&mut self, resources: u32, locks: u32) -> Call {
+        let filling = Filling { resources, locks, clients: &self.clients, names: &self.names };
+        let (words, slots) = random(&mut self.rng, &filling).to_tables();
+        let lengths = (words.len(), slots.len());
+        let bytes = Tables { words, slots }.bytes();
+        Call::Load { image: Image::Bytes(bytes.into()), words: lengths.0, slots: lengths.1 }
+    }
+
+    /// A start with something wrong, mostly.
+    fn start(&mut self) -> Call {
+        let (resources, locks) = (self.resources, self.locks);
+        let (words, slots) = lengths(resources, locks);
+        match self.rng.below(12) {
+            0 => Call::Start { resources, locks, words, slots },
+            1 => Call::Start { resources: 0, locks, words: words - 8 * resources as usize, slots: 0 },
+            2 => Call::Start { resources, locks: 0, words: words - 9 * locks as usize, slots },
+            3 => Call::Start { resources: 257, locks, words: lengths(257, locks).0, slots: lengths(257, locks).1 },
+            4 => Call::Start { resources, locks: 1025, words: lengths(resources, 1025).0, slots },
+            5 => Call::Start { resources, locks, words: words + 1, slots },
+            6 => Call::Start { resources, locks, words: words - 1, slots },
+            7 => Call::Start { resources, locks, words, slots: slots - 1 },
+            8 => Call::Start { resources, locks, words, slots: slots + 96 },
+            9 => Call::Start { resources: u32::MAX, locks: u32::MAX, words, slots },
+            10 => Call::Start { resources, locks, words: 0, slots: 0 },
+            _ => Call::Start { resources: resources + 9, locks, words, slots },
+        }
+    }
+}
+
+/// Whether a client has a lock on a name.
+fn has_lock_on(state: &State, client: u32, name: &[u8]) -> bool {
+    let resource = state.named(name).map(|number| &state.resources[&number]);
+    resource.is_some_and(|resource| resource.locks().any(|lock| u32::from(state.locks[&lock].client) == client))
+}
+
+/// The lengths of tables in words and slot bytes.
+fn lengths(resources: u32, locks: u32) -> (usize, usize) {
+    (8 + 8 * resources as usize + 9 * locks as usize, 96 * resources as usize)
+}
+
+/// Sizes up to the most of a kind, the most itself often.
+fn sizes(rng: &mut Rng, most_resources: usize, most_locks: usize) -> (u32, u32) {
+    if rng.percent(30) {
+        return (most_resources as u32, most_locks as u32);
+    }
+    (rng.between(1, most_resources) as u32, rng.between(1, most_locks) as u32)
+}
+
+/// Few clients, so that they meet.
+fn clients(rng: &mut Rng, locks: u32) -> Vec<u32> {
+    let count = rng.between(1, if locks > 64 { 30 } else { 5 });
+    let mut clients: Vec<u32> = (0..count).map(|_| rng.between(1, 255) as u32).collect();
+    if rng.percent(30) {
+        clients.push(255);
+        clients.push(1);
+    }
+    clients
+}
+
+/// Names: often more than there are resources; with long common beginnings, or such that one begins another, or with zero bytes at the end.
+fn names(rng: &mut Rng, resources: u32) -> Vec<Vec<u8>> {
+    let r = resources as usize;
+    let count = *rng.pick(&[1, 2, r.div_ceil(2), r, r + 2, r + 2]);
+    let style = rng.below(4);
+    let mut names: Vec<Vec<u8>> = (0..count).map(|at| name_of_style(rng, style, at)).collect();
+    names.sort();
+    names.dedup();
+    rng.shuffle(&mut names);
+    names
+}
+
+fn name_of_style(rng: &mut Rng, style: usize, at: usize) -> Vec<u8> {
+    match style {
+        0 => format!("{}{at:04}", "x".repeat(60)).into_bytes(),
+        1 => [vec![b'a'; 1 + at / 2 % 32], format!("{}", at / 64).into_bytes(), vec![0; at % 2]].concat(),
+        2 => vec![0; 1 + at % 64],
+        _ => {
+            let length = rng.between(2, 64);
+            rng.bytes(length)
+        }
+    }
+}

@@ -1,0 +1,172 @@
+//! Sound states that no list of calls need reach: chains in any order, any modes that go together. They are loaded as images, so that both
+//! managers meet all that soundness allows.
+
+use crate::rng::Rng;
+use model::{Lock, Mode, Resource, Standing, State, Unread};
+use std::collections::VecDeque;
+
+/// How a state is to be filled.
+pub struct Filling<'a> {
+    pub resources: u32,
+    pub locks: u32,
+    pub clients: &'a [u32],
+    pub names: &'a [Vec<u8>],
+}
+
+/// How the locks of a random state stand, as weights: granted, converting, waiting, denied.
+const STANDINGS: [usize; 4] = [45, 22, 28, 5];
+
+/// A started state.
+pub fn started(resources: u32, locks: u32) -> State {
+    let words = 8 + 8 * resources as usize + 9 * locks as usize;
+    State::start(resources, locks, words, 96 * resources as usize).expect("sizes in range")
+}
+
+/// A random sound state.
+pub fn random(rng: &mut Rng, filling: &Filling) -> State {
+    let mut state = started(filling.resources, filling.locks);
+    rng.shuffle(state.free_resources.make_contiguous());
+    rng.shuffle(state.free_locks.make_contiguous());
+    let in_use = how_many(rng, filling.locks as usize);
+    let used = take_resources(rng, &mut state, filling, in_use);
+    for at in 0..in_use {
+        // The first locks see to it that no resource is left without one.
+        let first = used.get(at).copied();
+        let resource = first.or_else(|| (!used.is_empty()).then(|| *hot(rng, &used)));
+        add_lock(rng, &mut state, filling, resource, first.is_some());
+    }
+    for resource in used {
+        state.sweep(resource);
+    }
+    if rng.percent(30) {
+        add_exclusive_conversion(rng, &mut state, filling);
+    }
+    state
+}
+
+/// A resource on which a converting lock holds EX, behind a conversion that it holds up. No calls lead there, since all from EX is down.
+fn add_exclusive_conversion(rng: &mut Rng, state: &mut State, filling: &Filling) {
+    let Some(name) = filling.names.iter().find(|name| state.named(name).is_none()) else { return };
+    if state.free_locks.len() < 2 || state.free_resources.is_empty() {
+        return;
+    }
+    let resource = state.free_resources.pop_front().expect("just seen");
+    let mut queues = new_resource(rng, name);
+    for (held, asked) in [(Mode::Nl, Mode::ALL[rng.between(1, 5)]), (Mode::Ex, *rng.pick(&Mode::ALL))] {
+        let number = state.free_locks.pop_front().expect("just seen");
+        queues.converting.push_back(number);
+        insert_somewhere(rng, &mut state.blocked, number);
+        let standing = Standing::Converting { resource, held, asked };
+        state.locks.insert(number, Lock { client: *rng.pick(filling.clients) as u8, standing });
+    }
+    state.resources.insert(resource, queues);
+}
+
+/// A resource of a name with no locks yet and any value.
+fn new_resource(rng: &mut Rng, name: &[u8]) -> Resource {
+    let value = if rng.percent(50) { [0; 32] } else { rng.bytes(32).try_into().expect("32 bytes") };
+    let empty = VecDeque::new;
+    Resource { name: name.to_vec(), value, valid: rng.percent(60), granted: empty(), converting: empty(), waiting: empty() }
+}
+
+/// How many of some locks are in use: often all or few.
+fn how_many(rng: &mut Rng, most: usize) -> usize {
+    match rng.below(5) {
+        0 | 1 => most,
+        2 => rng.below(most.min(6) + 1),
+        _ => rng.below(most + 1),
+    }
+}
+
+/// One of some resources, the first ones more often.
+fn hot<'a>(rng: &mut Rng, used: &'a [u32]) -> &'a u32 {
+    let reach = if rng.percent(70) { used.len().min(3) } else { used.len() };
+    &used[rng.below(reach)]
+}
+
+fn take_resources(rng: &mut Rng, state: &mut State, filling: &Filling, in_use: usize) -> Vec<u32> {
+    let most = (filling.resources as usize).min(filling.names.len()).min(in_use);
+    if most == 0 {
+        return Vec::new();
+    }
+    let count = rng.between(1, most);
+    let mut names: Vec<&Vec<u8>> = filling.names.iter().collect();
+    rng.shuffle(&mut names);
+    let mut used = Vec::new();
+    for name in &names[..count] {
+        let number = state.free_resources.pop_front().expect("no more than there are");
+        let resource = new_resource(rng, name);
+        state.resources.insert(number, resource);
+        used.push(number);
+    }
+    used
+}
+
+/// A random mode that goes with those held on a resource.
+fn fitting_mode(rng: &mut Rng, state: &State, resource: u32) -> Mode {
+    let mode = *rng.pick(&Mode::ALL);
+    if state.fits(resource, mode, 0) { mode } else { Mode::Nl }
+}
+
+fn add_lock(rng: &mut Rng, state: &mut State, filling: &Filling, resource: Option<u32>, stays: bool) {
+    let number = state.free_locks.pop_front().expect("no more than there are");
+    let client = *rng.pick(filling.clients) as u8;
+    let kind = rng.weighted(&STANDINGS);
+    let standing = match resource {
+        Some(resource) if kind != 3 || stays => stand(rng, state, number, resource, kind),
+        _ => {
+            insert_somewhere(rng, &mut state.denied, number);
+            insert_somewhere(rng, &mut state.notices, number);
+            Standing::Denied
+        }
+    };
+    state.locks.insert(number, Lock { client, standing });
+}
+
+/// A lock that stands on a resource, put on its chains.
+fn stand(rng: &mut Rng, state: &mut State, number: u32, resource: u32, kind: usize) -> Standing {
+    let held = fitting_mode(rng, state, resource);
+    let asked = *rng.pick(&Mode::ALL);
+    let queues = state.resources.get_mut(&resource).expect("a resource just taken");
+    match kind {
+        1 => {
+            insert_somewhere(rng, &mut queues.converting, number);
+            insert_somewhere(rng, &mut state.blocked, number);
+            Standing::Converting { resource, held, asked }
+        }
+        2 => {
+            insert_somewhere(rng, &mut queues.waiting, number);
+            insert_somewhere(rng, &mut state.blocked, number);
+            Standing::Waiting { resource, asked }
+        }
+        _ => {
+            insert_somewhere(rng, &mut queues.granted, number);
+            let unread = [None, None, None, Some(Unread::Granted), Some(Unread::ConversionDenied)][rng.below(5)];
+            if unread.is_some() {
+                insert_somewhere(rng, &mut state.notices, number);
+            }
+            Standing::Granted { resource, held, unread }
+        }
+    }
+}
+
+fn insert_somewhere(rng: &mut Rng, chain: &mut VecDeque<u32>, number: u32) {
+    chain.insert(rng.below(chain.len() + 1), number);
+}
+
+#[cfg(test)]
+mod tests {
+    use super::*;
+
+    #[test]
+    fn random_states_are_sound_and_come_back_from_their_tables() {
+        let mut rng = Rng::new(7);
+        let names: Vec<Vec<u8>> = (0..9_u8).map(|at| vec![at; 1 + at as usize]).collect();
+        for _ in 0..2000 {
+            let (resources, locks) = (rng.between(1, 8) as u32, rng.between(1, 24) as u32);
+            let state = random(&mut rng, &Filling { resources, locks, clients: &[1, 2, 255], names: &names });
+            let (words, slots) = state.to_tables();
+            assert_eq!(State::read_tables(&words, &slots), Ok(state));
+        }
+    }
+}

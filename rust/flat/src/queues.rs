@@ -1,0 +1,286 @@
+//! The chains of sound tables, and what the calls do with them.
+
+use crate::layout::{LockRecord, Records, ResourceRecord, completion, head, lock, resource, state};
+use crate::modes::{Held, admits, only};
+use crate::{Refused, sound};
+
+/// The words of sound tables, cut into records.
+pub struct Queues<'a> {
+    pub head: &'a mut [u32; 8],
+    pub resources: &'a mut [ResourceRecord],
+    pub locks: &'a mut [LockRecord],
+}
+
+/// The ends of the two chains that a sweep adds to, so that they are looked for once.
+struct Ends {
+    granted: u32,
+    notices: u32,
+}
+
+/// Puts a lock at the end of a chain. Its own link there is zero.
+fn append(first: &mut u32, locks: &mut [LockRecord], link: usize, number: u32) {
+    match last(*first, locks, link) {
+        0 => *first = number,
+        end => locks[end as usize - 1][link] = number,
+    }
+}
+
+/// The last lock of a chain, or 0.
+fn last(first: u32, locks: &[LockRecord], link: usize) -> u32 {
+    let (mut end, mut next) = (first, first);
+    while next != 0 {
+        end = next;
+        next = locks[next as usize - 1][link];
+    }
+    end
+}
+
+/// Takes a lock out of a chain that it is on.
+fn remove(first: &mut u32, locks: &mut [LockRecord], link: usize, number: u32) {
+    let after = std::mem::take(&mut locks[number as usize - 1][link]);
+    if *first == number {
+        *first = after;
+        return;
+    }
+    let mut at = *first;
+    loop {
+        let next = &mut locks[at as usize - 1][link];
+        if *next == number {
+            *next = after;
+            return;
+        }
+        at = *next;
+    }
+}
+
+/// Takes all locks of a client out of a chain in one walk.
+fn remove_all(first: &mut u32, locks: &mut [LockRecord], link: usize, client: u32) {
+    let mut end = 0;
+    let mut at = std::mem::take(first);
+    while at != 0 {
+        let record = &mut locks[at as usize - 1];
+        let next = std::mem::take(&mut record[link]);
+        if record[lock::CLIENT] != client {
+            match end {
+                0 => *first = at,
+                end => locks[end as usize - 1][link] = at,
+            }
+            end = at;
+        }
+        at = next;
+    }
+}
+
+impl<'a> Queues<'a> {
+    /// The queues of lent tables, if these are sound.
+    pub fn open(words: &'a mut [u32], slots: &[u8]) -> Result<Queues<'a>, Refused> {
+        if sound(words, slots) { Ok(Queues::cut(words)) } else { Err(1) }
+    }
+
+    /// The queues of words that are known to be sound.
+    pub fn cut(words: &'a mut [u32]) -> Queues<'a> {
+        let (head, records) = words.split_first_chunk_mut::<8>().expect("sound words");
+        let (resources, locks) = records.split_at_mut(8 * head[0] as usize);
+        Queues { head, resources: resources.as_chunks_mut().0, locks: locks.as_chunks_mut().0 }
+    }
+
+    #[inline]
+    pub fn lock(&mut self, number: u32) -> &mut LockRecord {
+        &mut self.locks[number as usize - 1]
+    }
+
+    #[inline]
+    pub fn resource(&mut self, number: u32) -> &mut ResourceRecord {
+        &mut self.resources[number as usize - 1]
+    }
+
+    /// The modes held on a resource by locks other than a given one (0: than none), as a set.
+    pub fn held_beside(&self, number: u32, other_than: u32) -> u8 {
+        let mut set = 0;
+        for chain in [resource::GRANT, resource::CONVERT] {
+            let mut at = self.resources[number as usize - 1][chain];
+            while at != 0 {
+                let record = &self.locks[at as usize - 1];
+                if at != other_than {
+                    set |= only(record[lock::HELD]);
+                }
+                at = record[lock::HOME];
+            }
+        }
+        set
+    }
+
+    /// How often each mode is held on a resource.
+    fn held(&self, number: u32) -> Held {
+        let mut held = Held::default();
+        for chain in [resource::GRANT, resource::CONVERT] {
+            let mut at = self.resources[number as usize - 1][chain];
+            while at != 0 {
+                let record = &self.locks[at as usize - 1];
+                held.add(record[lock::HELD]);
+                at = record[lock::HOME];
+            }
+        }
+        held
+    }
+
+    pub fn append_home(&mut self, number: u32, chain: usize, k: u32) {
+        append(&mut self.resources[number as usize - 1][chain], self.locks, lock::HOME, k);
+    }
+
+    pub fn remove_home(&mut self, number: u32, chain: usize, k: u32) {
+        remove(&mut self.resources[number as usize - 1][chain], self.locks, lock::HOME, k);
+    }
+
+    pub fn append_blocked(&mut self, k: u32) {
+        append(&mut self.head[head::BLOCKED], self.locks, lock::BLOCKED, k);
+    }
+
+    pub fn remove_blocked(&mut self, k: u32) {
+        remove(&mut self.head[head::BLOCKED], self.locks, lock::BLOCKED, k);
+    }
+
+    pub fn append_notice(&mut self, k: u32) {
+        append(&mut self.head[head::NOTICE], self.locks, lock::NOTICE, k);
+    }
+
+    pub fn remove_notice(&mut self, k: u32) {
+        remove(&mut self.head[head::NOTICE], self.locks, lock::NOTICE, k);
+    }
+
+    pub fn append_denied(&mut self, k: u32) {
+        append(&mut self.head[head::DENIED], self.locks, lock::HOME, k);
+    }
+
+    pub fn remove_denied(&mut self, k: u32) {
+        remove(&mut self.head[head::DENIED], self.locks, lock::HOME, k);
+    }
+
+    /// Takes the first free lock; there is one.
+    pub fn take_lock(&mut self) -> u32 {
+        let number = self.head[head::FREE_LOCK];
+        self.head[head::FREE_LOCK] = self.locks[number as usize - 1][lock::HOME];
+        number
+    }
+
+    /// Puts a lock that is off all chains back to the front of the free chain.
+    pub fn free_lock(&mut self, number: u32) {
+        let mut record = [0; 9];
+        record[lock::HOME] = self.head[head::FREE_LOCK];
+        *self.lock(number) = record;
+        self.head[head::FREE_LOCK] = number;
+    }
+
+    /// Takes the first free resource; there is one.
+    pub fn take_resource(&mut self) -> u32 {
+        let number = self.head[head::FREE_RESOURCE];
+        self.head[head::FREE_RESOURCE] = self.resources[number as usize - 1][resource::NEXT];
+        number
+    }
+
+    /// Puts a resource back to the front of the free chain. Its slot is the caller's to clear.
+    pub fn free_resource(&mut self, number: u32) {
+        let mut record = [0; 8];
+        record[resource::NEXT] = self.head[head::FREE_RESOURCE];
+        *self.resource(number) = record;
+        self.head[head::FREE_RESOURCE] = number;
+    }
+
+    /// Whether a resource has no lock.
+    pub fn is_empty(&self, number: u32) -> bool {
+        self.resources[number as usize - 1][resource::GRANT..=resource::WAIT] == [0; 3]
+    }
+
+    /// A converting lock goes back to the grant chain with the mode it holds.
+    pub fn unconvert(&mut self, k: u32) {
+        let number = self.lock(k)[lock::RESOURCE];
+        self.remove_home(number, resource::CONVERT, k);
+        self.remove_blocked(k);
+        self.append_home(number, resource::GRANT, k);
+        let record = self.lock(k);
+        record[lock::STATE] = state::GRANTED;
+        record[lock::ASKED] = 0;
+    }
+
+    /// Takes all locks of a client off the chains of a resource.
+    pub fn remove_client_from(&mut self, number: u32, client: u32) {
+        for chain in resource::GRANT..=resource::WAIT {
+            let first = &mut self.resources[number as usize - 1][chain];
+            remove_all(first, self.locks, lock::HOME, client);
+        }
+    }
+
+    /// Takes all locks of a client off the denied, blocked and notice chains.
+    pub fn remove_client_aside(&mut self, client: u32) {
+        for (first, link) in [(head::DENIED, lock::HOME), (head::BLOCKED, lock::BLOCKED), (head::NOTICE, lock::NOTICE)] {
+            remove_all(&mut self.head[first], self.locks, link, client);
+        }
+    }
+
+    /// Grants convert heads while they are grantable, then wait heads.
+    pub fn sweep(&mut self, number: u32) {
+        let record = *self.resource(number);
+        if record[resource::CONVERT] == 0 && record[resource::WAIT] == 0 {
+            return;
+        }
+        let mut held = self.held(number);
+        let mut ends = None;
+        loop {
+            let k = self.resource(number)[resource::CONVERT];
+            if k == 0 {
+                break;
+            }
+            let (has, asks) = (self.lock(k)[lock::HELD], self.lock(k)[lock::ASKED]);
+            held.remove(has);
+            if !admits(asks, held.set()) {
+                return;
+            }
+            held.add(asks);
+            self.grant_head(number, resource::CONVERT, k, &mut ends);
+        }
+        loop {
+            let k = self.resource(number)[resource::WAIT];
+            if k == 0 {
+                return;
+            }
+            let asks = self.lock(k)[lock::ASKED];
+            if !admits(asks, held.set()) {
+                return;
+            }
+            held.add(asks);
+            self.grant_head(number, resource::WAIT, k, &mut ends);
+        }
+    }
+
+    /// Grants the head of a chain of a resource.
+    fn grant_head(&mut self, number: u32, chain: usize, k: u32, ends: &mut Option<Ends>) {
+        let ends = ends.get_or_insert_with(|| Ends {
+            granted: last(self.resources[number as usize - 1][resource::GRANT], self.locks, lock::HOME),
+            notices: last(self.head[head::NOTICE], self.locks, lock::NOTICE),
+        });
+        self.remove_blocked(k);
+        let record = self.lock(k);
+        let next = std::mem::take(&mut record[lock::HOME]);
+        record[lock::HELD] = std::mem::take(&mut record[lock::ASKED]);
+        record[lock::STATE] = state::GRANTED;
+        record[lock::COMPLETION] = completion::GRANTED;
+        self.resource(number)[chain] = next;
+        match ends.granted {
+            0 => self.resource(number)[resource::GRANT] = k,
+            end => self.lock(end)[lock::HOME] = k,
+        }
+        match ends.notices {
+            0 => self.head[head::NOTICE] = k,
+            end => self.lock(end)[lock::NOTICE] = k,
+        }
+        *ends = Ends { granted: k, notices: k };
+    }
+}
+
+/// The resource of a name, or 0.
+pub fn find(records: &Records, name: &[u8]) -> u32 {
+    let length = name.len() as u32;
+    let mut entries = records.resources.iter().zip(records.slots);
+    let at = entries.position(|(record, slot)| record[resource::NAME_LENGTH] == length && slot[..name.len()] == *name);
+    at.map_or(0, |at| at as u32 + 1)
+}

@@ -1,0 +1,193 @@
+//! What the tables mean: records in use, by number, and queues of record numbers.
+//!
+//! The types leave out much that soundness must forbid in the tables: a free record has no fields at all, a waiting lock no held mode, and
+//! only granted and denied locks can have a completion.
+
+use crate::Mode;
+use std::collections::{BTreeMap, VecDeque};
+
+/// The state of a lock manager.
+#[derive(Clone, Debug, PartialEq, Eq)]
+pub struct State {
+    /// How many resource records there are.
+    pub most_resources: u32,
+    /// How many lock records there are.
+    pub most_locks: u32,
+    /// The resources in use, by number.
+    pub resources: BTreeMap<u32, Resource>,
+    /// The locks in use, by number.
+    pub locks: BTreeMap<u32, Lock>,
+    /// Numbers of the free resources, the next one to be taken first.
+    pub free_resources: VecDeque<u32>,
+    /// Numbers of the free locks, the next one to be taken first.
+    pub free_locks: VecDeque<u32>,
+    /// The denied locks.
+    pub denied: VecDeque<u32>,
+    /// The converting and waiting locks of all resources.
+    pub blocked: VecDeque<u32>,
+    /// The locks with a completion that its client hasn't polled.
+    pub notices: VecDeque<u32>,
+}
+
+/// A resource in use.
+#[derive(Clone, Debug, PartialEq, Eq)]
+pub struct Resource {
+    /// 1 to 64 bytes that no other resource has as its name.
+    pub name: Vec<u8>,
+    /// The value block.
+    pub value: [u8; 32],
+    /// Whether the value block is valid.
+    pub valid: bool,
+    /// The grant chain.
+    pub granted: VecDeque<u32>,
+    /// The convert chain.
+    pub converting: VecDeque<u32>,
+    /// The wait chain.
+    pub waiting: VecDeque<u32>,
+}
+
+/// A lock in use.
+#[derive(Clone, Debug, PartialEq, Eq)]
+pub struct Lock {
+    /// Whose it is.
+    pub client: u8,
+    /// How it stands.
+    pub standing: Standing,
+}
+
+/// How a lock stands, and with which modes.
+#[derive(Clone, Copy, Debug, PartialEq, Eq)]
+#[allow(missing_docs)]
+pub enum Standing {
+    /// It has its mode; an earlier conversion or request may have a completion unread.
+    Granted { resource: u32, held: Mode, unread: Option<Unread> },
+    /// It has a mode and asks for another.
+    Converting { resource: u32, held: Mode, asked: Mode },
+    /// It asks for its first mode.
+    Waiting { resource: u32, asked: Mode },
+    /// Its request was denied, and its client hasn't been told.
+    Denied,
+}
+
+/// What the client of a granted lock hasn't been told yet.
+#[derive(Clone, Copy, Debug, PartialEq, Eq)]
+pub enum Unread {
+    /// The blocked request or conversion was granted.
+    Granted,
+    /// The conversion was denied.
+    ConversionDenied,
+}
+
+impl Lock {
+    /// The resource that the lock stands on; a denied one stands on none.
+    pub fn resource(&self) -> Option<u32> {
+        match self.standing {
+            Standing::Granted { resource, .. } | Standing::Converting { resource, .. } | Standing::Waiting { resource, .. } => {
+                Some(resource)
+            }
+            Standing::Denied => None,
+        }
+    }
+
+    /// The mode it holds; waiting and denied locks hold none, not even NL.
+    pub fn held(&self) -> Option<Mode> {
+        match self.standing {
+            Standing::Granted { held, .. } | Standing::Converting { held, .. } => Some(held),
+            Standing::Waiting { .. } | Standing::Denied => None,
+        }
+    }
+
+    /// The mode it asks for.
+    pub fn asked(&self) -> Option<Mode> {
+        match self.standing {
+            Standing::Converting { asked, .. } | Standing::Waiting { asked, .. } => Some(asked),
+            Standing::Granted { .. } | Standing::Denied => None,
+        }
+    }
+
+    /// Whether it is converting or waiting.
+    pub fn blocked(&self) -> bool {
+        self.asked().is_some()
+    }
+
+    /// The paper's state number.
+    pub fn state_number(&self) -> u32 {
+        match self.standing {
+            Standing::Granted { .. } => 1,
+            Standing::Converting { .. } => 2,
+            Standing::Waiting { .. } => 3,
+            Standing::Denied => 4,
+        }
+    }
+
+    /// The paper's completion number.
+    pub fn completion(&self) -> u32 {
+        match self.standing {
+            Standing::Granted { unread: Some(Unread::Granted), .. } => 1,
+            Standing::Denied => 2,
+            Standing::Granted { unread: Some(Unread::ConversionDenied), .. } => 3,
+            _ => 0,
+        }
+    }
+}
+
+impl Resource {
+    /// A resource as the first request for its name makes it.
+    pub(crate) fn new(name: &[u8]) -> Resource {
+        let empty = VecDeque::new;
+        Resource { name: name.to_vec(), value: [0; 32], valid: true, granted: empty(), converting: empty(), waiting: empty() }
+    }
+
+    /// Its locks in grant, convert, wait order.
+    pub fn locks(&self) -> impl Iterator<Item = u32> + '_ {
+        self.holders().chain(self.waiting.iter().copied())
+    }
+
+    /// Its locks that hold a mode, granted and then converting.
+    pub fn holders(&self) -> impl Iterator<Item = u32> + '_ {
+        self.granted.iter().chain(&self.converting).copied()
+    }
+}
+
+impl State {
+    /// Started tables: all records free, chained upward.
+    pub(crate) fn started(most_resources: u32, most_locks: u32) -> State {
+        State {
+            most_resources,
+            most_locks,
+            resources: BTreeMap::new(),
+            locks: BTreeMap::new(),
+            free_resources: (1..=most_resources).collect(),
+            free_locks: (1..=most_locks).collect(),
+            denied: VecDeque::new(),
+            blocked: VecDeque::new(),
+            notices: VecDeque::new(),
+        }
+    }
+
+    /// The number of the resource of a name.
+    pub fn named(&self, name: &[u8]) -> Option<u32> {
+        self.resources.iter().find(|(_, resource)| resource.name == name).map(|(number, _)| *number)
+    }
+
+    /// Whether a mode is compatible with every mode held on a resource by a lock other than the given one (0: other than none).
+    pub fn fits(&self, resource: u32, mode: Mode, beside: u32) -> bool {
+        let others = self.resources[&resource].holders().filter(|lock| *lock != beside);
+        others.filter_map(|lock| self.locks[&lock].held()).all(|held| mode.compatible(held))
+    }
+
+    /// The convert head, if it is grantable.
+    pub(crate) fn grantable_convert_head(&self, resource: u32) -> Option<u32> {
+        let head = *self.resources[&resource].converting.front()?;
+        let asked = self.locks[&head].asked()?;
+        self.fits(resource, asked, head).then_some(head)
+    }
+
+    /// The wait head, if it is grantable.
+    pub(crate) fn grantable_wait_head(&self, resource: u32) -> Option<u32> {
+        let queues = &self.resources[&resource];
+        let head = *queues.waiting.front()?;
+        let asked = self.locks[&head].asked()?;
+        (queues.converting.is_empty() && self.fits(resource, asked, 0)).then_some(head)
+    }
+}

@@ -1,0 +1,33 @@
+//! Zamgyorud, a proved lock manager, from Rust.
+//!
+//! The manager itself is the library `libzamgyorud.a`, whose every entry is proved. This crate is a thin and safe cover: [`Tables`] owns the
+//! words and slots that the library works on, and gives its answers as types. [`raw`] has the C interface over slices.
+//!
+//! ```
+//! use zamgyorud::{Completion, Flags, Mode, Outcome, Refusal, Tables};
+//!
+//! fn main() -> Result<(), Refusal> {
+//!     let mut tables = Tables::start(4, 8)?;
+//!     // Unit 1 takes an address, unit 2 queues up for it.
+//!     let (outcome, _) = tables.request(1, Mode::Ex, Flags::NONE, b"vip-7")?;
+//!     assert_eq!(outcome, Outcome::Granted);
+//!     let (outcome, second) = tables.request(2, Mode::Ex, Flags::NONE, b"vip-7")?;
+//!     assert_eq!(outcome, Outcome::Waiting);
+//!     // Unit 1 is lost: unit 2 has the address, and is told so.
+//!     tables.purge(1)?;
+//!     let notice = tables.poll(2)?.expect("a notice");
+//!     assert_eq!((notice.completion, notice.lock), (Completion::Granted, second));
+//!     print!("{tables}");
+//!     Ok(())
+//! }
+//! ```
+#![warn(missing_docs)]
+
+mod answers;
+pub mod raw;
+mod shown;
+mod tables;
+
+pub use answers::{Cancelled, Completion, Entry, Flags, Mode, Notice, Outcome, Queue, Refusal, Value};
+pub use shown::Resource;
+pub use tables::{Tables, holder};

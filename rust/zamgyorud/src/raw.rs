@@ -1,0 +1,174 @@
+//! The C interface over slices, with the answers as the library gives them.
+//!
+//! These functions are safe: a slice is a pointer and a length that belong together, which is all that the library asks for. Every content of
+//! tables, names and values is allowed; what isn't right is refused. For typed answers see [`Tables`](crate::Tables).
+
+mod c {
+    unsafe extern "C" {
+        pub fn zamgyorud_start(words: *mut u32, words_len: usize, slots: *mut u8, slots_len: usize, resources: u32, locks: u32) -> u64;
+        pub fn zamgyorud_request(
+            words: *mut u32,
+            words_len: usize,
+            slots: *mut u8,
+            slots_len: usize,
+            client: u32,
+            mode: u32,
+            flags: u32,
+            name: *const u8,
+            name_len: usize,
+        ) -> u64;
+        pub fn zamgyorud_convert(
+            words: *mut u32,
+            words_len: usize,
+            slots: *mut u8,
+            slots_len: usize,
+            client: u32,
+            lock: u32,
+            mode: u32,
+            flags: u32,
+            value: *const u8,
+            value_len: usize,
+        ) -> u64;
+        pub fn zamgyorud_release(
+            words: *mut u32,
+            words_len: usize,
+            slots: *mut u8,
+            slots_len: usize,
+            client: u32,
+            lock: u32,
+            flags: u32,
+            value: *const u8,
+            value_len: usize,
+        ) -> u64;
+        pub fn zamgyorud_cancel(words: *mut u32, words_len: usize, slots: *const u8, slots_len: usize, client: u32, lock: u32) -> u64;
+        pub fn zamgyorud_purge(words: *mut u32, words_len: usize, slots: *mut u8, slots_len: usize, client: u32) -> u64;
+        pub fn zamgyorud_break(words: *mut u32, words_len: usize, slots: *const u8, slots_len: usize) -> u64;
+        pub fn zamgyorud_poll(words: *mut u32, words_len: usize, slots: *const u8, slots_len: usize, client: u32) -> u64;
+        pub fn zamgyorud_read(
+            words: *const u32,
+            words_len: usize,
+            slots: *const u8,
+            slots_len: usize,
+            client: u32,
+            lock: u32,
+            value: *mut u8,
+            value_len: usize,
+        ) -> u64;
+        pub fn zamgyorud_list(
+            words: *const u32,
+            words_len: usize,
+            slots: *const u8,
+            slots_len: usize,
+            client: u32,
+            lock: u32,
+            entries: *mut u32,
+            entries_len: usize,
+        ) -> u64;
+        pub fn zamgyorud_image(
+            words: *const u32,
+            words_len: usize,
+            slots: *const u8,
+            slots_len: usize,
+            area: *mut u8,
+            area_len: usize,
+        ) -> u64;
+        pub fn zamgyorud_load(
+            image: *const u8,
+            image_len: usize,
+            words: *mut u32,
+            words_len: usize,
+            slots: *mut u8,
+            slots_len: usize,
+        ) -> u64;
+        pub fn zamgyorud_sound(words: *const u32, words_len: usize, slots: *const u8, slots_len: usize) -> u32;
+        pub fn zamgyorud_holder(image: *const u8, image_len: usize, name: *const u8, name_len: usize) -> u32;
+    }
+}
+
+/// Calls a function of the library. An argument in brackets is a slice, `mut` if the library may write to it, and becomes a pointer and a
+/// length.
+macro_rules! call {
+    ($function:ident($($arguments:tt)*)) => { call!(@ $function () $($arguments)*) };
+    (@ $function:ident ($($done:tt)*) mut [$slice:expr] $(, $($rest:tt)*)?) => {
+        call!(@ $function ($($done)* $slice.as_mut_ptr(), $slice.len(),) $($($rest)*)?)
+    };
+    (@ $function:ident ($($done:tt)*) [$slice:expr] $(, $($rest:tt)*)?) => {
+        call!(@ $function ($($done)* $slice.as_ptr(), $slice.len(),) $($($rest)*)?)
+    };
+    (@ $function:ident ($($done:tt)*) $number:expr $(, $($rest:tt)*)?) => {
+        call!(@ $function ($($done)* $number,) $($($rest)*)?)
+    };
+    // SAFETY: each pointer and length are those of one slice, borrowed mutably where the library writes, and live for the whole call. The
+    // library keeps no pointer and takes any content.
+    (@ $function:ident ($($done:tt)*)) => { unsafe { c::$function($($done)*) } };
+}
+
+/// Fresh tables.
+pub fn start(words: &mut [u32], slots: &mut [u8], resources: u32, locks: u32) -> u64 {
+    call!(zamgyorud_start(mut [words], mut [slots], resources, locks))
+}
+
+/// A lock of a mode on a name.
+pub fn request(words: &mut [u32], slots: &mut [u8], client: u32, mode: u32, flags: u32, name: &[u8]) -> u64 {
+    call!(zamgyorud_request(mut [words], mut [slots], client, mode, flags, [name]))
+}
+
+/// A granted lock to another mode.
+pub fn convert(words: &mut [u32], slots: &mut [u8], client: u32, lock: u32, mode: u32, flags: u32, value: &[u8]) -> u64 {
+    call!(zamgyorud_convert(mut [words], mut [slots], client, lock, mode, flags, [value]))
+}
+
+/// A granted lock is freed.
+pub fn release(words: &mut [u32], slots: &mut [u8], client: u32, lock: u32, flags: u32, value: &[u8]) -> u64 {
+    call!(zamgyorud_release(mut [words], mut [slots], client, lock, flags, [value]))
+}
+
+/// A blocked lock waits no longer.
+pub fn cancel(words: &mut [u32], slots: &[u8], client: u32, lock: u32) -> u64 {
+    call!(zamgyorud_cancel(mut [words], [slots], client, lock))
+}
+
+/// All locks of a client are freed.
+pub fn purge(words: &mut [u32], slots: &mut [u8], client: u32) -> u64 {
+    call!(zamgyorud_purge(mut [words], mut [slots], client))
+}
+
+/// Breaks a deadlock, if there is one.
+pub fn break_deadlock(words: &mut [u32], slots: &[u8]) -> u64 {
+    call!(zamgyorud_break(mut [words], [slots]))
+}
+
+/// Takes a client's first notice.
+pub fn poll(words: &mut [u32], slots: &[u8], client: u32) -> u64 {
+    call!(zamgyorud_poll(mut [words], [slots], client))
+}
+
+/// The value block of a lock's resource.
+pub fn read(words: &[u32], slots: &[u8], client: u32, lock: u32, value: &mut [u8]) -> u64 {
+    call!(zamgyorud_read([words], [slots], client, lock, mut [value]))
+}
+
+/// The locks of a lock's resource, five words each.
+pub fn list(words: &[u32], slots: &[u8], client: u32, lock: u32, entries: &mut [u32]) -> u64 {
+    call!(zamgyorud_list([words], [slots], client, lock, mut [entries]))
+}
+
+/// The tables as bytes.
+pub fn image(words: &[u32], slots: &[u8], area: &mut [u8]) -> u64 {
+    call!(zamgyorud_image([words], [slots], mut [area]))
+}
+
+/// The tables of an image.
+pub fn load(image: &[u8], words: &mut [u32], slots: &mut [u8]) -> u64 {
+    call!(zamgyorud_load([image], mut [words], mut [slots]))
+}
+
+/// Whether tables are sound: 1 or 0.
+pub fn sound(words: &[u32], slots: &[u8]) -> u32 {
+    call!(zamgyorud_sound([words], [slots]))
+}
+
+/// The client that holds EX on a name in an image, or 0; a refusal as 256 plus its number.
+pub fn holder(image: &[u8], name: &[u8]) -> u32 {
+    call!(zamgyorud_holder([image], [name]))
+}

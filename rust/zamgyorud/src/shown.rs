@@ -1,0 +1,114 @@
+//! Resources and their queues, shown as the guide's figures draw them (2.2 and 2.3.9).
+
+use crate::answers::{Entry, Mode, Queue, Value};
+use crate::tables::Tables;
+use std::fmt;
+
+/// A resource in use: its name, value block and queues.
+#[derive(Clone, Debug, PartialEq, Eq)]
+pub struct Resource {
+    /// The name, 1 to 64 bytes.
+    pub name: Vec<u8>,
+    /// The value block.
+    pub value: Value,
+    /// Its locks, in grant, convert, wait order.
+    pub locks: Vec<Entry>,
+}
+
+impl Tables {
+    /// The resources in use, by number; none if the tables aren't sound.
+    pub fn resources(&self) -> Vec<Resource> {
+        if !self.is_sound() {
+            return Vec::new();
+        }
+        let most = self.words()[0] as usize;
+        (0..most).filter(|at| self.words()[8 + 8 * at + 4] != 0).map(|at| self.resource(at)).collect()
+    }
+
+    /// The resource of a record, counted from 0, that is in use in sound tables.
+    fn resource(&self, at: usize) -> Resource {
+        let record = &self.words()[8 + 8 * at..16 + 8 * at];
+        let slot = &self.slots()[96 * at..96 * at + 96];
+        let queues = [(Queue::Granted, record[1]), (Queue::Converting, record[2]), (Queue::Waiting, record[3])];
+        Resource {
+            name: slot[..record[4] as usize].to_vec(),
+            value: Value { bytes: slot[64..].try_into().expect("96 less 64 bytes"), valid: record[5] == 1 },
+            locks: queues.into_iter().flat_map(|(queue, head)| self.chain(queue, head)).collect(),
+        }
+    }
+
+    /// The locks of a queue.
+    fn chain(&self, queue: Queue, head: u32) -> impl Iterator<Item = Entry> + '_ {
+        let first = 8 + 8 * self.words()[0] as usize;
+        let record = move |lock: u32| &self.words()[first + 9 * (lock as usize - 1)..][..9];
+        let at = |index: u32| (index != 0).then_some(index);
+        let numbers = std::iter::successors(at(head), move |lock| at(record(*lock)[0]));
+        numbers.map(move |lock| Entry {
+            lock,
+            client: record(lock)[4],
+            queue,
+            held: Mode::from_number(record(lock)[6]).filter(|_| queue != Queue::Waiting),
+            asked: Mode::from_number(record(lock)[7]).filter(|_| queue != Queue::Granted),
+        })
+    }
+}
+
+/// All resources in use, or that the tables aren't sound.
+///
+/// ```
+/// # use zamgyorud::{Flags, Mode, Refusal, Tables};
+/// # fn main() -> Result<(), Refusal> {
+/// let mut tables = Tables::start(4, 8)?;
+/// tables.request(1, Mode::Pw, Flags::NONE, b"RES-A")?;
+/// tables.request(2, Mode::Nl, Flags::NONE, b"RES-A")?;
+/// tables.convert(2, 2, Mode::Ex, Flags::NONE, b"")?;
+/// tables.request(3, Mode::Cr, Flags::NONE, b"RES-A")?;
+/// assert_eq!(
+///     tables.to_string(),
+///     "RES-A (value valid)\n\
+///      \x20 GRANTED     lock 1, client 1, PW\n\
+///      \x20 CONVERTING  lock 2, client 2, NL to EX\n\
+///      \x20 WAITING     lock 3, client 3, CR\n"
+/// );
+/// # Ok(())
+/// # }
+/// ```
+impl fmt::Display for Tables {
+    fn fmt(&self, f: &mut fmt::Formatter) -> fmt::Result {
+        if !self.is_sound() {
+            return writeln!(f, "the tables aren't sound");
+        }
+        let resources = self.resources();
+        if resources.is_empty() {
+            return writeln!(f, "no resource is in use");
+        }
+        resources.iter().try_for_each(|resource| write!(f, "{resource}"))
+    }
+}
+
+impl fmt::Display for Resource {
+    fn fmt(&self, f: &mut fmt::Formatter) -> fmt::Result {
+        let validity = if self.value.valid { "value valid" } else { "value not valid" };
+        writeln!(f, "{} ({validity})", self.name.escape_ascii())?;
+        for (queue, title) in [(Queue::Granted, "GRANTED"), (Queue::Converting, "CONVERTING"), (Queue::Waiting, "WAITING")] {
+            let mut locks = self.locks.iter().filter(|entry| entry.queue == queue);
+            match locks.next() {
+                Some(first) => writeln!(f, "  {title:10}  {first}")?,
+                None => writeln!(f, "  {title:10}  -")?,
+            }
+            locks.try_for_each(|entry| writeln!(f, "  {:10}  {entry}", ""))?;
+        }
+        Ok(())
+    }
+}
+
+impl fmt::Display for Entry {
+    fn fmt(&self, f: &mut fmt::Formatter) -> fmt::Result {
+        write!(f, "lock {}, client {}, ", self.lock, self.client)?;
+        match (self.held, self.asked) {
+            (Some(held), Some(asked)) => write!(f, "{held} to {asked}"),
+            (Some(mode), None) | (None, Some(mode)) => write!(f, "{mode}"),
+            (None, None) => write!(f, "no mode"),
+        }
+    }
+}

@@ -1,0 +1,267 @@
+//! Tables that own their words and slots, and the calls on them.
+
+use crate::answers::{Cancelled, Completion, Entry, Flags, Mode, Notice, Outcome, Queue, Refusal, Value};
+use crate::raw;
+
+/// A lock manager's tables.
+///
+/// Every call is made by the proved library, which first checks that the tables are sound. A refused call changes nothing.
+#[derive(Clone, Debug, PartialEq, Eq)]
+pub struct Tables {
+    words: Vec<u32>,
+    slots: Vec<u8>,
+}
+
+/// The lengths in words and slot bytes for numbers of records, if these are in range.
+fn lengths(resources: u32, locks: u32) -> Option<(usize, usize)> {
+    let in_range = (1..=256).contains(&resources) && (1..=1024).contains(&locks);
+    in_range.then_some((8 + 8 * resources as usize + 9 * locks as usize, 96 * resources as usize))
+}
+
+/// What can't be, by the library's contract.
+fn impossible(answer: impl Into<u64>) -> ! {
+    panic!("the library answered {:#x}, which its contract excludes", answer.into())
+}
+
+/// An answer of one number.
+fn number(answer: u64) -> Result<u32, Refusal> {
+    if answer >> 63 != 0 {
+        return Err(Refusal::from_number(answer as u32).unwrap_or_else(|| impossible(answer)));
+    }
+    u32::try_from(answer).map_err(|_| impossible(answer))
+}
+
+/// An answer of two numbers.
+fn pair(answer: u64) -> Result<(u32, u32), Refusal> {
+    if answer >> 63 != 0 { number(answer).map(|_| impossible(answer)) } else { Ok(((answer >> 32) as u32, answer as u32)) }
+}
+
+fn outcome(number: u32) -> Outcome {
+    match number {
+        1 => Outcome::Granted,
+        2 => Outcome::Waiting,
+        _ => impossible(number),
+    }
+}
+
+fn mode(number: u32) -> Mode {
+    Mode::from_number(number).unwrap_or_else(|| impossible(number))
+}
+
+/// A lock from the five words of a list's entry.
+fn entry([lock, client, state, held, asked]: [u32; 5]) -> Entry {
+    let queue = match state {
+        1 => Queue::Granted,
+        2 => Queue::Converting,
+        3 => Queue::Waiting,
+        _ => impossible(state),
+    };
+    Entry {
+        lock,
+        client,
+        queue,
+        held: (queue != Queue::Waiting).then(|| mode(held)),
+        asked: (queue != Queue::Granted).then(|| mode(asked)),
+    }
+}
+
+impl Tables {
+    /// Fresh tables with room for so many resources (1 to 256) and locks (1 to 1,024).
+    ///
+    /// ```
+    /// # use zamgyorud::{Refusal, Tables};
+    /// assert!(Tables::start(4, 8).is_ok());
+    /// assert_eq!(Tables::start(0, 8), Err(Refusal::Sizes));
+    /// ```
+    pub fn start(resources: u32, locks: u32) -> Result<Tables, Refusal> {
+        // Numbers out of range get no tables, and the library says so.
+        let mut tables = Tables::zeros(lengths(resources, locks).unwrap_or_default());
+        number(raw::start(&mut tables.words, &mut tables.slots, resources, locks))?;
+        Ok(tables)
+    }
+
+    fn zeros((words, slots): (usize, usize)) -> Tables {
+        Tables { words: vec![0; words], slots: vec![0; slots] }
+    }
+
+    /// Tables of given words and slots, which may be anything: calls on unsound tables are refused.
+    pub fn from_parts(words: Vec<u32>, slots: Vec<u8>) -> Tables {
+        Tables { words, slots }
+    }
+
+    /// The words.
+    pub fn words(&self) -> &[u32] {
+        &self.words
+    }
+
+    /// The slots.
+    pub fn slots(&self) -> &[u8] {
+        &self.slots
+    }
+
+    /// Whether the tables are sound.
+    pub fn is_sound(&self) -> bool {
+        raw::sound(&self.words, &self.slots) == 1
+    }
+
+    /// A lock of a mode on a name: whether it is granted, and its number.
+    ///
+    /// ```
+    /// # use zamgyorud::{Flags, Mode, Outcome, Refusal, Tables};
+    /// # fn main() -> Result<(), Refusal> {
+    /// let mut tables = Tables::start(4, 8)?;
+    /// assert_eq!(tables.request(1, Mode::Ex, Flags::NONE, b"vip-7")?, (Outcome::Granted, 1));
+    /// assert_eq!(tables.request(2, Mode::Ex, Flags::NONE, b"vip-7")?, (Outcome::Waiting, 2));
+    /// assert_eq!(tables.request(2, Mode::Ex, Flags::NO_QUEUE, b"vip-7"), Err(Refusal::Blocks));
+    /// # Ok(())
+    /// # }
+    /// ```
+    pub fn request(&mut self, client: u32, mode: Mode, flags: Flags, name: &[u8]) -> Result<(Outcome, u32), Refusal> {
+        let answer = raw::request(&mut self.words, &mut self.slots, client, mode.number(), flags.bits(), name);
+        pair(answer).map(|(first, lock)| (outcome(first), lock))
+    }
+
+    /// A granted lock to another mode. The value is looked at only with [`Flags::STORE_VALUE`], and must then have 32 bytes.
+    ///
+    /// ```
+    /// # use zamgyorud::{Flags, Mode, Outcome, Refusal, Tables};
+    /// # fn main() -> Result<(), Refusal> {
+    /// let mut tables = Tables::start(4, 8)?;
+    /// let (_, lock) = tables.request(1, Mode::Ex, Flags::NONE, b"pool")?;
+    /// assert_eq!(tables.convert(1, lock, Mode::Pr, Flags::STORE_VALUE, &[7; 32])?, Outcome::Granted);
+    /// assert_eq!(tables.read(1, lock)?.bytes, [7; 32]);
+    /// # Ok(())
+    /// # }
+    /// ```
+    pub fn convert(&mut self, client: u32, lock: u32, mode: Mode, flags: Flags, value: &[u8]) -> Result<Outcome, Refusal> {
+        let answer = raw::convert(&mut self.words, &mut self.slots, client, lock, mode.number(), flags.bits(), value);
+        number(answer).map(outcome)
+    }
+
+    /// Frees a granted lock. The value is looked at only with [`Flags::STORE_VALUE`], and must then have 32 bytes.
+    pub fn release(&mut self, client: u32, lock: u32, flags: Flags, value: &[u8]) -> Result<(), Refusal> {
+        number(raw::release(&mut self.words, &mut self.slots, client, lock, flags.bits(), value)).map(drop)
+    }
+
+    /// Takes back the conversion or request of a blocked lock.
+    pub fn cancel(&mut self, client: u32, lock: u32) -> Result<Cancelled, Refusal> {
+        number(raw::cancel(&mut self.words, &self.slots, client, lock)).map(|answer| match answer {
+            1 => Cancelled::Conversion,
+            2 => Cancelled::Request,
+            _ => impossible(answer),
+        })
+    }
+
+    /// Frees all locks of a client: how many.
+    ///
+    /// ```
+    /// # use zamgyorud::{Completion, Flags, Mode, Notice, Refusal, Tables};
+    /// # fn main() -> Result<(), Refusal> {
+    /// let mut tables = Tables::start(4, 8)?;
+    /// tables.request(1, Mode::Ex, Flags::NONE, b"vip-7")?;
+    /// tables.request(2, Mode::Ex, Flags::NONE, b"vip-7")?;
+    /// assert_eq!(tables.purge(1)?, 1);
+    /// assert_eq!(tables.poll(2)?, Some(Notice { completion: Completion::Granted, lock: 2 }));
+    /// assert_eq!(tables.poll(2)?, None);
+    /// # Ok(())
+    /// # }
+    /// ```
+    pub fn purge(&mut self, client: u32) -> Result<u32, Refusal> {
+        number(raw::purge(&mut self.words, &mut self.slots, client))
+    }
+
+    /// If there is a deadlock, denies the one of its requests that has been blocked the longest: its lock.
+    ///
+    /// ```
+    /// # use zamgyorud::{Flags, Mode, Refusal, Tables};
+    /// # fn main() -> Result<(), Refusal> {
+    /// let mut tables = Tables::start(4, 8)?;
+    /// tables.request(1, Mode::Ex, Flags::NONE, b"A")?;
+    /// tables.request(2, Mode::Ex, Flags::NONE, b"B")?;
+    /// tables.request(1, Mode::Ex, Flags::NONE, b"B")?;
+    /// tables.request(2, Mode::Ex, Flags::NONE, b"A")?;
+    /// assert_eq!(tables.break_deadlock()?, Some(3));
+    /// assert_eq!(tables.break_deadlock()?, None);
+    /// # Ok(())
+    /// # }
+    /// ```
+    pub fn break_deadlock(&mut self) -> Result<Option<u32>, Refusal> {
+        number(raw::break_deadlock(&mut self.words, &self.slots)).map(|lock| (lock != 0).then_some(lock))
+    }
+
+    /// Takes a client's first notice, if it has one.
+    pub fn poll(&mut self, client: u32) -> Result<Option<Notice>, Refusal> {
+        pair(raw::poll(&mut self.words, &self.slots, client)).map(|answer| {
+            let completion = match answer.0 {
+                0 => return None,
+                1 => Completion::Granted,
+                2 => Completion::RequestDenied,
+                3 => Completion::ConversionDenied,
+                other => impossible(other),
+            };
+            Some(Notice { completion, lock: answer.1 })
+        })
+    }
+
+    /// The value block of a granted or converting lock's resource.
+    pub fn read(&self, client: u32, lock: u32) -> Result<Value, Refusal> {
+        let mut bytes = [0; 32];
+        let valid = number(raw::read(&self.words, &self.slots, client, lock, &mut bytes))?;
+        Ok(Value { bytes, valid: valid == 1 })
+    }
+
+    /// The locks on a granted or converting lock's resource, in the order of the grant, convert and wait queues.
+    pub fn list(&self, client: u32, lock: u32) -> Result<Vec<Entry>, Refusal> {
+        // No resource has more locks than there are; unsound tables are refused, whatever they say.
+        let most = self.words.get(1).map_or(0, |locks| (*locks).min(1024)) as usize;
+        let mut words = vec![0; 5 * most];
+        let count = number(raw::list(&self.words, &self.slots, client, lock, &mut words))?;
+        Ok(words.as_chunks().0.iter().take(count as usize).map(|words| entry(*words)).collect())
+    }
+
+    /// The tables as bytes, to be kept or sent.
+    ///
+    /// ```
+    /// # use zamgyorud::{Flags, Mode, Refusal, Tables, holder};
+    /// # fn main() -> Result<(), Refusal> {
+    /// let mut tables = Tables::start(4, 8)?;
+    /// tables.request(1, Mode::Ex, Flags::NONE, b"vip-7")?;
+    /// let image = tables.image()?;
+    /// assert_eq!(holder(&image, b"vip-7")?, Some(1));
+    /// assert_eq!(holder(&image, b"vip-8")?, None);
+    /// assert_eq!(Tables::load(&image)?, tables);
+    /// # Ok(())
+    /// # }
+    /// ```
+    pub fn image(&self) -> Result<Vec<u8>, Refusal> {
+        let mut area = vec![0; 4 * self.words.len() + self.slots.len()];
+        number(raw::image(&self.words, &self.slots, &mut area)).map(|_| area)
+    }
+
+    /// The tables of an image.
+    pub fn load(image: &[u8]) -> Result<Tables, Refusal> {
+        let mut tables = Tables::zeros(lengths_of_image(image).unwrap_or_default());
+        tables.load_into(image)?;
+        Ok(tables)
+    }
+
+    /// The tables of an image, in place of these, which must have the image's sizes.
+    pub fn load_into(&mut self, image: &[u8]) -> Result<(), Refusal> {
+        number(raw::load(image, &mut self.words, &mut self.slots)).map(drop)
+    }
+}
+
+/// The lengths of tables that an image's own numbers call for.
+fn lengths_of_image(image: &[u8]) -> Option<(usize, usize)> {
+    let ([resources, locks, ..], _) = image.as_chunks::<4>() else { return None };
+    lengths(u32::from_le_bytes(*resources), u32::from_le_bytes(*locks))
+}
+
+/// The client that holds EX on a name in an image, if one does.
+pub fn holder(image: &[u8], name: &[u8]) -> Result<Option<u32>, Refusal> {
+    match raw::holder(image, name) {
+        0 => Ok(None),
+        client @ 1..=255 => Ok(Some(client)),
+        other => Err(other.checked_sub(256).and_then(Refusal::from_number).unwrap_or_else(|| impossible(other))),
+    }
+}

@@ -1,0 +1,161 @@
+//! The wrapper over the library: every call, its answers and its refusals.
+
+use zamgyorud::{Cancelled, Completion, Flags, Mode, Notice, Outcome, Queue, Refusal, Tables, holder};
+
+fn tables() -> Tables {
+    Tables::start(4, 8).expect("sizes in range")
+}
+
+/// Requests modes on RES-A by clients 1 upward.
+fn requested(modes: &[Mode]) -> Tables {
+    let mut tables = tables();
+    for (at, mode) in modes.iter().enumerate() {
+        tables.request(at as u32 + 1, *mode, Flags::NONE, b"RES-A").expect("accepted");
+    }
+    tables
+}
+
+fn notice(completion: Completion, lock: u32) -> Option<Notice> {
+    Some(Notice { completion, lock })
+}
+
+#[test]
+fn guide_2_3_9_as_drawn() {
+    let mut t = requested(&[Mode::Pw, Mode::Nl, Mode::Nl, Mode::Nl]);
+    for (lock, mode) in [(2, Mode::Ex), (3, Mode::Pw), (4, Mode::Cr)] {
+        assert_eq!(t.convert(lock, lock, mode, Flags::NONE, b""), Ok(Outcome::Waiting));
+    }
+    for (client, mode) in [(5, Mode::Cr), (6, Mode::Pr), (7, Mode::Cr)] {
+        assert_eq!(t.request(client, mode, Flags::NONE, b"RES-A"), Ok((Outcome::Waiting, client)));
+    }
+    let drawn = "\
+RES-A (value valid)
+  GRANTED     lock 1, client 1, PW
+  CONVERTING  lock 2, client 2, NL to EX
+              lock 3, client 3, NL to PW
+              lock 4, client 4, NL to CR
+  WAITING     lock 5, client 5, CR
+              lock 6, client 6, PR
+              lock 7, client 7, CR
+";
+    assert_eq!(t.to_string(), drawn);
+    assert_eq!(t.convert(1, 1, Mode::Cr, Flags::NONE, b""), Ok(Outcome::Granted));
+    assert_eq!(t.release(1, 1, Flags::NONE, b""), Ok(()));
+    assert_eq!(t.poll(2), Ok(notice(Completion::Granted, 2)));
+    assert_eq!(t.convert(2, 2, Mode::Nl, Flags::NONE, b""), Ok(Outcome::Granted));
+    for client in [3, 4, 5] {
+        assert_eq!(t.poll(client), Ok(notice(Completion::Granted, client)));
+    }
+    assert_eq!((t.poll(6), t.poll(7)), (Ok(None), Ok(None)));
+    assert_eq!(t.release(3, 3, Flags::NONE, b""), Ok(()));
+    let drawn = "\
+RES-A (value valid)
+  GRANTED     lock 2, client 2, NL
+              lock 4, client 4, CR
+              lock 5, client 5, CR
+              lock 6, client 6, PR
+              lock 7, client 7, CR
+  CONVERTING  -
+  WAITING     -
+";
+    assert_eq!(t.to_string(), drawn);
+}
+
+#[test]
+fn values() {
+    let mut t = requested(&[Mode::Ex, Mode::Nl]);
+    assert_eq!(t.convert(1, 1, Mode::Pw, Flags::STORE_VALUE, &[3; 31]), Err(Refusal::Value));
+    assert_eq!(t.convert(1, 1, Mode::Pw, Flags::STORE_VALUE, &[3; 32]), Ok(Outcome::Granted));
+    let value = t.read(2, 2).expect("accepted");
+    assert_eq!((value.bytes, value.valid), ([3; 32], true));
+    assert_eq!(t.release(1, 1, Flags::INVALIDATE_VALUE, b""), Ok(()));
+    let value = t.read(2, 2).expect("accepted");
+    assert_eq!((value.bytes, value.valid), ([3; 32], false));
+    assert!(t.to_string().starts_with("RES-A (value not valid)"));
+    assert_eq!(t.release(2, 2, Flags::STORE_VALUE | Flags::INVALIDATE_VALUE, &[3; 32]), Err(Refusal::Flags));
+}
+
+#[test]
+fn deadlocks_and_cancels() {
+    let mut t = requested(&[Mode::Pr, Mode::Pr, Mode::Ex]);
+    assert_eq!(t.convert(1, 1, Mode::Ex, Flags::NONE, b""), Ok(Outcome::Waiting));
+    assert_eq!(t.convert(2, 2, Mode::Ex, Flags::NO_QUEUE, b""), Err(Refusal::Blocks));
+    assert_eq!(t.convert(2, 2, Mode::Ex, Flags::NONE, b""), Ok(Outcome::Waiting));
+    assert_eq!(t.break_deadlock(), Ok(Some(1)));
+    assert_eq!(t.release(1, 1, Flags::NONE, b""), Err(Refusal::Unread));
+    assert_eq!(t.poll(1), Ok(notice(Completion::ConversionDenied, 1)));
+    assert_eq!(t.break_deadlock(), Ok(None));
+    assert_eq!(t.cancel(2, 2), Ok(Cancelled::Conversion));
+    assert_eq!(t.cancel(3, 3), Ok(Cancelled::Request));
+    assert_eq!(t.cancel(1, 1), Err(Refusal::State));
+    assert_eq!(t.request(1, Mode::Ex, Flags::NONE, b"RES-A"), Ok((Outcome::Waiting, 3)));
+    assert_eq!(t.break_deadlock(), Ok(Some(3)));
+    assert_eq!(t.poll(1), Ok(notice(Completion::RequestDenied, 3)));
+    assert_eq!(t.purge(1), Ok(1));
+    assert_eq!(t.purge(9), Ok(0));
+}
+
+#[test]
+fn lists() {
+    let mut t = requested(&[Mode::Ex, Mode::Nl, Mode::Cr]);
+    t.convert(2, 2, Mode::Pr, Flags::NONE, b"").expect("accepted");
+    let list = t.list(1, 1).expect("accepted");
+    assert_eq!(list, t.resources()[0].locks);
+    assert_eq!(list.iter().map(|entry| entry.lock).collect::<Vec<_>>(), [1, 2, 3]);
+    assert_eq!((list[0].held, list[0].asked, list[0].queue), (Some(Mode::Ex), None, Queue::Granted));
+    assert_eq!((list[1].held, list[1].asked, list[1].queue), (Some(Mode::Nl), Some(Mode::Pr), Queue::Converting));
+    assert_eq!((list[2].held, list[2].asked, list[2].queue), (None, Some(Mode::Cr), Queue::Waiting));
+    assert_eq!(t.list(3, 3), Err(Refusal::State));
+    assert_eq!(t.list(1, 8), Err(Refusal::LockNumber));
+}
+
+#[test]
+fn images() {
+    let t = requested(&[Mode::Ex, Mode::Cr]);
+    let image = t.image().expect("sound");
+    assert_eq!(Tables::load(&image).as_ref(), Ok(&t));
+    assert_eq!(holder(&image, b"RES-A"), Ok(Some(1)));
+    assert_eq!(holder(&image, b"RES-B"), Ok(None));
+    assert_eq!(holder(&image, b""), Err(Refusal::Name));
+    assert_eq!(holder(&image[1..], b"RES-A"), Err(Refusal::Unsound));
+    for bad in [&image[..0], &image[..7], &image[..image.len() - 1]] {
+        assert_eq!(Tables::load(bad), Err(Refusal::Unsound));
+    }
+    let mut smaller = Tables::start(1, 1).expect("sizes in range");
+    assert_eq!(smaller.load_into(&image), Err(Refusal::Lengths));
+    assert_eq!(smaller, Tables::start(1, 1).expect("sizes in range"));
+}
+
+#[test]
+fn sizes_and_refusals() {
+    for (resources, locks) in [(0, 1), (1, 0), (257, 1), (1, 1025), (u32::MAX, u32::MAX)] {
+        assert_eq!(Tables::start(resources, locks), Err(Refusal::Sizes));
+    }
+    let mut t = Tables::start(256, 1024).expect("sizes in range");
+    assert!(t.is_sound());
+    assert_eq!(t.request(0, Mode::Nl, Flags::NONE, b"a"), Err(Refusal::Client));
+    assert_eq!(t.request(1, Mode::Nl, Flags::from_bits(8), b"a"), Err(Refusal::Flags));
+    assert_eq!(t.request(1, Mode::Nl, Flags::NONE, &[1; 65]), Err(Refusal::Name));
+    assert_eq!(t.request(1, Mode::Nl, Flags::NONE, &[1; 64]), Ok((Outcome::Granted, 1)));
+    let mut one = Tables::start(1, 1).expect("sizes in range");
+    one.request(1, Mode::Nl, Flags::NONE, b"a").expect("accepted");
+    assert_eq!(one.request(1, Mode::Nl, Flags::NONE, b"b"), Err(Refusal::NoResource));
+    assert_eq!(one.request(1, Mode::Nl, Flags::NONE, b"a"), Err(Refusal::NoLock));
+}
+
+#[test]
+fn unsound_tables_are_refused_and_shown_as_such() {
+    let mut words = tables().words().to_vec();
+    words[7] = 1;
+    let mut t = Tables::from_parts(words, tables().slots().to_vec());
+    let before = t.clone();
+    assert!(!t.is_sound());
+    assert_eq!(t.request(1, Mode::Nl, Flags::NONE, b"a"), Err(Refusal::Unsound));
+    assert_eq!((t.purge(1), t.break_deadlock(), t.poll(1)), (Err(Refusal::Unsound), Err(Refusal::Unsound), Err(Refusal::Unsound)));
+    assert_eq!(t.image(), Err(Refusal::Unsound));
+    assert_eq!(t.list(1, 1), Err(Refusal::Unsound));
+    assert_eq!(t.to_string(), "the tables aren't sound\n");
+    assert_eq!(t, before);
+    assert_eq!(Tables::from_parts(Vec::new(), Vec::new()).read(1, 1), Err(Refusal::Unsound));
+    assert_eq!(tables().to_string(), "no resource is in use\n");
+}
