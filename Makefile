@@ -1,5 +1,5 @@
 # The commands of this repository. `make test` is the gate.
-.PHONY: test check fmt play lib test-c test-takeover test-rust compare soak bench
+.PHONY: test check fmt play lib test-c test-takeover test-rust test-readme compare soak bench
 .DELETE_ON_ERROR:
 
 SOURCES := crates.txt $(shell find crates -name '*.rt' -o -name '*.antt')
@@ -56,6 +56,12 @@ test-takeover: lib
 test-rust: lib
 	@$(call want,cargo)
 	@cd rust && cargo test --release --offline --quiet --workspace
+
+# The C and the Rust program that the README shows.
+test-readme: lib
+	@$(call want,$(CC))
+	@$(call want,cargo)
+	@sh tests/readme.sh target/lib README.md
 
 # The library against the independent model: every answer, word and slot byte after every call.
 CALLS ?= 200000

@@ -12,7 +12,7 @@ trap 'rm -rf "$work"' EXIT
 # The header beside the library, or in the repository's include folder.
 ${CC:-cc} -std=c99 -pedantic -O2 -Wall -Wextra -Werror -I"$lib" -I"$here/../include" \
     "$here/../examples/takeover.c" "$lib/libzamgyorud.a" ${LDLIBS:-} -o "$work/takeover"
-(cd "$here/../rust" && cargo build --release -j1 --quiet -p compare)
+(cd "$here/../rust" && cargo build --release --offline --quiet -p compare)
 for scenario in pair lost empty unsound; do
     "$here/../rust/target/release/compare" image $scenario "$work/$scenario"
 done

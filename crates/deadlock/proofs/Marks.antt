@@ -13,7 +13,7 @@ use Rattle.tables.proofs.Cases.{by-cases, by-equal, clash}
 use Rattle.tables.proofs.Counts.{count-nil, count-other}
 use Rattle.rules.specs.Walks.{reaches, Walk, step, through}
 use Rattle.rules.proofs.Walks.{search-complete}
-use Rattle.deadlock.specs.Marking.{marked, unmarked, Passed, Tried, Grown, Ready, Followed, Searched}
+use Rattle.deadlock.specs.Marking.{marked, unmarked, Cleared, Passed, Tried, Grown, Ready, Followed, Searched}
 
 -- ---- one mark
 
@@ -21,7 +21,7 @@ mark-same : (m : List Bool) (x : ℕ) → x < length m → marked (set m x true)
 unfolding marked
 mark-same m x l = getD-set-same m x true false l
 
-mark-other : (m : List Bool) (x y : ℕ) → y ≢ x → marked (set m x true) y ≡ marked m y
+pub mark-other : (m : List Bool) (x y : ℕ) → y ≢ x → marked (set m x true) y ≡ marked m y
 unfolding marked
 mark-other m x y h = getD-set-other m x y true false h
 
@@ -168,21 +168,40 @@ module _ {leads : ℕ → ℕ → Bool} {t : ℕ} where
             entered = λ e. i .here;
           }
 
--- ---- the whole search: what was entered is closed, so that no walk leaves it
+-- ---- the whole search: what it entered is closed, so that a walk leaves it only by a cleared node
 
-module _ (leads : ℕ → ℕ → Bool) (nodes : List ℕ) (n t : ℕ) (below : (y : ℕ) → 1 ≤ count y nodes → y < n) (target : t < n) (m m′ : List Bool)
-    (none : (x : ℕ) → marked m x ≡ false) (g : Grown leads n t m m′) where
-  no-walk : (a : ℕ) → marked m′ a ≡ true → Walk leads nodes a t → ⊥
-  no-walk a h (step _ _ e) = g .closed a (none a) h .each t target e .other refl
-  no-walk a h (through _ c _ k e w) = no-walk c (g .closed a (none a) h .each c (below c k) e .entered) w
+module _ {leads : ℕ → ℕ → Bool} {nodes : List ℕ} where
+  join : (a c b : ℕ) → 1 ≤ count c nodes → Walk leads nodes a c → Walk leads nodes c b → Walk leads nodes a b
+  join a c b k (step _ _ e) w = through a c b k e w
+  join a c b k (through _ d _ l e v) w = through a d b l e (join d c b k v w)
 
--- the answer of a search from a for a itself that began with no mark
+  -- one more node is cleared
+  pub clear-more : (m : List Bool) (x : ℕ) → Cleared leads nodes m → (Walk leads nodes x x → ⊥) → Cleared leads nodes (set m x true)
+  clear-more m x c h =
+      record {
+        wide = length-set m x true ∙ c .wide;
+        none = λ y k w. by-equal y x (λ e. h (rw e at w)) (λ o. c .none y (sym (mark-other m x y o) ∙ k) w);
+      }
+
+  module _ (n a : ℕ) (below : (y : ℕ) → 1 ≤ count y nodes → y < n) (stands : 1 ≤ count a nodes) (m m′ : List Bool) (clear : Cleared leads nodes m) (g : Grown leads n a m m′) where
+    -- a walk from a back to a passes no cleared node, which it would lead back to itself
+    no-walk : (c : ℕ) → 1 ≤ count c nodes → marked m′ c ≡ true → Walk leads nodes a c → Walk leads nodes c a → ⊥
+    no-walk c k h v (step _ _ e) =
+        by-cases (marked m c)
+        (λ q. clear .none c q (join c a c stands (step c a e) v))
+        (λ f. g .closed c f h .each a (below a stands) e .other refl)
+    no-walk c k h v (through _ d _ l e w) =
+        by-cases (marked m c)
+        (λ q. clear .none c q (join c a c stands (through c d a l e w) v))
+        (λ f. no-walk d l (g .closed c f h .each d (below d l) e .entered) (join a c d k v (step c d e)) w)
+
+-- the answer of a search from a for a itself that began with the marks of cleared nodes
 pub answer : (leads : ℕ → ℕ → Bool) (nodes : List ℕ) (n a : ℕ) (m m′ : List Bool) (r : Bool) → ((y : ℕ) → 1 ≤ count y nodes → y < n) → 1 ≤ count a nodes →
-    ((x : ℕ) → marked m x ≡ false) → Searched leads nodes n a a m m′ r → r ≡ reaches leads nodes (length nodes) a a
-answer leads nodes n a m m′ r below stands none s =
+    Cleared leads nodes m → Searched leads nodes n a a m m′ r → r ≡ reaches leads nodes (length nodes) a a
+answer leads nodes n a m m′ r below stands clear s =
     by-cases r
     (λ e. e ∙ sym (search-complete leads nodes a a stands .1 (s .found e)))
     (λ e. e ∙ sym
     (by-cases (reaches leads nodes (length nodes) a a)
-    (λ h. absurd (no-walk leads nodes n a below (below a stands) m m′ none (s .grown e) a (s .entered e) (search-complete leads nodes a a stands .0 h)))
+    (λ h. let w = search-complete leads nodes a a stands .0 h in absurd (no-walk n a below stands m m′ clear (s .grown e) a stands (s .entered e) w w))
     (λ h. h)))

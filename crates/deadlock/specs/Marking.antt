@@ -16,6 +16,11 @@ unfoldable pub unmarked : List ℕ → List Bool → ℕ
 unmarked [] m = 0
 unmarked (x ∷ xs) m = cond (marked m x) (unmarked xs m) (suc (unmarked xs m))
 
+-- no node that is marked leads back to itself
+pub record Cleared (leads : ℕ → ℕ → Bool) (nodes : List ℕ) (m : List Bool) : Type 0 where
+  pub wide : length m ≡ 1025
+  pub none : (x : ℕ) → marked m x ≡ true → Walk leads nodes x x → ⊥
+
 -- y is not t, and has been entered
 pub record Passed (t : ℕ) (m : List Bool) (y : ℕ) : Type 0 where
   pub other : y ≡ t → ⊥

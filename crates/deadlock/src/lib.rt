@@ -30,7 +30,7 @@ ghost use Rattle.deadlock.specs.Chained.{onward, Walking};
 ghost use Rattle.deadlock.specs.Ranks.{number, Unranked, Numbered, Ranked};
 ghost use Rattle.deadlock.specs.Owners.{«in-way», note, «note-all», Owned, Unbarred, Barred};
 ghost use Rattle.deadlock.specs.Marking.{Followed, Searched};
-ghost use Rattle.deadlock.specs.Searches.{Following, Searching};
+ghost use Rattle.deadlock.specs.Searches.{Following, Searching, Trying};
 
 // A place for each lock number, up to 1,024.
 const LOCK_PLACES: usize = 1025;
@@ -238,29 +238,31 @@ fn count_blocked(words: &[u32]) -> u32
     n
 }
 
-// Whether the blocked lock a leads back to itself. The search is never deeper than the count of blocked locks.
-fn on_cycle(words: &[u32], ranks: &[u32], a: u32) -> bool
-    requires { ⌜ Ranked (now words) (now ranks) ⌝ }
-    requires { ⌜ Blocked (now words) a ⌝ }
+// Whether the blocked lock a leads back to itself. No cycle passes a cleared lock, so these have their marks from the start.
+fn on_cycle(words: &[u32], ranks: &[u32], a: u32, depth: u32, cleared: [bool; LOCK_PLACES]) -> bool
+    requires { ⌜ Trying (now words) (now ranks) a depth cleared ⌝ }
     ensures { λ r. ⌜ r ≡ deadlocked (seen (now (words .entry))) a ⌝ }
 {
-    let depth = count_blocked(words);
-    let mut marks = [false; LOCK_PLACES];
+    let mut marks = cleared;
     search(words, ranks, a, a, depth, &mut marks)
 }
 
-// The first lock on the blocked chain that leads back to itself, or 0.
+// The first lock on the blocked chain that leads back to itself, or 0. A lock that does not is cleared: no later search
+// enters it. A search is never deeper than the count of blocked locks.
 fn first_on_cycle(words: &[u32], ranks: &[u32]) -> u32
     requires { ⌜ Some Core (now words) ⌝ }
     requires { ⌜ Ranked (now words) (now ranks) ⌝ }
     ensures { λ r. ⌜ r ≡ victim (seen (now (words .entry))) ⌝ }
 {
+    let depth = count_blocked(words);
+    let mut cleared = [false; LOCK_PLACES];
     let mut k = header_word(words, BLOCKED);
     while k != 0 {
         let next = lock_word(words, k, LOCK_NEXT_BLOCKED);
-        if on_cycle(words, ranks, k) {
+        if on_cycle(words, ranks, k, depth, cleared) {
             return k;
         }
+        cleared[k as usize] = true;
         k = next;
     }
     0

@@ -168,11 +168,23 @@ const FITS: [[bool; 6]; 64] = [
     [true, false, false, false, false, false], // 63: NL CR CW PR PW EX
 ];
 
-// Whether the asked mode is compatible with every mode of the set.
-pub fn fits(set: u32, asked: u32) -> bool
+fn in_table(set: u32, asked: u32) -> bool
     requires { ⌜ set < 64 ⌝ }
     requires { ⌜ asked < 6 ⌝ }
     ensures { λ r. ⌜ r ≡ fits-set set asked ⌝ }
 {
     FITS[set as usize][asked as usize]
+}
+
+// Whether the asked mode is compatible with every mode of the set. Where nobody holds a mode the table, which is built at
+// each use, is not needed.
+pub fn fits(set: u32, asked: u32) -> bool
+    requires { ⌜ set < 64 ⌝ }
+    requires { ⌜ asked < 6 ⌝ }
+    ensures { λ r. ⌜ r ≡ fits-set set asked ⌝ }
+{
+    if set == 0 {
+        return true;
+    }
+    in_table(set, asked)
 }

@@ -1,4 +1,5 @@
 pub mod Runs
 pub mod Tests
+pub mod States
 pub mod Passing
 pub mod Standing

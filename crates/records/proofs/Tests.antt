@@ -84,8 +84,13 @@ module _ (ws : List ℕ) (r : ℕ) where
   named-at l h e = rw (le-leb 1 r l, le-leb r (resources-in ws) h) e
 
 -- LOCKS
-pub lock-is : (ws : List ℕ) (k : ℕ) {l : Lock} {b f g : Bool} → l ≡ read-lock ws k → b ≡ on-named ws (l .resource) → f ≡ fields-fine b l → g ≡ links-fine ws k → (f && g) ≡ lock-fine ws k
-unfolding lock-fine
-lock-is ws k e n p q = rw (p, q, n, e)
+module _ (ws : List ℕ) (k : ℕ) {l : Lock} {f : Bool} (e : l ≡ read-lock ws k) (p : f ≡ fields-fine (on-named ws (l .resource)) l) where
+  pub lock-stop : not f ≡ true → false ≡ lock-fine ws k
+  unfolding lock-fine
+  lock-stop t = rw (← e, ← p, not-true f t)
 
-pub ruleset records = (needs, short-words, bit-one, bit-none, row-read, row-nonzero, row-free, row-used, resource-stop, resource-go, named-low, named-high, named-at, lock-is)
+  pub lock-go : {g : Bool} → not f ≡ false → g ≡ links-fine ws k → g ≡ lock-fine ws k
+  unfolding lock-fine
+  lock-go t w = rw (← e, ← p, not-false f t) w
+
+pub ruleset records = (needs, short-words, bit-one, bit-none, row-read, row-nonzero, row-free, row-used, resource-stop, resource-go, named-low, named-high, named-at, lock-stop, lock-go)

@@ -51,6 +51,7 @@ ghost use Rattle.fields.specs.Sizes.{Sized};
 ghost use Rattle.names.specs.Names.{named};
 ghost use Rattle.names.specs.Standing.{Slotted};
 ghost use Rattle.checking.specs.Check.{«row-in», «free-row», «used-row», «row-fine», «resource-fine», «on-named», «fields-fine», «links-fine», «lock-fine»};
+ghost use Rattle.records.specs.Fields.{«free-fields», «denied-fields», «granted-fields», «queued-fields»};
 ghost use Rattle.records.specs.Passes.{«resources-pass», «locks-pass»};
 
 // What the pass over the resources finds: each is fine, and so many are free; or one is not.
@@ -210,30 +211,68 @@ fn on_named(words: &[u32], r: u32) -> bool
     in_use(words, r)
 }
 
-// A lock's fields, by its state; whether its resource is in use is told.
-fn fields_fine(named: bool, l: Lock) -> bool
-    ensures { λ x. ⌜ x ≡ fields-fine named l ⌝ }
+// A free lock: all else is zero.
+fn free_fine(l: Lock) -> bool
+    ensures { λ x. ⌜ x ≡ free-fields l ⌝ }
 {
-    let client_right = (1 <= l.client) & (l.client <= LAST_CLIENT);
-    let modes_right = (l.held <= LAST_MODE) & (l.asked <= LAST_MODE);
-    let nowhere = l.resource == 0;
-    let holds_none = l.held == 0;
-    let asks_none = l.asked == 0;
-    let silent = l.completion == COMPLETION_NONE;
-    let granted_right = silent
+    (l.resource == 0)
+        & (l.client == 0)
+        & (l.held == 0)
+        & (l.asked == 0)
+        & (l.completion == COMPLETION_NONE)
+}
+
+// A denied lock: its client is looked at before.
+fn denied_fine(l: Lock) -> bool
+    ensures { λ x. ⌜ x ≡ denied-fields l ⌝ }
+{
+    (l.resource == 0) & (l.held == 0) & (l.asked == 0) & (l.completion == COMPLETION_DENIED)
+}
+
+// A granted lock: its client, its resource and its modes are looked at before.
+fn granted_fine(l: Lock) -> bool
+    ensures { λ x. ⌜ x ≡ granted-fields l ⌝ }
+{
+    let told_right = (l.completion == COMPLETION_NONE)
         | (l.completion == COMPLETION_GRANTED)
         | (l.completion == COMPLETION_CONVERSION_DENIED);
-    let denied_right = l.completion == COMPLETION_DENIED;
-    (l.state == STATE_FREE) & nowhere & (l.client == 0) & holds_none & asks_none & silent
-        | (l.state == STATE_GRANTED)
-            & named
-            & client_right
-            & modes_right
-            & asks_none
-            & granted_right
-        | (l.state == STATE_CONVERTING) & named & client_right & modes_right & silent
-        | (l.state == STATE_WAITING) & named & client_right & modes_right & silent & holds_none
-        | (l.state == STATE_DENIED) & client_right & nowhere & holds_none & asks_none & denied_right
+    (l.asked == 0) & told_right
+}
+
+// A lock on a queue: its client and its resource are looked at before.
+fn queued_fine(l: Lock) -> bool
+    ensures { λ x. ⌜ x ≡ queued-fields l ⌝ }
+{
+    if !((l.held <= LAST_MODE) & (l.asked <= LAST_MODE)) {
+        return false;
+    }
+    if l.state == STATE_GRANTED {
+        return granted_fine(l);
+    }
+    if l.state == STATE_WAITING {
+        return (l.completion == COMPLETION_NONE) & (l.held == 0);
+    }
+    (l.state == STATE_CONVERTING) & (l.completion == COMPLETION_NONE)
+}
+
+// A lock's fields, by its state: only what its state needs is looked at.
+fn fields_fine(words: &[u32], l: Lock) -> bool
+    requires { ⌜ Sized (now words) ⌝ }
+    ensures { λ x. ⌜ x ≡ fields-fine (on-named (now (words .entry)) (l .resource)) l ⌝ }
+{
+    if l.state == STATE_FREE {
+        return free_fine(l);
+    }
+    if !((1 <= l.client) & (l.client <= LAST_CLIENT)) {
+        return false;
+    }
+    if l.state == STATE_DENIED {
+        return denied_fine(l);
+    }
+    if !on_named(words, l.resource) {
+        return false;
+    }
+    queued_fine(l)
 }
 
 // Off the blocked and the notice chain the links there of lock k, which is l, are zero.
@@ -254,8 +293,10 @@ fn lock_fine(words: &[u32], k: u32, l: Lock) -> bool
     requires { ⌜ l ≡ read-lock (now words) k ⌝ }
     ensures { λ x. ⌜ x ≡ lock-fine (now (words .entry)) k ⌝ }
 {
-    let named = on_named(words, l.resource);
-    fields_fine(named, l) & links_fine(words, k, l)
+    if !fields_fine(words, l) {
+        return false;
+    }
+    links_fine(words, k, l)
 }
 
 // Each lock is looked at once.

@@ -5,6 +5,7 @@ mod call;
 mod counts;
 mod damage;
 mod events;
+mod every;
 mod generate;
 mod manager;
 mod play;
@@ -26,6 +27,8 @@ use std::time::{Duration, Instant};
 const USAGE: &str = "\
 usage: compare [--calls N] [--seed S] [--with flat|library]   play N calls (200000) on the model and another manager
        compare --game G [--with flat|library]                 play the one game of seed G
+       compare --every N [--with flat|library]                make every call in the first N states of small tables
+       with --trace, each game's seed is told before it is played, for finding a crash
        compare image SCENARIO FILE                            write the image of a small scenario, by the model's bytes
        compare scenarios                                      tell the scenarios
 The library is there if the program was built with --features library; it is then what the model is compared with.";
@@ -53,19 +56,24 @@ struct Options {
     calls: u64,
     seed: u64,
     game: Option<u64>,
+    every: Option<usize>,
     with: String,
+    trace: bool,
 }
 
 impl Options {
     fn read(words: &[&str]) -> Option<Options> {
         let usual = if cfg!(feature = "library") { "library" } else { "flat" };
-        let mut options = Options { calls: 200_000, seed: 1, game: None, with: usual.to_string() };
-        for pair in words.chunks(2) {
-            match *pair {
-                ["--calls", number] => options.calls = number.parse().ok()?,
-                ["--seed", number] => options.seed = number.parse().ok()?,
-                ["--game", number] => options.game = Some(number.parse().ok()?),
-                ["--with", manager] => options.with = manager.to_string(),
+        let mut options = Options { calls: 200_000, seed: 1, game: None, every: None, with: usual.to_string(), trace: false };
+        let mut words = words.iter();
+        while let Some(word) = words.next() {
+            match *word {
+                "--trace" => options.trace = true,
+                "--calls" => options.calls = words.next()?.parse().ok()?,
+                "--seed" => options.seed = words.next()?.parse().ok()?,
+                "--game" => options.game = Some(words.next()?.parse().ok()?),
+                "--every" => options.every = Some(words.next()?.parse().ok()?),
+                "--with" => options.with = words.next()?.to_string(),
                 _ => return None,
             }
         }
@@ -82,9 +90,10 @@ impl Options {
             eprintln!("panic in the game of seed {}", GAME.load(Ordering::Relaxed));
             told(information);
         }));
-        match self.game {
-            Some(seed) => play_one(&*other, seed),
-            None => self.play_all(&*other),
+        match (self.game, self.every) {
+            (Some(seed), _) => play_one(&*other, seed),
+            (None, Some(states)) => play_every(&*other, states),
+            (None, None) => self.play_all(&*other),
         }
     }
 
@@ -97,6 +106,9 @@ impl Options {
         while counts.total() < self.calls {
             let seed = Rng::game_seed(self.seed, games);
             games += 1;
+            if self.trace {
+                eprintln!("game of seed {seed}");
+            }
             if let Err(failed) = play_game(other, seed, &mut counts, self.calls) {
                 return failed.report(other);
             }
@@ -173,6 +185,24 @@ impl Failed {
     }
 }
 
+/// Makes every call in the first states of small tables of several sizes.
+fn play_every(other: &dyn Manager, states: usize) -> ExitCode {
+    for sizes in [(1, 1), (1, 2), (1, 3), (2, 3), (1, 4)] {
+        match every::explore(&Model, other, sizes, states) {
+            Ok(explored) => println!(
+                "R {}, L {}: {} calls ({} accepted) in {} of {} states met, no difference",
+                sizes.0, sizes.1, explored.calls, explored.accepted, explored.states, explored.met
+            ),
+            Err((calls, difference)) => {
+                println!("DIFFERENCE with R {}, L {} (first is the model): {difference}", sizes.0, sizes.1);
+                calls.iter().enumerate().for_each(|(at, call)| println!("  {}. {call}", at + 1));
+                return ExitCode::FAILURE;
+            }
+        }
+    }
+    ExitCode::SUCCESS
+}
+
 fn play_one(other: &dyn Manager, seed: u64) -> ExitCode {
     let mut counts = Counts::default();
     match play_game(other, seed, &mut counts, u64::MAX) {
@@ -230,18 +260,180 @@ fn read_back(board: &Board) -> Option<State> {
 #[cfg(test)]
 mod tests {
     use super::*;
+    use crate::call::Change;
+    use crate::manager::Tables;
+
+    /// Plays games of a seed until there were enough calls, or the first that fails.
+    fn play(other: &dyn Manager, seed: u64, enough: u64) -> Result<Counts, Failed> {
+        let mut counts = Counts::default();
+        let mut games = 0;
+        while counts.total() < enough {
+            play_game(other, Rng::game_seed(seed, games), &mut counts, enough)?;
+            games += 1;
+        }
+        Ok(counts)
+    }
 
     #[test]
     fn the_model_and_flat_agree() {
-        let mut counts = Counts::default();
-        let mut games = 0;
-        while counts.total() < 30_000 {
-            let seed = Rng::game_seed(77, games);
-            games += 1;
-            if let Err(failed) = play_game(&Flat, seed, &mut counts, 30_000) {
-                panic!("seed {}: {}", failed.seed, failed.difference);
+        match play(&Flat, 77, 30_000) {
+            Ok(counts) => assert_eq!(counts.unexpected(), Vec::<String>::new()),
+            Err(failed) => panic!("seed {}: {}", failed.seed, failed.difference),
+        }
+    }
+
+    /// The mistakes that a faulty manager makes.
+    #[derive(Clone, Copy)]
+    enum Mistake {
+        /// A purge of two or more locks answers one less.
+        PurgeCount,
+        /// A release leaves a stray byte where a freed slot ought to be zero.
+        SlotByte,
+        /// Unsound tables with a nonzero word 7 are taken for sound.
+        Soundness,
+    }
+
+    /// Flat with one mistake.
+    struct Faulty(Mistake);
+
+    impl Manager for Faulty {
+        fn start(&self, t: &mut Tables, resources: u32, locks: u32) -> u64 {
+            Flat.start(t, resources, locks)
+        }
+
+        fn request(&self, t: &mut Tables, client: u32, mode: u32, flags: u32, name: &[u8]) -> u64 {
+            Flat.request(t, client, mode, flags, name)
+        }
+
+        fn convert(&self, t: &mut Tables, client: u32, lock: u32, mode: u32, flags: u32, value: &[u8]) -> u64 {
+            Flat.convert(t, client, lock, mode, flags, value)
+        }
+
+        fn release(&self, t: &mut Tables, client: u32, lock: u32, flags: u32, value: &[u8]) -> u64 {
+            let answer = Flat.release(t, client, lock, flags, value);
+            if let (Mistake::SlotByte, 0, Some(last)) = (self.0, answer, t.slots.last_mut()) {
+                *last = 1;
+            }
+            answer
+        }
+
+        fn cancel(&self, t: &mut Tables, client: u32, lock: u32) -> u64 {
+            Flat.cancel(t, client, lock)
+        }
+
+        fn purge(&self, t: &mut Tables, client: u32) -> u64 {
+            match (self.0, Flat.purge(t, client)) {
+                (Mistake::PurgeCount, count @ 2..=1024) => count - 1,
+                (_, answer) => answer,
             }
         }
-        assert_eq!(counts.unexpected(), Vec::<String>::new());
+
+        fn break_deadlock(&self, t: &mut Tables) -> u64 {
+            Flat.break_deadlock(t)
+        }
+
+        fn poll(&self, t: &mut Tables, client: u32) -> u64 {
+            Flat.poll(t, client)
+        }
+
+        fn read(&self, t: &Tables, client: u32, lock: u32, value: &mut [u8]) -> u64 {
+            Flat.read(t, client, lock, value)
+        }
+
+        fn list(&self, t: &Tables, client: u32, lock: u32, entries: &mut [u32]) -> u64 {
+            Flat.list(t, client, lock, entries)
+        }
+
+        fn image(&self, t: &Tables, area: &mut [u8]) -> u64 {
+            Flat.image(t, area)
+        }
+
+        fn load(&self, image: &[u8], t: &mut Tables) -> u64 {
+            Flat.load(image, t)
+        }
+
+        fn sound(&self, t: &Tables) -> u32 {
+            let mut eased = t.clone();
+            if let (Mistake::Soundness, Some(word)) = (self.0, eased.words.get_mut(7)) {
+                *word = 0;
+            }
+            Flat.sound(&eased)
+        }
+
+        fn holder(&self, image: &[u8], name: &[u8]) -> u32 {
+            Flat.holder(image, name)
+        }
+    }
+
+    /// The failure that a mistake leads to, and the calls that are left of it.
+    fn found(mistake: Mistake) -> (Failed, Vec<Call>) {
+        let faulty = Faulty(mistake);
+        let failed = play(&faulty, 1, 30_000).err().expect("the mistake is found");
+        let short = shrink(&Model, &faulty, &failed.calls, 4000);
+        assert!(play_list(&Model, &faulty, &short).is_some(), "the shorter list shows a difference too");
+        assert!(play_list(&Model, &Flat, &short).is_none(), "and it is the mistake's");
+        (failed, short)
+    }
+
+    #[test]
+    fn a_wrong_count_is_found_and_the_list_shrunk() {
+        let (failed, short) = found(Mistake::PurgeCount);
+        assert!(matches!(failed.difference, Difference::Answer(..)));
+        // Tables, at most two requests, and the purge.
+        assert!(short.len() <= 4, "{} calls are left", short.len());
+        assert_eq!(short.last().map(Call::entry), Some(Entry::Purge));
+    }
+
+    #[test]
+    fn a_stray_byte_is_found() {
+        let (failed, short) = found(Mistake::SlotByte);
+        assert!(matches!(failed.difference, Difference::Slots { first: 0, second: 1, .. }));
+        assert_eq!(short.last().map(Call::entry), Some(Entry::Release));
+    }
+
+    #[test]
+    fn a_difference_in_soundness_is_found() {
+        let (_, short) = found(Mistake::Soundness);
+        assert!(short.len() <= 2, "{} calls are left", short.len());
+    }
+
+    /// Every word of many small states is set to every number that may matter, and every slot byte changed.
+    #[test]
+    fn every_single_change_is_judged_alike() {
+        let mut rng = Rng::new(5);
+        let names: Vec<Vec<u8>> = vec![b"a".to_vec(), b"b".to_vec(), b"a\0".to_vec()];
+        let mut sound = [0, 0];
+        for _ in 0..60 {
+            let filling = states::Filling { resources: 2, locks: 5, clients: &[1, 2], names: &names };
+            let (words, slots) = states::random(&mut rng, &filling).to_tables();
+            let tables = Tables { words, slots };
+            let words =
+                (0..tables.words.len()).flat_map(|at| (0..=6).chain([64, 65, 255, 256, u32::MAX]).map(move |to| Change::Word(at, to)));
+            let bytes = (0..tables.slots.len()).flat_map(|at| [0, b'a', b'b'].map(|to| Change::Byte(at, to)));
+            for change in words.chain(bytes) {
+                let mut changed = tables.clone();
+                call::damage(&mut changed, &[change]);
+                let judged = (Model.sound(&changed), Flat.sound(&changed));
+                assert_eq!(judged.0, judged.1, "{change:?} of {tables:?}");
+                sound[judged.0 as usize] += 1;
+            }
+        }
+        assert!(sound[0] > 50_000 && sound[1] > 5_000, "{sound:?}");
+    }
+
+    #[test]
+    fn what_never_occurred_is_told() {
+        let counts = Counts::default();
+        let missing = counts.missing();
+        assert!(missing.contains(&"Request refused with 13".to_string()));
+        assert!(missing.contains(&"Poll answering 3".to_string()));
+        assert!(missing.len() > 150, "{} expectations", missing.len());
+    }
+
+    #[test]
+    fn options_are_read() {
+        let options = Options::read(&["--calls", "9", "--trace", "--seed", "4"]).expect("known options");
+        assert_eq!((options.calls, options.seed, options.trace), (9, 4, true));
+        assert!(Options::read(&["--calls"]).is_none() && Options::read(&["--calls", "x"]).is_none() && Options::read(&["y"]).is_none());
     }
 }

@@ -166,6 +166,12 @@ impl<'m> Board<'m> {
         &self.first.tables
     }
 
+    /// Goes on from other tables, on both sides.
+    pub fn set(&mut self, tables: &Tables) {
+        self.first.tables.clone_from(tables);
+        self.second.tables.clone_from(tables);
+    }
+
     /// Makes a call on both sides.
     pub fn play(&mut self, call: &Call) -> Result<Outcome, Difference> {
         if let Call::Damaged { changes, call, stays } = call {

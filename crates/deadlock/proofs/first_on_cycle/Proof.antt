@@ -5,10 +5,13 @@ use Rattle.deadlock.proofs.first_on_cycle.Statement.{statement}
 use Rattle.deadlock.proofs.first_on_cycle.Tie as tie
 
 abbrev Inv-loop : tie.InvT-loop
-Inv-loop words ranks k₀ k = Seeking words ranks k
+Inv-loop words ranks depth cleared₀ k₀ cleared k = Seeking words ranks depth k cleared
 
 abbrev μ-loop : tie.MeasureT-loop
-μ-loop words ranks k₀ k = length (onward words 1 k)
+μ-loop words ranks depth cleared₀ k₀ cleared k = length (onward words 1 k)
+
+count-blocked-requires : tie.Need-count-blocked-requires Inv-loop μ-loop
+count-blocked-requires c κs = search seek-laws
 
 header-word-requires : tie.Need-header-word-requires Inv-loop μ-loop
 header-word-requires c κs = search seek-laws
@@ -25,6 +28,12 @@ on-cycle-requires c κs = search seek-laws
 returns : tie.Need-returns Inv-loop μ-loop
 returns c = search seek-laws
 
+cast-cleared : tie.Need-cast-cleared Inv-loop μ-loop
+cast-cleared c = search seek-laws
+
+array-write-cleared : tie.Need-array-write-cleared Inv-loop μ-loop
+array-write-cleared c = search seek-laws
+
 loop-less : tie.Need-loop-less Inv-loop μ-loop
 loop-less c = search seek-laws
 
@@ -40,11 +49,14 @@ first-on-cycle-spec =
     (tie.spec
     Inv-loop
     μ-loop
+    count-blocked-requires
     header-word-requires
     loop-holds
     lock-word-requires
     on-cycle-requires
     returns
+    cast-cleared
+    array-write-cleared
     loop-less
     loop-again
     returns-2)

@@ -3,9 +3,6 @@ use borrow.Author.Needs.{needs}
 use Rattle.deadlock.proofs.on_cycle.Statement.{statement}
 use Rattle.deadlock.proofs.on_cycle.Tie as tie
 
-count-blocked-requires : tie.Need-count-blocked-requires
-count-blocked-requires c κs = search needs
-
 slice-aggregate-search : tie.Need-slice-aggregate-search
 slice-aggregate-search c = search needs
 
@@ -16,5 +13,4 @@ returns : tie.Need-returns
 returns c = search cycle-laws
 
 pub on-cycle-spec : {M : Type 1} → statement M
-on-cycle-spec =
-    tie.close (tie.spec count-blocked-requires slice-aggregate-search search-requires returns)
+on-cycle-spec = tie.close (tie.spec slice-aggregate-search search-requires returns)

@@ -1,29 +1,19 @@
--- `modes::fits` meets its contract: one computed test over the 384 entries of the code's table. Assumes nothing.
-use mathlib.Core.Path.{refl}
+-- `modes::fits`: every mode is compatible with those of the empty set; else the table tells.
 use borrow.Author.Needs.{needs}
 use Rattle.modes.specs.Modes.{rows, compatible, all-modes}
 use Rattle.modes.specs.Sets.{in-set, fits-set}
-use Rattle.modes.proofs.Table.{entry}
 use Rattle.modes.proofs.fits.Statement.{statement}
 use Rattle.modes.proofs.fits.Tie as tie
-use Rattle.modes.proofs.fits.Reads as reads
-use Rattle.modes.proofs.fits.Lts as lts
 
-mul-result : tie.Need-mul-result
-mul-result c = search needs
-
-index-1-result : tie.Need-index-1-result
-index-1-result c = search needs
-
-index-2-result : tie.Need-index-2-result
-index-2-result c = search needs
-
--- `lts.m203 .. .1 .1 .1 .0` is the code's own table: local 3 in the state of which `Need-index-1-result` speaks
 returns : tie.Need-returns
 unfolding fits-set in-set all-modes compatible rows
-returns c =
-    entry fits-set 64 6 (lts.m203 reads.Pre reads.Post (c .before .args) (c .before .blocks) .1 .1 .1 .0) refl
-    (c .before .args .set) (c .before .args .asked) (search needs) (search needs)
+returns c = rw (c .if1 .taken)
+
+in-table-requires : tie.Need-in-table-requires
+in-table-requires c κs = search needs
+
+returns-2 : tie.Need-returns-2
+returns-2 c = search needs
 
 pub fits-spec : {M : Type 1} → statement M
-fits-spec = tie.close (tie.spec mul-result index-1-result index-2-result returns)
+fits-spec = tie.close (tie.spec returns in-table-requires returns-2)

@@ -7,6 +7,6 @@ lock-fine-spec =
     tie.close
     (tie.spec
     (λ c κs. search records)
-    (λ c κs. search records)
+    (λ c. search records)
     (λ c κs. search records)
     (λ c. search records))
