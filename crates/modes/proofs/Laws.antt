@@ -2,17 +2,18 @@
 use mathlib.Core.Path.{_≡_, _∙_, refl, sym, ap}
 use mathlib.Core.Bool.{Bool, true, false, _&&_, _||_, not}
 use mathlib.Core.List.{List, []}
-use Prim.Native.Nat.{ℕ, zero, suc, _*_, _%_, _^_, _≤_, _<_}
+use Prim.Native.Nat.{ℕ, zero, suc, _-_, _*_, _%_, _^_, _≤_, _<_}
 use native.Mathlib.Omega.{arith}
-use lib.Bits.{bitOr}
+use lib.Bits.{bitAnd, bitOr}
 use lib.Dec.{eqb, leb, ltb}
 use lib.ListN.{getD, length, List·getD-eq-default}
+use borrow.Author.Needs.{needs}
 use borrow.Author.Tests.{ltb-true, leb-true, eqb-true, le-leb, lt-ltb, lt-leb}
 use Rattle.modes.specs.declared.Made.{Made}
 use Rattle.modes.specs.declared.Made.the-variants.{Mode, Refused}
 use Rattle.modes.specs.declared.Mode as declared
 use Rattle.modes.specs.Modes.{rows, compatible, all-modes, down}
-use Rattle.modes.specs.Sets.{in-set, fits-set, with-mode}
+use Rattle.modes.specs.Sets.{in-set, set-of, against, fits-set, with-mode}
 use Rattle.modes.specs.Made.{Numbers, numbers, made}
 use Rattle.modes.proofs.Table.{parts, by-range, below, below2, agree2, agree3}
 
@@ -41,7 +42,7 @@ compatible-sym a b =
     (λ p. none-asked a b p ∙ sym (none-held b a p)))
     (λ p. none-held a b p ∙ sym (none-asked b a p))
 
--- all six modes pass a test exactly if each does
+-- a test that all six modes pass holds of each
 pub all-modes-at : (test : ℕ → Bool) → all-modes test ≡ true → (x : ℕ) → x ≤ 5 → test x ≡ true
 unfolding all-modes
 all-modes-at test h zero l = search parts
@@ -51,10 +52,6 @@ all-modes-at test h (suc (suc (suc zero))) l = search parts
 all-modes-at test h (suc (suc (suc (suc zero)))) l = search parts
 all-modes-at test h (suc (suc (suc (suc (suc zero))))) l = search parts
 all-modes-at test h (suc (suc (suc (suc (suc (suc n)))))) l = absurd (omega arith)
-
-pub all-modes-intro : (test : ℕ → Bool) → ((x : ℕ) → x ≤ 5 → test x ≡ true) → all-modes test ≡ true
-unfolding all-modes
-all-modes-intro test h = rw (h 0 (omega arith), h 1 (omega arith), h 2 (omega arith), h 3 (omega arith), h 4 (omega arith), h 5 (omega arith))
 
 -- a down conversion gives way to every mode that the old one let in
 pub down-use : (a b : ℕ) → down a b ≡ true → (x : ℕ) → x ≤ 5 → compatible a x ≡ true → compatible b x ≡ true
@@ -95,6 +92,19 @@ unfolding with-mode in-set
 or-mode s m hs hm =
     eqb-true (bitOr s (1 * 2 ^ m % 4294967296)) (with-mode s m)
     (below2 (λ s m. eqb (bitOr s (1 * 2 ^ m % 4294967296)) (with-mode s m)) 64 6 refl s m hs hm)
+
+-- no mode of the set is against the asked one
+pub and-fits : (s a r : ℕ) → s < 64 → a < 6 → r ≡ against a → eqb (bitAnd s r) 0 ≡ fits-set s a
+unfolding against set-of fits-set in-set all-modes compatible rows
+and-fits s a r hs ha e = rw e (agree2 (λ s a. eqb (bitAnd s (against a)) 0) fits-set 64 6 refl s a hs ha)
+
+-- no mode is against the new one and not against the old
+pub and-down : (a b x y : ℕ) → a < 6 → b < 6 → x ≡ against b → y ≡ against a → eqb (bitAnd x (4294967295 - y)) 0 ≡ down a b
+unfolding against set-of down all-modes compatible rows
+and-down a b x y ha hb e f = rw (e, f) (agree2 (λ a b. eqb (bitAnd (against b) (4294967295 - against a)) 0) down 6 6 refl a b ha hb)
+
+-- what the returns of `fits` and `down` need
+pub ruleset bits = (needs, and-fits, and-down)
 
 -- what a number makes: the mode of that number up to 5, and a refusal above
 made-low : (n : ℕ) → n < 6 → made n ≡ record { refusal = 0; mode = n }

@@ -8,6 +8,17 @@ use Rattle.modes.specs.Modes.{all-modes, compatible}
 unfoldable pub in-set : ℕ → ℕ → Bool
 in-set set mode = eqb (set / 2 ^ mode % 2) 1
 
+-- the set of the modes that pass the test
+unfoldable pub set-of : (ℕ → Bool) → ℕ
+set-of test = bit 0 + bit 1 + bit 2 + bit 3 + bit 4 + bit 5
+  where
+    bit : ℕ → ℕ
+    bit m = cond (test m) (2 ^ m) 0
+
+-- the modes that are not compatible with this one
+unfoldable pub against : ℕ → ℕ
+against mode = set-of (λ m. not (compatible m mode))
+
 -- the asked mode is compatible with every mode of the set
 unfoldable pub fits-set : ℕ → ℕ → Bool
 fits-set set asked = all-modes (λ m. not (in-set set m) || compatible m asked)

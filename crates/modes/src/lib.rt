@@ -3,7 +3,7 @@
 ghost use mathlib.Core.Path.{_≡_};
 ghost use Prim.Native.Nat.{_<_};
 ghost use Rattle.modes.specs.Modes.{compatible, down};
-ghost use Rattle.modes.specs.Sets.{«fits-set», «with-mode»};
+ghost use Rattle.modes.specs.Sets.{against, «fits-set», «with-mode»};
 ghost use Rattle.modes.specs.Made.{numbers, made};
 
 // A lock mode.
@@ -75,20 +75,97 @@ pub fn goes_with(held: u32, asked: u32) -> bool
     COMPATIBLE[held as usize][asked as usize]
 }
 
-// Whether a conversion is down: every mode compatible with the old mode is compatible with the new.
-pub fn down(old: u32, new: u32) -> bool
-    requires { ⌜ old < 6 ⌝ }
-    requires { ⌜ new < 6 ⌝ }
-    ensures { λ r. ⌜ r ≡ down old new ⌝ }
+// A row for each set of modes, a digit for each asked mode, EX to NL: whether it is compatible with every mode of the
+// set. Rows are numbers, since a constant is built in a local at each use.
+const FITS: [u8; 64] = [
+    0b11_1111, // 0: none
+    0b11_1111, // 1: NL
+    0b01_1111, // 2: CR
+    0b01_1111, // 3: NL CR
+    0b00_0111, // 4: CW
+    0b00_0111, // 5: NL CW
+    0b00_0111, // 6: CR CW
+    0b00_0111, // 7: NL CR CW
+    0b00_1011, // 8: PR
+    0b00_1011, // 9: NL PR
+    0b00_1011, // 10: CR PR
+    0b00_1011, // 11: NL CR PR
+    0b00_0011, // 12: CW PR
+    0b00_0011, // 13: NL CW PR
+    0b00_0011, // 14: CR CW PR
+    0b00_0011, // 15: NL CR CW PR
+    0b00_0011, // 16: PW
+    0b00_0011, // 17: NL PW
+    0b00_0011, // 18: CR PW
+    0b00_0011, // 19: NL CR PW
+    0b00_0011, // 20: CW PW
+    0b00_0011, // 21: NL CW PW
+    0b00_0011, // 22: CR CW PW
+    0b00_0011, // 23: NL CR CW PW
+    0b00_0011, // 24: PR PW
+    0b00_0011, // 25: NL PR PW
+    0b00_0011, // 26: CR PR PW
+    0b00_0011, // 27: NL CR PR PW
+    0b00_0011, // 28: CW PR PW
+    0b00_0011, // 29: NL CW PR PW
+    0b00_0011, // 30: CR CW PR PW
+    0b00_0011, // 31: NL CR CW PR PW
+    0b00_0001, // 32: EX
+    0b00_0001, // 33: NL EX
+    0b00_0001, // 34: CR EX
+    0b00_0001, // 35: NL CR EX
+    0b00_0001, // 36: CW EX
+    0b00_0001, // 37: NL CW EX
+    0b00_0001, // 38: CR CW EX
+    0b00_0001, // 39: NL CR CW EX
+    0b00_0001, // 40: PR EX
+    0b00_0001, // 41: NL PR EX
+    0b00_0001, // 42: CR PR EX
+    0b00_0001, // 43: NL CR PR EX
+    0b00_0001, // 44: CW PR EX
+    0b00_0001, // 45: NL CW PR EX
+    0b00_0001, // 46: CR CW PR EX
+    0b00_0001, // 47: NL CR CW PR EX
+    0b00_0001, // 48: PW EX
+    0b00_0001, // 49: NL PW EX
+    0b00_0001, // 50: CR PW EX
+    0b00_0001, // 51: NL CR PW EX
+    0b00_0001, // 52: CW PW EX
+    0b00_0001, // 53: NL CW PW EX
+    0b00_0001, // 54: CR CW PW EX
+    0b00_0001, // 55: NL CR CW PW EX
+    0b00_0001, // 56: PR PW EX
+    0b00_0001, // 57: NL PR PW EX
+    0b00_0001, // 58: CR PR PW EX
+    0b00_0001, // 59: NL CR PR PW EX
+    0b00_0001, // 60: CW PR PW EX
+    0b00_0001, // 61: NL CW PR PW EX
+    0b00_0001, // 62: CR CW PR PW EX
+    0b00_0001, // 63: NL CR CW PR PW EX
+];
+
+// Whether the asked mode is compatible with every mode of the set, by the table.
+pub fn in_table(set: u32, asked: u32) -> bool
+    requires { ⌜ set < 64 ⌝ }
+    requires { ⌜ asked < 6 ⌝ }
+    ensures { λ r. ⌜ r ≡ fits-set set asked ⌝ }
 {
-    let mut mode = 0;
-    while mode < 6 {
-        if goes_with(old, mode) & !goes_with(new, mode) {
-            return false;
-        }
-        mode += 1;
+    FITS[set as usize] >> asked & 1 == 1
+}
+
+// The modes that are not compatible with this one, as a set. Its digits, from the left, are EX PW PR CW CR NL.
+fn against(mode: u32) -> u32
+    requires { ⌜ mode < 6 ⌝ }
+    ensures { λ r. ⌜ r ≡ against mode ⌝ }
+{
+    match mode {
+        0 => 0b00_0000, // NL: none
+        1 => 0b10_0000, // CR: EX
+        2 => 0b11_1000, // CW: PR PW EX
+        3 => 0b11_0100, // PR: CW PW EX
+        4 => 0b11_1100, // PW: CW PR PW EX
+        _ => 0b11_1110, // EX: all but NL
     }
-    true
 }
 
 // The set with one mode more.
@@ -100,91 +177,20 @@ pub fn with_mode(set: u32, mode: u32) -> u32
     set | (1 << mode)
 }
 
-// A row for each set of modes, a column for each asked mode: whether it is compatible with every mode of the set.
-const FITS: [[bool; 6]; 64] = [
-    [true, true, true, true, true, true], // 0: none
-    [true, true, true, true, true, true], // 1: NL
-    [true, true, true, true, true, false], // 2: CR
-    [true, true, true, true, true, false], // 3: NL CR
-    [true, true, true, false, false, false], // 4: CW
-    [true, true, true, false, false, false], // 5: NL CW
-    [true, true, true, false, false, false], // 6: CR CW
-    [true, true, true, false, false, false], // 7: NL CR CW
-    [true, true, false, true, false, false], // 8: PR
-    [true, true, false, true, false, false], // 9: NL PR
-    [true, true, false, true, false, false], // 10: CR PR
-    [true, true, false, true, false, false], // 11: NL CR PR
-    [true, true, false, false, false, false], // 12: CW PR
-    [true, true, false, false, false, false], // 13: NL CW PR
-    [true, true, false, false, false, false], // 14: CR CW PR
-    [true, true, false, false, false, false], // 15: NL CR CW PR
-    [true, true, false, false, false, false], // 16: PW
-    [true, true, false, false, false, false], // 17: NL PW
-    [true, true, false, false, false, false], // 18: CR PW
-    [true, true, false, false, false, false], // 19: NL CR PW
-    [true, true, false, false, false, false], // 20: CW PW
-    [true, true, false, false, false, false], // 21: NL CW PW
-    [true, true, false, false, false, false], // 22: CR CW PW
-    [true, true, false, false, false, false], // 23: NL CR CW PW
-    [true, true, false, false, false, false], // 24: PR PW
-    [true, true, false, false, false, false], // 25: NL PR PW
-    [true, true, false, false, false, false], // 26: CR PR PW
-    [true, true, false, false, false, false], // 27: NL CR PR PW
-    [true, true, false, false, false, false], // 28: CW PR PW
-    [true, true, false, false, false, false], // 29: NL CW PR PW
-    [true, true, false, false, false, false], // 30: CR CW PR PW
-    [true, true, false, false, false, false], // 31: NL CR CW PR PW
-    [true, false, false, false, false, false], // 32: EX
-    [true, false, false, false, false, false], // 33: NL EX
-    [true, false, false, false, false, false], // 34: CR EX
-    [true, false, false, false, false, false], // 35: NL CR EX
-    [true, false, false, false, false, false], // 36: CW EX
-    [true, false, false, false, false, false], // 37: NL CW EX
-    [true, false, false, false, false, false], // 38: CR CW EX
-    [true, false, false, false, false, false], // 39: NL CR CW EX
-    [true, false, false, false, false, false], // 40: PR EX
-    [true, false, false, false, false, false], // 41: NL PR EX
-    [true, false, false, false, false, false], // 42: CR PR EX
-    [true, false, false, false, false, false], // 43: NL CR PR EX
-    [true, false, false, false, false, false], // 44: CW PR EX
-    [true, false, false, false, false, false], // 45: NL CW PR EX
-    [true, false, false, false, false, false], // 46: CR CW PR EX
-    [true, false, false, false, false, false], // 47: NL CR CW PR EX
-    [true, false, false, false, false, false], // 48: PW EX
-    [true, false, false, false, false, false], // 49: NL PW EX
-    [true, false, false, false, false, false], // 50: CR PW EX
-    [true, false, false, false, false, false], // 51: NL CR PW EX
-    [true, false, false, false, false, false], // 52: CW PW EX
-    [true, false, false, false, false, false], // 53: NL CW PW EX
-    [true, false, false, false, false, false], // 54: CR CW PW EX
-    [true, false, false, false, false, false], // 55: NL CR CW PW EX
-    [true, false, false, false, false, false], // 56: PR PW EX
-    [true, false, false, false, false, false], // 57: NL PR PW EX
-    [true, false, false, false, false, false], // 58: CR PR PW EX
-    [true, false, false, false, false, false], // 59: NL CR PR PW EX
-    [true, false, false, false, false, false], // 60: CW PR PW EX
-    [true, false, false, false, false, false], // 61: NL CW PR PW EX
-    [true, false, false, false, false, false], // 62: CR CW PR PW EX
-    [true, false, false, false, false, false], // 63: NL CR CW PR PW EX
-];
-
-fn in_table(set: u32, asked: u32) -> bool
-    requires { ⌜ set < 64 ⌝ }
-    requires { ⌜ asked < 6 ⌝ }
-    ensures { λ r. ⌜ r ≡ fits-set set asked ⌝ }
-{
-    FITS[set as usize][asked as usize]
-}
-
-// Whether the asked mode is compatible with every mode of the set. Where nobody holds a mode the table, which is built at
-// each use, is not needed.
+// The same without the table: the soundness check asks it of each lock.
 pub fn fits(set: u32, asked: u32) -> bool
     requires { ⌜ set < 64 ⌝ }
     requires { ⌜ asked < 6 ⌝ }
     ensures { λ r. ⌜ r ≡ fits-set set asked ⌝ }
 {
-    if set == 0 {
-        return true;
-    }
-    in_table(set, asked)
+    set & against(asked) == 0
+}
+
+// Whether a conversion is down: every mode compatible with the old mode is compatible with the new.
+pub fn down(old: u32, new: u32) -> bool
+    requires { ⌜ old < 6 ⌝ }
+    requires { ⌜ new < 6 ⌝ }
+    ensures { λ r. ⌜ r ≡ down old new ⌝ }
+{
+    against(new) & !against(old) == 0
 }
