@@ -1,15 +1,14 @@
 -- Where each walk starts: the whole is what is left of the chain from its head.
 use mathlib.Core.Path.{_≡_, refl}
-use mathlib.Core.Bool.{Bool, true, false, not, _&&_}
+use mathlib.Core.Bool.{not}
 use mathlib.Core.List.{List}
 use Prim.Native.Nat.{ℕ}
-use lib.Dec.{eqb, leb}
 use borrow.Author.Needs.{needs}
 use Rattle.tables.specs.State.{blocked-lock, told}
 use Rattle.tables.specs.Layout.{of-header, of-resource, of-lock, resources-in, locks-in, word-in, read-lock}
 use Rattle.names.specs.Names.{named}
-use Rattle.checking.specs.Check.{free-resource-on, blocked-on, notice-on, home-on, home-steps}
-use Rattle.chains.specs.Walks.{guarded, left, at-home, free-met, blocked-met, noticed-met}
+use Rattle.checking.specs.Check.{free-resource-on, blocked-on, notice-on, stands, home-on, home-steps}
+use Rattle.chains.specs.Walks.{guarded, left, free-met, blocked-met, noticed-met}
 use Rattle.chains.proofs.Walking.{walk-start}
 
 pub free-start : (ws : List ℕ) → free-met ws ≡ left (λ r. word-in ws (of-resource r 0)) (λ r. not (named ws r)) (resources-in ws) 0 (word-in ws (of-header 2))
@@ -24,17 +23,12 @@ pub noticed-start : (ws : List ℕ) → noticed-met ws ≡ left (λ k. word-in w
 unfolding noticed-met notice-on guarded
 noticed-start ws = walk-start (λ k. word-in ws (of-lock k 2)) (notice-on ws) (λ k. told (read-lock ws k)) (locks-in ws) (word-in ws (of-header 6)) (λ k. refl)
 
--- `home-on` has its three tests one after the other
-and-three : (a b c : Bool) → a && b && c ≡ a && (b && c)
-and-three true b c = refl
-and-three false b c = refl
+pub home-guarded : (ws : List ℕ) (s r k : ℕ) → home-on ws s r k ≡ guarded (locks-in ws) (stands ws s r) k
+unfolding home-on guarded
+home-guarded ws s r k = refl
 
-pub home-guarded : (ws : List ℕ) (s r k : ℕ) → home-on ws s r k ≡ guarded (locks-in ws) (λ k. at-home s r (read-lock ws k)) k
-unfolding home-on guarded at-home
-home-guarded ws s r k = and-three (leb k (locks-in ws)) (eqb (read-lock ws k .state) s) (eqb (read-lock ws k .resource) r)
-
-pub home-start : (ws : List ℕ) (s r head : ℕ) → home-steps ws s r head ≡ left (λ k. word-in ws (of-lock k 0)) (λ k. at-home s r (read-lock ws k)) (locks-in ws) 0 head
+pub home-start : (ws : List ℕ) (s r head : ℕ) {k : ℕ} → k ≡ head → home-steps ws s r head ≡ left (λ k. word-in ws (of-lock k 0)) (stands ws s r) (locks-in ws) 0 k
 unfolding home-steps
-home-start ws s r head = walk-start (λ k. word-in ws (of-lock k 0)) (home-on ws s r) (λ k. at-home s r (read-lock ws k)) (locks-in ws) head (home-guarded ws s r)
+home-start ws s r head e = rw e (walk-start (λ k. word-in ws (of-lock k 0)) (home-on ws s r) (stands ws s r) (locks-in ws) head (home-guarded ws s r))
 
 pub ruleset starts = (needs, free-start, blocked-start, noticed-start, home-start)

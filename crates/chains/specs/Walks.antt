@@ -2,14 +2,9 @@
 use mathlib.Core.Bool.{Bool, _&&_}
 use mathlib.Core.List.{List}
 use Prim.Native.Nat.{ℕ, _+_, _-_}
-use lib.Dec.{eqb, leb}
-use Rattle.tables.specs.declared.Lock.{Lock}
+use lib.Dec.{leb}
 use Rattle.tables.specs.Layout.{of-header, of-resource, of-lock, resources-in, locks-in, word-in}
 use Rattle.checking.specs.Check.{steps, free-resource-on, blocked-on, notice-on}
-
--- the lock has the state and the resource
-unfoldable pub at-home : ℕ → ℕ → Lock → Bool
-at-home s r l = eqb (l .state) s && eqb (l .resource) r
 
 -- how many records are met on the chain of free resources, on the blocked and on the notice chain
 unfoldable pub free-met : List ℕ → ℕ

@@ -1,7 +1,10 @@
-// The chains of whatever tables are lent: how many records each has. A walk counts its steps, so that it ends.
+// The chains of whatever tables are lent: how many records each has. A walk counts its steps, so that it ends; along a home
+// chain it looks at each lock.
 use access::is_blocked;
 use access::is_told;
 use fields::BLOCKED;
+use fields::DENIED;
+use fields::FREE_LOCKS;
 use fields::FREE_RESOURCES;
 use fields::LOCK_NEXT;
 use fields::LOCK_NEXT_BLOCKED;
@@ -9,22 +12,25 @@ use fields::LOCK_NEXT_NOTICE;
 use fields::LOCKS;
 use fields::NOTICES;
 use fields::RESOURCE_NEXT;
+use fields::RESOURCE_WAIT;
 use fields::RESOURCES;
 use fields::lock_at;
 use fields::lock_word;
 use fields::resource_word;
 use records::in_use;
-use tables::Lock;
+use standing::stands_denied;
+use standing::stands_free;
+use standing::stands_waiting;
 ghost use mathlib.Core.Path.{_≡_};
-ghost use mathlib.Core.Bool.{not};
+ghost use mathlib.Core.Bool.{true, not};
 ghost use Prim.Native.Nat.{_+_, _≤_};
 ghost use Rattle.tables.specs.State.{«blocked-lock», told};
-ghost use Rattle.tables.specs.Layout.{«resources-in», «locks-in», «read-lock»};
+ghost use Rattle.tables.specs.Layout.{«of-header», «of-resource», «resources-in», «locks-in», «word-in», «read-lock»};
 ghost use Rattle.fields.specs.Sizes.{Sized};
 ghost use Rattle.names.specs.Names.{named};
 ghost use Rattle.checking.specs.Check.{«home-steps», «free-resources-fine», «blocked-fine», «notices-fine»};
 ghost use Rattle.records.specs.Passes.{«free-count», «blocked-count», «noticed-count»};
-ghost use Rattle.chains.specs.Walks.{«at-home», «free-met», «blocked-met», «noticed-met»};
+ghost use Rattle.chains.specs.Walks.{«free-met», «blocked-met», «noticed-met»};
 
 // Resource r has no name.
 fn nameless(words: &[u32], r: u32) -> bool
@@ -51,21 +57,6 @@ fn noticed(words: &[u32], k: u32) -> bool
     ensures { λ x. ⌜ x ≡ told (read-lock (now (words .entry)) k) ⌝ }
 {
     is_told(lock_at(words, k))
-}
-
-// The lock has this state and this resource.
-pub fn at_home(l: Lock, state: u32, r: u32) -> bool
-    ensures { λ x. ⌜ x ≡ at-home state r l ⌝ }
-{
-    (l.state == state) & (l.resource == r)
-}
-
-fn stands(words: &[u32], state: u32, r: u32, k: u32) -> bool
-    requires { ⌜ Sized (now words) ⌝ }
-    requires { ⌜ (1 ≤ k) × (k ≤ locks-in (now words)) ⌝ }
-    ensures { λ x. ⌜ x ≡ at-home state r (read-lock (now (words .entry)) k) ⌝ }
-{
-    at_home(lock_at(words, k), state, r)
 }
 
 // How many resources the free chain has; one more than there are if it does not end, or has another.
@@ -140,13 +131,14 @@ fn noticed_met(words: &[u32]) -> u32
     met
 }
 
-// How many locks a home chain has; one more than there are if it does not end, or has one of another state or resource.
-pub fn home_met(words: &[u32], state: u32, r: u32, head: u32) -> u32
+// How many locks the chain of free locks has; one more than there are if it does not end, or has one that does not stand
+// there rightly.
+pub fn free_locks_met(words: &[u32]) -> u32
     requires { ⌜ Sized (now words) ⌝ }
-    ensures { λ x. ⌜ (x ≡ home-steps (now (words .entry)) state r head) × (x ≤ locks-in (now (words .entry)) + 1) ⌝ }
+    ensures { λ x. ⌜ (x ≡ home-steps (now (words .entry)) 0 0 (word-in (now (words .entry)) (of-header 3))) × (x ≤ locks-in (now (words .entry)) + 1) ⌝ }
 {
     let n = words[LOCKS];
-    let mut k = head;
+    let mut k = words[FREE_LOCKS];
     let mut met = 0;
     while k != 0 {
         if n <= met {
@@ -155,7 +147,57 @@ pub fn home_met(words: &[u32], state: u32, r: u32, head: u32) -> u32
         if n < k {
             return n + 1;
         }
-        if !stands(words, state, r, k) {
+        if !stands_free(words, k) {
+            return n + 1;
+        }
+        k = lock_word(words, k, LOCK_NEXT);
+        met += 1;
+    }
+    met
+}
+
+// The same of the chain of denied locks.
+pub fn denied_met(words: &[u32]) -> u32
+    requires { ⌜ Sized (now words) ⌝ }
+    ensures { λ x. ⌜ (x ≡ home-steps (now (words .entry)) 4 0 (word-in (now (words .entry)) (of-header 4))) × (x ≤ locks-in (now (words .entry)) + 1) ⌝ }
+{
+    let n = words[LOCKS];
+    let mut k = words[DENIED];
+    let mut met = 0;
+    while k != 0 {
+        if n <= met {
+            return n + 1;
+        }
+        if n < k {
+            return n + 1;
+        }
+        if !stands_denied(words, k) {
+            return n + 1;
+        }
+        k = lock_word(words, k, LOCK_NEXT);
+        met += 1;
+    }
+    met
+}
+
+// The same of the wait chain of resource r, which is in use.
+pub fn waiting_met(words: &[u32], r: u32) -> u32
+    requires { ⌜ Sized (now words) ⌝ }
+    requires { ⌜ (1 ≤ r) × (r ≤ resources-in (now words)) ⌝ }
+    requires { ⌜ named (now words) r ≡ true ⌝ }
+    ensures { λ x. ⌜ (x ≡ home-steps (now (words .entry)) 3 r (word-in (now (words .entry)) (of-resource r 3))) × (x ≤ locks-in (now (words .entry)) + 1) ⌝ }
+{
+    let n = words[LOCKS];
+    let mut k = resource_word(words, r, RESOURCE_WAIT);
+    let mut met = 0;
+    while k != 0 {
+        if n <= met {
+            return n + 1;
+        }
+        if n < k {
+            return n + 1;
+        }
+        if !stands_waiting(words, r, k) {
             return n + 1;
         }
         k = lock_word(words, k, LOCK_NEXT);

@@ -25,7 +25,7 @@ use Rattle.checking.proofs.Heads.{home-low, ModesLow, grants-read, conv
 use Rattle.checking.proofs.RecordTests.{fields-same, modes-low, resource-low, used-low, fine-right, names-unique}
 use Rattle.checking.proofs.Sides.{side-first, side-link, Spare, Blocked, Noticed, spare-side, blocked-side, notice-side}
 use Rattle.checking.proofs.Homes.{free-in, denied-in, homes-in, Homes, homes-met}
-use Rattle.checking.proofs.Once.{state-of, Stands, right-at, homes-stand}
+use Rattle.checking.proofs.Once.{state-of, Stands, right-at, each-fine, homes-stand}
 
 module _ (ws ss : List ℕ) (h : check ws ss ≡ true) where
   -- WHAT IS CHECKED
@@ -40,10 +40,6 @@ module _ (ws ss : List ℕ) (h : check ws ss ≡ true) where
   resources-fine : all (resource-fine ws ss) (from 1 (resources-in ws)) ≡ true
   unfolding check
   resources-fine = search parts depth 20
-
-  locks-fine : all (lock-fine ws) (from 1 (locks-in ws)) ≡ true
-  unfolding check
-  locks-fine = search parts depth 20
 
   spare : Spare ws
   unfolding check
@@ -79,7 +75,7 @@ module _ (ws ss : List ℕ) (h : check ws ss ≡ true) where
   -- a lock's fields
   module _ (k : ℕ) (low : 1 ≤ k) (high : k ≤ locks-in ws) where
     fine : lock-fine ws k ≡ true
-    fine = each-at (lock-fine ws) (locks-in ws) locks-fine k low high
+    fine = each-fine ws (met .0) (met .1) k low high
 
     fields : fields-right (read ws ss) (read-lock ws k) (read-lock ws k .state) ≡ true
     unfolding lock-fine

@@ -20,7 +20,7 @@ use Rattle.tables.proofs.Grid.{Within}
 use Rattle.tables.proofs.Reading.{lock-of}
 use Rattle.tables.proofs.Conditions.{each-at, each-intro, state, locks-low, slots-sized, header-zero, resource-zeros, chain-ended, chain-inside, fields-tested, stands-as, blocked-off, notice-off, compatible-tested, heads-tested}
 use Rattle.tables.proofs.Fields.{fields-are}
-use Rattle.checking.specs.Check.{resource-fine, on-named, fields-fine, links-fine, lock-fine, home-on, check}
+use Rattle.checking.specs.Check.{resource-fine, on-named, fields-fine, links-fine, lock-fine, stands, home-on, check}
 use Rattle.checking.proofs.Stepping.{Passed}
 use Rattle.checking.proofs.Fitting.{fitting}
 use Rattle.checking.proofs.Walking.{held-in, queue-in, Right, Walked}
@@ -31,9 +31,9 @@ use Rattle.checking.proofs.Homes.{free-in, denied-in, Homes, homes-are}
 use Rattle.checking.proofs.Once.{state-of, on-queue, Stands, stand-total}
 
 -- the tests of the members of a home chain
-on-home : (ws : List ℕ) (s r k : ℕ) → k ≤ locks-in ws → read-lock ws k .state ≡ s → read-lock ws k .resource ≡ r → home-on ws s r k ≡ true
-unfolding home-on
-on-home ws s r k p a b = rw (le-leb k (locks-in ws) p, eq-eqb (read-lock ws k .state) s a, eq-eqb (read-lock ws k .resource) r b)
+on-home : (ws : List ℕ) (s r k : ℕ) → k ≤ locks-in ws → read-lock ws k .state ≡ s → read-lock ws k .resource ≡ r → lock-fine ws k ≡ true → home-on ws s r k ≡ true
+unfolding home-on stands
+on-home ws s r k p a b f = rw (le-leb k (locks-in ws) p, eq-eqb (read-lock ws k .state) s a, eq-eqb (read-lock ws k .resource) r b, f)
 
 queue-field : (q : Queue) → queue-head q < resource-width
 queue-field grants = omega arith
@@ -117,8 +117,8 @@ module _ (ws ss : List ℕ) (h : sound ws ss ≡ true) where
   belongs-is r converts l = refl
   belongs-is r waits l = refl
 
-  stands : (k : ℕ) → 1 ≤ k → k ≤ locks-in ws → Stands ws k
-  stands k p q =
+  stood : (k : ℕ) → 1 ≤ k → k ≤ locks-in ws → Stands ws k
+  stood k p q =
       record {
         free = let z = counts free-locks (omega arith) k p q in unfold read read-chain free-in in z;
         denied = let z = counts denied (omega arith) k p q in unfold read read-chain denied-in in z;
@@ -134,7 +134,7 @@ module _ (ws ss : List ℕ) (h : sound ws ss ≡ true) where
         tested = all-intro (home-on ws 0 0) (read ws ss .free-locks) (λ k m.
             let i = inside (of-locks free-locks) (omega arith) k m in
             let e : read-lock ws k .state ≡ 0 = eqb-true _ 0 (bit-one _ (rw (counts free-locks (omega arith) k (i .0) (i .1)) at m)) in
-            on-home ws 0 0 k (i .1) e (nowhere k (ok k (i .0) (i .1)) e));
+            on-home ws 0 0 k (i .1) e (nowhere k (ok k (i .0) (i .1)) e) (lock-passes k (i .0) (i .1)));
       }
     where
       nowhere : (k : ℕ) → StateOk (used (read ws ss)) (read-lock ws k) (read-lock ws k .state) → read-lock ws k .state ≡ 0 → read-lock ws k .resource ≡ 0
@@ -148,7 +148,7 @@ module _ (ws ss : List ℕ) (h : sound ws ss ≡ true) where
         tested = all-intro (home-on ws 4 0) (read ws ss .denied) (λ k m.
             let i = inside (of-locks denied) (omega arith) k m in
             let b : eqb (read-lock ws k .state) 4 ≡ true = bit-one _ (rw (counts denied (omega arith) k (i .0) (i .1)) at m) in
-            on-home ws 4 0 k (i .1) (eqb-true _ 4 b) (ok-at (used (read ws ss)) (read-lock ws k) 4 (ok k (i .0) (i .1)) b .nowhere));
+            on-home ws 4 0 k (i .1) (eqb-true _ 4 b) (ok-at (used (read ws ss)) (read-lock ws k) 4 (ok k (i .0) (i .1)) b .nowhere) (lock-passes k (i .0) (i .1)));
       }
 
   module _ (r : ℕ) (low : 1 ≤ r) (high : r ≤ resources-in ws) where
@@ -159,8 +159,8 @@ module _ (ws ss : List ℕ) (h : sound ws ss ≡ true) where
           ended = ended (of-locks (queue r q)) (low, high, queue-field q);
           tested = all-intro (home-on ws (state-of q) r) (queue-in ws r q) (λ k m.
               let i = inside (of-locks (queue r q)) (low, high, queue-field q) k (rw (chain-read r low high q) m) in
-              let b : (eqb (read-lock ws k .state) (state-of q) && eqb (read-lock ws k .resource) r) ≡ true = bit-one _ (rw (stands k (i .0) (i .1) .queued r low high q) at m) in
-              on-home ws (state-of q) r k (i .1) (eqb-true _ (state-of q) (and-left _ (eqb (read-lock ws k .resource) r) b)) (eqb-true _ r (and-right (eqb (read-lock ws k .state) (state-of q)) _ b)));
+              let b : (eqb (read-lock ws k .state) (state-of q) && eqb (read-lock ws k .resource) r) ≡ true = bit-one _ (rw (stood k (i .0) (i .1) .queued r low high q) at m) in
+              on-home ws (state-of q) r k (i .1) (eqb-true _ (state-of q) (and-left _ (eqb (read-lock ws k .resource) r) b)) (eqb-true _ r (and-right (eqb (read-lock ws k .state) (state-of q)) _ b)) (lock-passes k (i .0) (i .1)));
         }
 
     walks : Walked ws r
@@ -201,6 +201,6 @@ module _ (ws ss : List ℕ) (h : sound ws ss ≡ true) where
   pub sound-check : check ws ss ≡ true
   unfolding check
   sound-check =
-      and-intro _ _ sizes (and-intro _ _ (eq-eqb _ 0 (header-zero ws ss h)) (and-intro _ _ resources-pass (and-intro _ _ (each-intro (lock-fine ws) (locks-in ws) lock-passes)
-      (and-intro _ _ (side-spare ws spare) (and-intro _ _ (side-blocked ws blocked-are) (and-intro _ _ (side-notice ws noticed) (and-intro _ _ (homes-are ws some homes (stand-total ws homes stands one-home))
-      (unique-names ws ss sized (λ r p q u. right-unique ws ss sized some r p q (resource-is r p q) u)))))))))
+      and-intro _ _ sizes (and-intro _ _ (eq-eqb _ 0 (header-zero ws ss h)) (and-intro _ _ resources-pass (and-intro _ _ (side-spare ws spare)
+      (and-intro _ _ (homes-are ws some homes (stand-total ws homes stood one-home)) (and-intro _ _ (side-blocked ws blocked-are) (and-intro _ _ (side-notice ws noticed)
+      (unique-names ws ss sized (λ r p q u. right-unique ws ss sized some r p q (resource-is r p q) u))))))))

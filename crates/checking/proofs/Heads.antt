@@ -14,11 +14,11 @@ use Rattle.tables.specs.State.{Resource, lock, resource, Queue, grants, convert
 use Rattle.tables.specs.Layout.{resources-in, locks-in, follow, read-chain, read-lock, read-resource, read}
 use Rattle.tables.specs.Grants.{holders, fits, convert-grantable, admits, wait-grantable, grantable-head, no-grantable-head}
 use Rattle.tables.specs.Sound.{holders-compatible}
-use Rattle.tables.proofs.Cases.{by-equal, eqb-same, and-left, and-right, or-left, or-right}
+use Rattle.tables.proofs.Cases.{by-equal, eqb-same, and-left, and-right, or-left, or-right, parts}
 use Rattle.tables.proofs.Counts.{count-same, count-step, count-append, all-at, all-intro, all-cong, by-append}
 use Rattle.tables.proofs.Links.{Each}
 use Rattle.tables.proofs.Reading.{resource-of, lock-of}
-use Rattle.checking.specs.Check.{home-on, heads-wait}
+use Rattle.checking.specs.Check.{lock-fine, stands, home-on, heads-wait}
 use Rattle.checking.proofs.Stepping.{follow-zero, follow-step, once, member}
 use Rattle.checking.proofs.Fitting.{same-truth, all-append, all-true, all-each, gather, fitting, pairs, Low, gather-small, gather-fits, fitting-is, beside-is, pairs-append, pairs-true, true-pairs}
 use Rattle.checking.proofs.Walking.{held-in, asked-in, link-of, head-of, queue-in, Right, convert-fit, others}
@@ -84,17 +84,26 @@ module _ (ws : List ℕ) (some : 1 ≤ locks-in ws) (f g : ℕ → ℕ) (gs : Li
       rw (step, ne-eqb (suc c) 0 (omega arith), others-fit (held-in ws) gs low (suc c) (asked-in ws (suc c)) (follow f (locks-in ws - 1) (f (suc c))) (l .0) (m .1))
 
 -- ON A RESOURCE
-pub home-low : (ws : List ℕ) (s r k : ℕ) → home-on ws s r k ≡ true → k ≤ locks-in ws
-unfolding home-on
-home-low ws s r k h = leb-true k (locks-in ws) (and-left (leb k (locks-in ws)) _ (and-left _ (eqb (read-lock ws k .resource) r) h))
+module _ (ws : List ℕ) (s r k : ℕ) (h : home-on ws s r k ≡ true) where
+  pub home-low : k ≤ locks-in ws
+  unfolding home-on
+  home-low = leb-true k (locks-in ws) (and-left (leb k (locks-in ws)) _ h)
 
-pub home-state : (ws : List ℕ) (s r k : ℕ) → home-on ws s r k ≡ true → read-lock ws k .state ≡ s
-unfolding home-on
-home-state ws s r k h = eqb-true _ s (and-right (leb k (locks-in ws)) _ (and-left _ (eqb (read-lock ws k .resource) r) h))
+  standing : stands ws s r k ≡ true
+  unfolding home-on
+  standing = and-right (leb k (locks-in ws)) _ h
 
-pub home-resource : (ws : List ℕ) (s r k : ℕ) → home-on ws s r k ≡ true → read-lock ws k .resource ≡ r
-unfolding home-on
-home-resource ws s r k h = eqb-true _ r (and-right (leb k (locks-in ws) && eqb (read-lock ws k .state) s) _ h)
+  pub home-state : read-lock ws k .state ≡ s
+  unfolding stands
+  home-state = let z = standing in eqb-true (read-lock ws k .state) s (search parts depth 20)
+
+  pub home-resource : read-lock ws k .resource ≡ r
+  unfolding stands
+  home-resource = let z = standing in eqb-true (read-lock ws k .resource) r (search parts depth 20)
+
+  pub home-fine : lock-fine ws k ≡ true
+  unfolding stands
+  home-fine = let z = standing in search parts depth 20
 
 module _ (ws : List ℕ) (r : ℕ) (q : Queue) (s : ℕ) (right : Right ws r q s) where
   pub queue-once : (j : ℕ) → count j (queue-in ws r q) ≤ 1

@@ -37,7 +37,7 @@ pub record Homes (ws : List ℕ) : Type 0 where
 in-from : (n r : ℕ) → 1 ≤ r → r ≤ n → 1 ≤ count r (from 1 n)
 in-from n r p q = rw (count-from n r, le-within n r p q) (omega arith)
 
-from-in : (n r : ℕ) → 1 ≤ count r (from 1 n) → (1 ≤ r) × (r ≤ n)
+pub from-in : (n r : ℕ) → 1 ≤ count r (from 1 n) → (1 ≤ r) × (r ≤ n)
 from-in n r m = within-le n r (bit-one (within n r) (rw (count-from n r) at m))
 
 module _ (ws : List ℕ) (some : 1 ≤ locks-in ws) where
@@ -73,7 +73,7 @@ module _ (ws : List ℕ) (some : 1 ≤ locks-in ws) where
   unfolding home-steps
   denied-passed h = steps-passed (λ k. word-in ws (of-lock k 0)) (link-in ws (of-locks denied)) (λ k. refl) (home-on ws 4 0) (locks-in ws) (word-in ws (of-header 4)) h .0
 
-  denied-steps : Passed (link-in ws (of-locks denied)) (home-on ws 4 0) (locks-in ws) (word-in ws (of-header 4)) → home-steps ws 4 0 (word-in ws (of-header 4)) ≡ length (denied-in ws)
+  pub denied-steps : Passed (link-in ws (of-locks denied)) (home-on ws 4 0) (locks-in ws) (word-in ws (of-header 4)) → home-steps ws 4 0 (word-in ws (of-header 4)) ≡ length (denied-in ws)
   unfolding home-steps denied-in
   denied-steps p = passed-steps (λ k. word-in ws (of-lock k 0)) (link-in ws (of-locks denied)) (λ k. refl) (home-on ws 4 0) (locks-in ws) (word-in ws (of-header 4)) p
 

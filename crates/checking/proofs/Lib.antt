@@ -9,3 +9,4 @@ pub mod Once
 pub mod Accepted
 pub mod Complete
 pub mod Equal
+pub mod Counting

@@ -15,10 +15,10 @@ use Rattle.tables.specs.Layout.{flat-map, resources-in, locks-in, follow, read-
 use Rattle.tables.proofs.Cases.{by-cases, by-equal, clash, and-intro}
 use Rattle.tables.proofs.Counts.{within-le, le-within, count-nil, count-same, count-step, count-append, count-from, bit-one}
 use Rattle.tables.proofs.Pigeonhole.{length-from, all-of, same-length}
-use Rattle.checking.specs.Check.{home-on}
+use Rattle.checking.specs.Check.{lock-fine, home-on}
 use Rattle.checking.proofs.Stepping.{Passed, once, member}
 use Rattle.checking.proofs.Walking.{link-of, head-of, queue-in, Right, Walked}
-use Rattle.checking.proofs.Heads.{home-low, home-state, home-resource}
+use Rattle.checking.proofs.Heads.{home-low, home-state, home-resource, home-fine}
 use Rattle.checking.proofs.Homes.{free-in, denied-in, three-in, homes-in, Homes}
 
 -- the state of the locks on a resource's chain
@@ -171,6 +171,34 @@ module _ (ws : List ℕ) (k : ℕ) where
         off : (r : ℕ) → 1 ≤ r → r ≤ resources-in ws → (q : Queue) → count k (queue-in ws r q) ≡ 0
         off r a b q = unfold queue-in in passed-out (link-of ws r q) (home-on ws (state-of q) r) (locks-in ws) (head-of ws r q) (right-at ws r (h .walked r a b) q) (home-low ws (state-of q) r) k w
 
+    -- one that is not fine is on no home chain
+    free-unfit : count k (free-in ws) ≤ bit (lock-fine ws k)
+    unfolding free-in
+    free-unfit = passed-le _ (home-on ws 0 0) (locks-in ws) _ (h .free) (home-low ws 0 0) k (lock-fine ws k) (home-fine ws 0 0 k)
+
+    denied-unfit : count k (denied-in ws) ≤ bit (lock-fine ws k)
+    unfolding denied-in
+    denied-unfit = passed-le _ (home-on ws 4 0) (locks-in ws) _ (h .denied) (home-low ws 4 0) k (lock-fine ws k) (home-fine ws 4 0 k)
+
+    queue-unfit : (r : ℕ) → 1 ≤ r → r ≤ resources-in ws → (q : Queue) → count k (queue-in ws r q) ≤ bit (lock-fine ws k)
+    unfolding queue-in
+    queue-unfit r a b q =
+        passed-le (link-of ws r q) (home-on ws (state-of q) r) (locks-in ws) (head-of ws r q) (right-at ws r (h .walked r a b) q) (home-low ws (state-of q) r) k (lock-fine ws k) (home-fine ws (state-of q) r k)
+
+    unfit : lock-fine ws k ≡ false → count k (homes-in ws) ≡ 0
+    unfit w =
+        omega (
+          arith,
+          homes-count,
+          rw w at free-unfit,
+          rw w at denied-unfit,
+          flat-none (three-in ws) k (from 1 (resources-in ws))
+              (λ r m. let i = from-in r m in omega (arith, three-count r, off r (i .0) (i .1) grants, off r (i .0) (i .1) converts, off r (i .0) (i .1) waits)),
+        )
+      where
+        off : (r : ℕ) → 1 ≤ r → r ≤ resources-in ws → (q : Queue) → count k (queue-in ws r q) ≤ 0
+        off r a b q = rw w at (queue-unfit r a b q)
+
     at-most : count k (homes-in ws) ≤ count k (from 1 (locks-in ws))
     at-most =
         rw (count-from (locks-in ws) k) (by-cases (within (locks-in ws) k)
@@ -178,7 +206,7 @@ module _ (ws : List ℕ) (k : ℕ) where
         (λ w. rw w (omega (arith, outside w))))
 
 module _ (ws : List ℕ) (h : Homes ws) (total : length (homes-in ws) ≡ locks-in ws) where
-  counted : (k : ℕ) → count k (homes-in ws) ≡ count k (from 1 (locks-in ws))
+  pub counted : (k : ℕ) → count k (homes-in ws) ≡ count k (from 1 (locks-in ws))
   counted = all-of (homes-in ws) (from 1 (locks-in ws)) (from-once ws 0 (locks-in ws)) (λ k. at-most ws k h) (total ∙ sym (length-from 1 (locks-in ws)))
 
   module _ (k : ℕ) (low : 1 ≤ k) (high : k ≤ locks-in ws) where
@@ -211,6 +239,10 @@ module _ (ws : List ℕ) (h : Homes ws) (total : length (homes-in ws) ≡ locks-
           go grants = omega (arith, at-least, three-count ws k r, three (read-lock ws k) (eqb (read-lock ws k .resource) r), queue-le ws k h r a b grants, queue-le ws k h r a b converts, queue-le ws k h r a b waits)
           go converts = omega (arith, at-least, three-count ws k r, three (read-lock ws k) (eqb (read-lock ws k .resource) r), queue-le ws k h r a b grants, queue-le ws k h r a b converts, queue-le ws k h r a b waits)
           go waits = omega (arith, at-least, three-count ws k r, three (read-lock ws k) (eqb (read-lock ws k .resource) r), queue-le ws k h r a b grants, queue-le ws k h r a b converts, queue-le ws k h r a b waits)
+
+    pub each-fine : lock-fine ws k ≡ true
+    each-fine =
+        by-cases (lock-fine ws k) (λ y. y) (λ n. absurd (omega (arith, single, homes-count ws k, unfit ws k h n)))
 
     pub homes-stand : Stands ws k
     homes-stand =

@@ -1,7 +1,7 @@
 -- Counting the steps of a chain: they are no more than there are records exactly if it ends and each record on it passes the test.
 use mathlib.Core.Path.{_≡_, refl, ap}
 use mathlib.Core.Bool.{Bool, true, false}
-use mathlib.Core.List.{[], _∷_}
+use mathlib.Core.List.{List, [], _∷_}
 use Prim.Native.Nat.{ℕ, zero, suc, _-_, _≤_}
 use native.Mathlib.Omega.{arith}
 use lib.ListN.{length}
@@ -47,6 +47,13 @@ pub ends-step : (g : ℕ → ℕ) (n k : ℕ) → 1 ≤ n → ends g n (suc k) �
 unfolding ends
 ends-step g zero k h = absurd (omega arith)
 ends-step g (suc n) k h = let e : suc n - 1 ≡ n = omega arith in rw e
+
+-- it goes by the links of records alone
+pub follow-agree : (f g : ℕ → ℕ) → ((k : ℕ) → f (suc k) ≡ g (suc k)) → (n a : ℕ) → follow f n a ≡ follow g n a
+unfolding follow
+follow-agree f g e zero a = refl
+follow-agree f g e (suc n) zero = refl
+follow-agree f g e (suc n) (suc k) = rw (e k) (ap (λ (xs : List ℕ). suc k ∷ xs) (follow-agree f g e n (g (suc k))))
 
 -- a chain is empty exactly if its first is zero
 pub follow-null : (g : ℕ → ℕ) (n a : ℕ) → 1 ≤ n → null (follow g n a) ≡ eqb a 0

@@ -9,7 +9,7 @@ use Rattle.modes.specs.Sets.{fits-set, with-mode}
 use Rattle.tables.specs.declared.Lock.{Lock}
 use Rattle.tables.specs.Lists.{all, from, keep}
 use Rattle.tables.specs.State.{name-width, blocked-lock, told}
-use Rattle.tables.specs.Layout.{of-header, of-resource, of-lock, resources-in, locks-in, word-in, read-lock}
+use Rattle.tables.specs.Layout.{of-header, of-resource, of-lock, resources-in, locks-in, word-in, follow, read-lock}
 use Rattle.tables.specs.Sound.{client-right, modes-right, sizes-right}
 use Rattle.names.specs.Names.{named, slot-fine, names-differ}
 pub use Rattle.checking.specs.declared.Held.{Held}
@@ -98,9 +98,12 @@ notices-fine ws =
     eqb (steps (λ k. word-in ws (of-lock k 2)) (notice-on ws) (locks-in ws) (word-in ws (of-header 6)))
     (length (keep (λ k. told (read-lock ws k)) (from 1 (locks-in ws))))
 
--- a home chain: each has the state and the resource
+-- a home chain: each has the state and the resource, and is fine
+unfoldable pub stands : List ℕ → ℕ → ℕ → ℕ → Bool
+stands ws s r k = eqb (read-lock ws k .state) s && eqb (read-lock ws k .resource) r && lock-fine ws k
+
 unfoldable pub home-on : List ℕ → ℕ → ℕ → ℕ → Bool
-home-on ws s r k = leb k (locks-in ws) && eqb (read-lock ws k .state) s && eqb (read-lock ws k .resource) r
+home-on ws s r k = leb k (locks-in ws) && stands ws s r k
 
 unfoldable pub home-steps : List ℕ → ℕ → ℕ → ℕ → ℕ
 home-steps ws s r k = steps (λ k. word-in ws (of-lock k 0)) (home-on ws s r) (locks-in ws) k
@@ -177,8 +180,22 @@ homes-fine ws =
     (home-steps ws 0 0 (word-in ws (of-header 3)) + home-steps ws 4 0 (word-in ws (of-header 4)) + queues-walk ws (from 1 (resources-in ws)))
     (locks-in ws)
 
+-- SIDES. How many belong on the blocked and on the notice chain, added up along the home chains. A queue of r, by its field
+unfoldable pub queue-from : List ℕ → ℕ → ℕ → List ℕ
+queue-from ws f r = follow (λ k. word-in ws (of-lock k 0)) (locks-in ws) (word-in ws (of-resource r f))
+
+unfoldable pub blocked-at : List ℕ → ℕ → ℕ
+blocked-at ws r = length (queue-from ws 2 r) + length (queue-from ws 3 r)
+
+unfoldable pub noticed-at : List ℕ → ℕ → ℕ
+noticed-at ws r = length (keep (λ k. told (read-lock ws k)) (queue-from ws 1 r))
+
+unfoldable pub sum-over : (ℕ → ℕ) → List ℕ → ℕ
+sum-over f [] = 0
+sum-over f (r ∷ rs) = f r + sum-over f rs
+
 -- THE CHECK
 unfoldable pub check : List ℕ → List ℕ → Bool
 check ws ss =
-    sizes-right ws ss && (eqb (word-in ws (of-header 7)) 0 && (all (resource-fine ws ss) (from 1 (resources-in ws)) && (all (lock-fine ws) (from 1 (locks-in ws))
-    && (free-resources-fine ws && (blocked-fine ws && (notices-fine ws && (homes-fine ws && names-differ ws ss)))))))
+    sizes-right ws ss && (eqb (word-in ws (of-header 7)) 0 && (all (resource-fine ws ss) (from 1 (resources-in ws))
+    && (free-resources-fine ws && (homes-fine ws && (blocked-fine ws && (notices-fine ws && names-differ ws ss))))))

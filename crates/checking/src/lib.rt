@@ -1,6 +1,6 @@
 // What the soundness check computes, pass by pass, and that it is what makes tables sound: definitions in specs/, laws in
-// proofs/. The code is in the crates `records`, `chains`, `holders` and `soundness`, so that an edit of it does not prove
-// the laws again.
+// proofs/. The code is in the crates `records`, `standing`, `chains`, `holders` and `soundness`, so that an edit of it
+// does not prove the laws again.
 
 // The words of a resource.
 pub struct Row {

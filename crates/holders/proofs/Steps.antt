@@ -6,23 +6,19 @@ use Prim.Native.Nat.{ℕ, zero, suc, _+_, _-_, _≤_, _<_}
 use native.Mathlib.Nat.{sub-zero}
 use native.Mathlib.Omega.{arith}
 use lib.Dec.{eqb, leb}
-use borrow.Author.Needs.{needs}
+use lib.ListN.{length}
 use borrow.Author.Tests.{not-true, not-false, le-leb, lt-leb, leb-true, eqb-true}
 use Rattle.modes.specs.Sets.{fits-set, with-mode}
 use Rattle.tables.specs.declared.Lock.{Lock}
-use Rattle.tables.specs.Layout.{of-resource, of-lock, locks-in, word-in, read-lock}
+use Rattle.tables.specs.Layout.{of-resource, of-lock, locks-in, word-in, follow, read-lock}
 use Rattle.tables.specs.Sound.{modes-right, client-right}
-use Rattle.tables.proofs.Cases.{and-left, and-right, parts}
+use Rattle.tables.proofs.Cases.{by-cases, and-left, and-right, parts}
 use Rattle.checking.specs.declared.Held.{Held}
-use Rattle.checking.specs.Check.{on-named, fields-fine, links-fine, lock-fine, held-steps, tail-steps, grant-walk}
-use Rattle.records.specs.Passes.{Fine}
-use Rattle.records.proofs.Runs.{all-from}
-use Rattle.chains.specs.Walks.{at-home, guarded}
-use Rattle.chains.proofs.Starts.{home-guarded}
-use Rattle.holders.specs.Holding.{mode-steps, modes-left, over, fits-beside, Passed, Walked}
+use Rattle.checking.specs.Check.{on-named, fields-fine, links-fine, lock-fine, stands, home-on, held-steps, tail-steps, grant-walk}
+use Rattle.holders.specs.Holding.{mode-steps, modes-left, over, fits-beside, Walked}
 
 -- MODES. A lock's fields, whatever its state, have modes up to 5
-record Modes (l : Lock) : Type 0 where
+pub record Modes (l : Lock) : Type 0 where
   pub held : l .held ≤ 5
   pub asked : l .asked ≤ 5
 
@@ -60,30 +56,37 @@ fields-modes u l i =
     (λ i. both-right l (search parts depth 20))
     (λ i. both-zero l (search parts depth 20) (search parts depth 20))
 
-pub fine-lock : (ws : List ℕ) (k : ℕ) {l : Lock} → Fine ws → 1 ≤ k → k ≤ locks-in ws → l ≡ read-lock ws k → Passed ws k l
+-- so has a lock that is fine, and one that stands on its chain
+pub fine-modes : (ws : List ℕ) (k : ℕ) → lock-fine ws k ≡ true → Modes (read-lock ws k)
 unfolding lock-fine
-fine-lock ws k f low high e =
+fine-modes ws k h =
     let u = on-named ws (read-lock ws k .resource) in
-    let m = fields-modes u (read-lock ws k) (and-left (fields-fine u (read-lock ws k)) (links-fine ws k) (all-from (lock-fine ws) (locks-in ws) 1 k (f .passed) low (omega arith))) in
-    let h = m .held in
-    let a = m .asked in
-    record { same = e; held = rw e (omega arith); asked = rw e (omega arith) }
+    fields-modes u (read-lock ws k) (and-left (fields-fine u (read-lock ws k)) (links-fine ws k) h)
+
+pub stands-held : (ws : List ℕ) (s r k : ℕ) {a : Bool} {h : ℕ} → a ≡ stands ws s r k → not a ≡ false → h ≡ word-in ws (of-lock k 6) → h < 6
+unfolding stands read-lock
+stands-held ws s r k {a} t f e =
+    let z : stands ws s r k ≡ true = sym t ∙ not-false a f in
+    let m = fine-modes ws k (and-right (eqb (read-lock ws k .state) s && eqb (read-lock ws k .resource) r) (lock-fine ws k) z) .held in
+    rw e (omega arith)
+
+-- the held mode that is read
+pub held-read : (ws : List ℕ) (k : ℕ) {h : ℕ} → h ≡ word-in ws (of-lock k 6) → h ≡ read-lock ws k .held
+unfolding read-lock
+held-read ws k e = e
 
 -- STEPS along holders: the chain ends; it is too long; it leaves the table; it meets another lock; a mode that doesn't fit; it goes on
 pub walked-over : {n set : ℕ} {whole x : Held} → x ≡ over n set → over n set ≡ whole → set < 64 → Walked n whole x
 unfolding over
 walked-over e w h = record { same = e ∙ w; short = rw e (omega arith); small = rw e h }
 
-module _ (ws : List ℕ) (q : Lock → Bool) (fit : ℕ → ℕ → Bool) where
-  on : ℕ → Bool
-  on k = guarded (locks-in ws) (λ k. q (read-lock ws k)) k
-
-  modes-zero : (n set : ℕ) → mode-steps ws q fit n 0 set ≡ record { met = 0; modes = set }
+module _ (ws : List ℕ) (s r : ℕ) (fit : ℕ → ℕ → Bool) where
+  modes-zero : (n set : ℕ) → mode-steps ws s r fit n 0 set ≡ record { met = 0; modes = set }
   unfolding mode-steps
   modes-zero zero set = refl
   modes-zero (suc n) set = refl
 
-  modes-none : (k set : ℕ) → (k ≡ 0 → ⊥) → mode-steps ws q fit 0 k set ≡ record { met = 1; modes = set }
+  modes-none : (k set : ℕ) → (k ≡ 0 → ⊥) → mode-steps ws s r fit 0 k set ≡ record { met = 1; modes = set }
   unfolding mode-steps
   modes-none zero set e = absurd (e refl)
   modes-none (suc k) set e = refl
@@ -91,81 +94,93 @@ module _ (ws : List ℕ) (q : Lock → Bool) (fit : ℕ → ℕ → Bool) where
   next-step : ℕ → ℕ → ℕ → Held
   next-step n k set =
       let m = read-lock ws k .held in
-      let rest = mode-steps ws q fit n (word-in ws (of-lock k 0)) (with-mode set m) in
-      cond (on k && fit set m) (record { met = suc (rest .met); modes = rest .modes }) (record { met = suc (suc n); modes = set })
+      let rest = mode-steps ws s r fit n (word-in ws (of-lock k 0)) (with-mode set m) in
+      cond (home-on ws s r k && fit set m) (record { met = suc (rest .met); modes = rest .modes }) (record { met = suc (suc n); modes = set })
 
-  modes-suc : (n k set : ℕ) → (k ≡ 0 → ⊥) → mode-steps ws q fit (suc n) k set ≡ next-step n k set
-  unfolding mode-steps next-step on
+  modes-suc : (n k set : ℕ) → (k ≡ 0 → ⊥) → mode-steps ws s r fit (suc n) k set ≡ next-step n k set
+  unfolding mode-steps next-step
   modes-suc n zero set e = absurd (e refl)
   modes-suc n (suc k) set e = refl
 
-  modes-at : (n m k set : ℕ) → (k ≡ 0 → ⊥) → m < n → mode-steps ws q fit (n - m) k set ≡ next-step (n - (m + 1)) k set
+  modes-at : (n m k set : ℕ) → (k ≡ 0 → ⊥) → m < n → mode-steps ws s r fit (n - m) k set ≡ next-step (n - (m + 1)) k set
   modes-at n m k set e h = let z : n - m ≡ suc (n - (m + 1)) = omega arith in rw (z, modes-suc (n - (m + 1)) k set e)
 
-  pub modes-end : (n : ℕ) {m k set : ℕ} {whole : Held} → whole ≡ modes-left ws q fit n m k set → k ≡ 0 → m ≤ n → set < 64 → Walked n whole (record { met = m; modes = set })
+  pub modes-end : (n : ℕ) {m k set : ℕ} {whole : Held} → whole ≡ modes-left ws s r fit n m k set → k ≡ 0 → m ≤ n → set < 64 → Walked n whole (record { met = m; modes = set })
   unfolding modes-left
-  modes-end n {m} {k} {set} i e l s =
+  modes-end n {m} {k} {set} i e l h =
       let z : m + 0 ≡ m = omega arith in
-      record { same = sym (i ∙ rw (e, modes-zero (n - m) set, z)); short = omega arith; small = s }
+      record { same = sym (i ∙ rw (e, modes-zero (n - m) set, z)); short = omega arith; small = h }
 
-  module _ {n m k set : ℕ} {whole : Held} (i : whole ≡ modes-left ws q fit n m k set) (e : k ≡ 0 → ⊥) (s : set < 64) where
+  module _ {n m k set : ℕ} {whole : Held} (i : whole ≡ modes-left ws s r fit n m k set) (e : k ≡ 0 → ⊥) (c : set < 64) where
     pub modes-long : {x : Held} → m ≤ n → n ≤ m → x ≡ over n set → Walked n whole x
     unfolding modes-left over
     modes-long l h o =
         let z : n - m ≡ 0 = omega arith in
         let w : m + 1 ≡ n + 1 = omega arith in
-        walked-over o (sym (i ∙ rw (z, modes-none k set e, w))) s
+        walked-over o (sym (i ∙ rw (z, modes-none k set e, w))) c
 
-    modes-fail : {x : Held} → m < n → (on k && fit set (read-lock ws k .held)) ≡ false → x ≡ over n set → Walked n whole x
+    modes-fail : {x : Held} → m < n → (home-on ws s r k && fit set (read-lock ws k .held)) ≡ false → x ≡ over n set → Walked n whole x
     unfolding modes-left next-step over
     modes-fail h f o =
         let w : m + suc (suc (n - (m + 1))) ≡ n + 1 = omega arith in
-        walked-over o (sym (i ∙ rw (modes-at n m k set e h, f, w))) s
+        walked-over o (sym (i ∙ rw (modes-at n m k set e h, f, w))) c
 
     pub modes-off : {x : Held} → m < n → locks-in ws < k → x ≡ over n set → Walked n whole x
-    unfolding guarded on
+    unfolding home-on
     modes-off h b = modes-fail h (rw (lt-leb k (locks-in ws) b))
 
-    module _ {l : Lock} {a : Bool} (h : m < n) (b : k ≤ locks-in ws) (g : l ≡ read-lock ws k) (t : a ≡ q l) where
+    module _ {a : Bool} (h : m < n) (b : k ≤ locks-in ws) (t : a ≡ stands ws s r k) where
       pub modes-other : {x : Held} → not a ≡ true → x ≡ over n set → Walked n whole x
-      unfolding guarded on
-      modes-other f = modes-fail h (rw (le-leb k (locks-in ws) b, ← g, ← t, not-true a f))
+      unfolding home-on
+      modes-other f = modes-fail h (rw (le-leb k (locks-in ws) b, ← t, not-true a f))
 
-      module _ {d : Bool} (f : not a ≡ false) (u : d ≡ fit set (l .held)) where
+      module _ {l : ℕ} {d : Bool} (f : not a ≡ false) (g : l ≡ word-in ws (of-lock k 6)) (u : d ≡ fit set l) where
         pub modes-clash : {x : Held} → not d ≡ true → x ≡ over n set → Walked n whole x
-        unfolding guarded on
-        modes-clash v = modes-fail h (rw (le-leb k (locks-in ws) b, ← g, ← t, not-false a f, ← u, not-true d v))
+        unfolding home-on
+        modes-clash v = modes-fail h (rw (le-leb k (locks-in ws) b, ← t, not-false a f, ← held-read ws k g, ← u, not-true d v))
 
-        pub modes-on : {y j : ℕ} → not d ≡ false → y ≡ with-mode set (l .held) → j ≡ word-in ws (of-lock k 0) → whole ≡ modes-left ws q fit n (m + 1) j y
-        unfolding modes-left guarded next-step on
+        pub modes-on : {y j : ℕ} → not d ≡ false → y ≡ with-mode set l → j ≡ word-in ws (of-lock k 0) → whole ≡ modes-left ws s r fit n (m + 1) j y
+        unfolding modes-left next-step home-on
         modes-on {y} {j} v z w =
-            let p : m + suc (mode-steps ws q fit (n - (m + 1)) j y .met) ≡ m + 1 + mode-steps ws q fit (n - (m + 1)) j y .met = omega arith in
-            i ∙ rw (modes-at n m k set e h, le-leb k (locks-in ws) b, ← g, ← t, not-false a f, ← u, not-false d v, ← z, ← w, p)
+            let p : m + suc (mode-steps ws s r fit (n - (m + 1)) j y .met) ≡ m + 1 + mode-steps ws s r fit (n - (m + 1)) j y .met = omega arith in
+            i ∙ rw (modes-at n m k set e h, le-leb k (locks-in ws) b, ← t, not-false a f, ← held-read ws k g, ← u, not-false d v, ← z, ← w, p)
+
+  modes-start : (n k set : ℕ) → mode-steps ws s r fit n k set ≡ modes-left ws s r fit n 0 k set
+  unfolding modes-left
+  modes-start n k set = let z : 0 + mode-steps ws s r fit n k set .met ≡ mode-steps ws s r fit n k set .met = omega arith in rw (sub-zero n, z)
+
+  -- a walk on which nothing is wrong meets the locks of the chain
+  modes-length : (n k set : ℕ) → mode-steps ws s r fit n k set .met ≤ n → mode-steps ws s r fit n k set .met ≡ length (follow (λ k. word-in ws (of-lock k 0)) n k)
+  unfolding mode-steps follow
+  modes-length zero zero set h = refl
+  modes-length zero (suc k) set h = absurd (omega arith)
+  modes-length (suc n) zero set h = refl
+  modes-length (suc n) (suc k) set h =
+      by-cases (home-on ws s r (suc k) && fit set (read-lock ws (suc k) .held))
+      (λ p. rw p (omega (arith, modes-length n (word-in ws (of-lock (suc k) 0)) (with-mode set (read-lock ws (suc k) .held)) (omega (arith, rw p at h)))))
+      (λ p. absurd (omega (arith, rw p at h)))
 
 -- the walks along the grant chain and behind the convert head are two such
-held-alike : (ws : List ℕ) (s r n k set : ℕ) → held-steps ws s r n k set ≡ mode-steps ws (at-home s r) fits-set n k set
+held-alike : (ws : List ℕ) (s r n k set : ℕ) → held-steps ws s r n k set ≡ mode-steps ws s r fits-set n k set
 unfolding held-steps mode-steps
 held-alike ws s r zero zero set = refl
 held-alike ws s r zero (suc k) set = refl
 held-alike ws s r (suc n) zero set = refl
-held-alike ws s r (suc n) (suc k) set = rw (home-guarded ws s r (suc k), held-alike ws s r n (word-in ws (of-lock (suc k) 0)) (with-mode set (read-lock ws (suc k) .held)))
+held-alike ws s r (suc n) (suc k) set = rw (held-alike ws s r n (word-in ws (of-lock (suc k) 0)) (with-mode set (read-lock ws (suc k) .held)))
 
-tail-alike : (ws : List ℕ) (r h n k set : ℕ) → tail-steps ws r h n k set ≡ mode-steps ws (at-home 2 r) (fits-beside h) n k set
+tail-alike : (ws : List ℕ) (r h n k set : ℕ) → tail-steps ws r h n k set ≡ mode-steps ws 2 r (fits-beside h) n k set
 unfolding tail-steps mode-steps fits-beside
 tail-alike ws r h zero zero set = refl
 tail-alike ws r h zero (suc k) set = refl
 tail-alike ws r h (suc n) zero set = refl
-tail-alike ws r h (suc n) (suc k) set = rw (home-guarded ws 2 r (suc k), tail-alike ws r h n (word-in ws (of-lock (suc k) 0)) (with-mode set (read-lock ws (suc k) .held)))
+tail-alike ws r h (suc n) (suc k) set = rw (tail-alike ws r h n (word-in ws (of-lock (suc k) 0)) (with-mode set (read-lock ws (suc k) .held)))
 
-modes-start : (ws : List ℕ) (q : Lock → Bool) (fit : ℕ → ℕ → Bool) (n k set : ℕ) → mode-steps ws q fit n k set ≡ modes-left ws q fit n 0 k set
-unfolding modes-left
-modes-start ws q fit n k set = let z : 0 + mode-steps ws q fit n k set .met ≡ mode-steps ws q fit n k set .met = omega arith in rw (sub-zero n, z)
-
-pub grant-start : (ws : List ℕ) (r : ℕ) {k : ℕ} → k ≡ word-in ws (of-resource r 1) → grant-walk ws r ≡ modes-left ws (at-home 1 r) fits-set (locks-in ws) 0 k 0
+pub grant-start : (ws : List ℕ) (r : ℕ) {k : ℕ} → k ≡ word-in ws (of-resource r 1) → grant-walk ws r ≡ modes-left ws 1 r fits-set (locks-in ws) 0 k 0
 unfolding grant-walk
-grant-start ws r {k} e = rw (e, held-alike ws 1 r (locks-in ws) (word-in ws (of-resource r 1)) 0) (modes-start ws (at-home 1 r) fits-set (locks-in ws) (word-in ws (of-resource r 1)) 0)
+grant-start ws r e = rw (e, held-alike ws 1 r (locks-in ws) (word-in ws (of-resource r 1)) 0) (modes-start ws 1 r fits-set (locks-in ws) (word-in ws (of-resource r 1)) 0)
 
-pub tail-start : (ws : List ℕ) (r h n k set : ℕ) → tail-steps ws r h n k set ≡ modes-left ws (at-home 2 r) (fits-beside h) n 0 k set
-tail-start ws r h n k set = tail-alike ws r h n k set ∙ modes-start ws (at-home 2 r) (fits-beside h) n k set
+pub tail-start : (ws : List ℕ) (r h n k set : ℕ) → tail-steps ws r h n k set ≡ modes-left ws 2 r (fits-beside h) n 0 k set
+tail-start ws r h n k set = tail-alike ws r h n k set ∙ modes-start ws 2 r (fits-beside h) n k set
 
-pub ruleset holders = (needs, fine-lock, modes-end, modes-long, modes-off, modes-other, modes-clash, modes-on, grant-start, tail-start)
+pub tail-length : (ws : List ℕ) (r h n k set : ℕ) → tail-steps ws r h n k set .met ≤ n → tail-steps ws r h n k set .met ≡ length (follow (λ k. word-in ws (of-lock k 0)) n k)
+tail-length ws r h n k set = rw (tail-alike ws r h n k set) (modes-length ws 2 r (fits-beside h) n k set)

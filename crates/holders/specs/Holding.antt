@@ -1,43 +1,52 @@
--- What the walks along holders find, and what is left in the middle of one.
+-- What the walks along a resource's queues find, and what is left in the middle of one.
 use mathlib.Core.Path.{_≡_}
-use mathlib.Core.Bool.{Bool, _&&_, cond}
+use mathlib.Core.Bool.{Bool, true, _&&_, _||_, cond}
 use mathlib.Core.List.{List}
-use Prim.Native.Nat.{ℕ, zero, suc, _+_, _-_, _≤_, _<_}
+use Prim.Native.Nat.{ℕ, zero, suc, _+_, _*_, _-_, _≤_, _<_}
+use lib.ListN.{length}
+use lib.Dec.{eqb}
 use Rattle.modes.specs.Sets.{fits-set, with-mode}
-use Rattle.tables.specs.declared.Lock.{Lock}
-use Rattle.tables.specs.Layout.{of-resource, of-lock, locks-in, word-in, read-lock}
+use Rattle.tables.specs.Lists.{keep}
+use Rattle.tables.specs.State.{told}
+use Rattle.tables.specs.Layout.{of-resource, of-lock, locks-in, word-in, follow, read-lock}
 use Rattle.checking.specs.declared.Held.{Held}
-use Rattle.chains.specs.Walks.{guarded}
+use Rattle.checking.specs.Check.{home-on, grant-walk, resource-walk, blocked-at, noticed-at}
+pub use Rattle.holders.specs.declared.Granted.{Granted}
+pub use Rattle.holders.specs.declared.Census.{Census}
 
--- a walk along holders: each is one of the locks and passes, and its mode fits the set of those before it
-unfoldable pub mode-steps : List ℕ → (Lock → Bool) → (ℕ → ℕ → Bool) → ℕ → ℕ → ℕ → Held
-mode-steps ws q fit zero zero set = record { met = 0; modes = set }
-mode-steps ws q fit zero (suc k) set = record { met = 1; modes = set }
-mode-steps ws q fit (suc n) zero set = record { met = 0; modes = set }
-mode-steps ws q fit (suc n) (suc k) set =
+-- a walk along holders: each stands on the chain, and its mode fits the set of those before it
+unfoldable pub mode-steps : List ℕ → ℕ → ℕ → (ℕ → ℕ → Bool) → ℕ → ℕ → ℕ → Held
+mode-steps ws s r fit zero zero set = record { met = 0; modes = set }
+mode-steps ws s r fit zero (suc k) set = record { met = 1; modes = set }
+mode-steps ws s r fit (suc n) zero set = record { met = 0; modes = set }
+mode-steps ws s r fit (suc n) (suc k) set =
     let m = read-lock ws (suc k) .held in
-    let rest = mode-steps ws q fit n (word-in ws (of-lock (suc k) 0)) (with-mode set m) in
-    cond (guarded (locks-in ws) (λ k. q (read-lock ws k)) (suc k) && fit set m) (record { met = suc (rest .met); modes = rest .modes }) (record { met = suc (suc n); modes = set })
+    let rest = mode-steps ws s r fit n (word-in ws (of-lock (suc k) 0)) (with-mode set m) in
+    cond (home-on ws s r (suc k) && fit set m) (record { met = suc (rest .met); modes = rest .modes }) (record { met = suc (suc n); modes = set })
 
 -- what is met, and what is left from k on with the set so far
-unfoldable pub modes-left : List ℕ → (Lock → Bool) → (ℕ → ℕ → Bool) → ℕ → ℕ → ℕ → ℕ → Held
-modes-left ws q fit n met k set =
-    let rest = mode-steps ws q fit (n - met) k set in
+unfoldable pub modes-left : List ℕ → ℕ → ℕ → (ℕ → ℕ → Bool) → ℕ → ℕ → ℕ → ℕ → Held
+modes-left ws s r fit n met k set =
+    let rest = mode-steps ws s r fit (n - met) k set in
     record { met = met + rest .met; modes = rest .modes }
 
--- what is said of a chain on which something is wrong
+-- the unread completions so far, and those of the locks that are left from k on
+unfoldable pub noticed-left : List ℕ → ℕ → ℕ → ℕ → ℕ → ℕ
+noticed-left ws n met k noticed = noticed + length (keep (λ k. told (read-lock ws k)) (follow (λ k. word-in ws (of-lock k 0)) (n - met) k))
+
+-- what is said of a chain on which something is wrong, of a grant chain, and of a resource
 unfoldable pub over : ℕ → ℕ → Held
 over n set = record { met = n + 1; modes = set }
+
+unfoldable pub grants-over : ℕ → ℕ → Granted
+grants-over n set = record { met = n + 1; modes = set; noticed = 0 }
+
+unfoldable pub queues-over : ℕ → Census
+queues-over n = record { met = n + 1; blocked = 0; noticed = 0 }
 
 -- a mode fits a set and one mode more
 unfoldable pub fits-beside : ℕ → ℕ → ℕ → Bool
 fits-beside h set m = fits-set (with-mode set h) m
-
--- the lock k, with modes up to 5
-pub record Passed (ws : List ℕ) (k : ℕ) (l : Lock) : Type 0 where
-  pub same : l ≡ read-lock ws k
-  pub held : l .held < 6
-  pub asked : l .asked < 6
 
 -- a walk along at most n holders says what it is to say, a small number and a set
 pub record Walked (n : ℕ) (whole x : Held) : Type 0 where
@@ -45,7 +54,28 @@ pub record Walked (n : ℕ) (whole x : Held) : Type 0 where
   pub short : x .met ≤ n + 1
   pub small : x .modes < 64
 
--- the first of a resource's convert and wait chain are numbers of locks, or 0
+-- so does the walk along a grant chain; where nothing is wrong, it counts the unread completions too
+abbrev pub holders-of : Granted → Held
+holders-of x = record { met = x .met; modes = x .modes }
+
+pub record Granting (ws : List ℕ) (r : ℕ) (x : Granted) : Type 0 where
+  pub walked : Walked (locks-in ws) (grant-walk ws r) (holders-of x)
+  pub noticed : x .met ≤ locks-in ws → x .noticed ≡ noticed-at ws r
+  pub few : x .noticed ≤ locks-in ws
+
+-- the first of a resource's convert and wait chain stand there, if there are any
+unfoldable pub first-on : List ℕ → ℕ → ℕ → ℕ → Bool
+first-on ws s r k = eqb k 0 || home-on ws s r k
+
 pub record Heads (ws : List ℕ) (r : ℕ) : Type 0 where
-  pub convert : word-in ws (of-resource r 2) ≤ locks-in ws
-  pub wait : word-in ws (of-resource r 3) ≤ locks-in ws
+  pub convert : first-on ws 2 r (word-in ws (of-resource r 2)) ≡ true
+  pub wait : first-on ws 3 r (word-in ws (of-resource r 3)) ≡ true
+
+-- what is found of a resource: the locks on its queues, in a small number; where nothing is wrong, also how many are blocked, and how many have an
+-- unread completion
+pub record Counted (ws : List ℕ) (r : ℕ) (x : Census) : Type 0 where
+  pub met : x .met ≡ resource-walk ws r
+  pub short : x .met ≤ 3 * locks-in ws + 1
+  pub blocked : x .met ≤ locks-in ws → x .blocked ≡ blocked-at ws r
+  pub noticed : x .met ≤ locks-in ws → x .noticed ≡ noticed-at ws r
+  pub few : (x .blocked ≤ 3 * locks-in ws + 1) × (x .noticed ≤ 3 * locks-in ws + 1)

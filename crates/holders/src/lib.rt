@@ -1,33 +1,46 @@
-// One resource's queues, where every lock passed by itself: the held modes go together, and no head can be granted.
-use chains::at_home;
-use chains::home_met;
+// One resource's queues: each lock on them is fine, the held modes go together, and no head can be granted.
+use chains::waiting_met;
 use checking::Held;
+use fields::COMPLETION_NONE;
+use fields::LOCK_ASKED;
+use fields::LOCK_COMPLETION;
+use fields::LOCK_HELD;
 use fields::LOCK_NEXT;
 use fields::LOCKS;
 use fields::RESOURCE_CONVERT;
 use fields::RESOURCE_GRANT;
 use fields::RESOURCE_WAIT;
-use fields::STATE_CONVERTING;
-use fields::STATE_GRANTED;
-use fields::STATE_WAITING;
-use fields::lock_at;
 use fields::lock_word;
 use fields::resource_word;
-use tables::Lock;
+use records::bit;
+use standing::stands_converting;
+use standing::stands_granted;
 ghost use mathlib.Core.Path.{_≡_};
-ghost use Prim.Native.Nat.{_+_, _*_, _-_, _<_, _≤_};
-ghost use Rattle.tables.specs.Layout.{«resources-in», «locks-in»};
-ghost use Rattle.checking.specs.Check.{«grant-walk», «tail-steps», «convert-from», «convert-walk», «heads-wait», «resource-walk»};
+ghost use mathlib.Core.Bool.{true};
+ghost use Prim.Native.Nat.{_-_, _<_, _≤_};
+ghost use Rattle.tables.specs.Lists.{bit};
+ghost use Rattle.tables.specs.State.{told};
+ghost use Rattle.tables.specs.Layout.{«resources-in», «locks-in», «read-lock»};
+ghost use Rattle.fields.specs.Sizes.{Sized};
+ghost use Rattle.names.specs.Names.{named};
+ghost use Rattle.checking.specs.Check.{«tail-steps», «convert-from», «convert-walk», «heads-wait»};
 ghost use Rattle.records.specs.Passes.{Fine};
-ghost use Rattle.holders.specs.Holding.{over, «fits-beside», Passed, Walked, Heads};
+ghost use Rattle.holders.specs.Holding.{over, «grants-over», «queues-over», «fits-beside», Walked, Granting, Heads, Counted};
 
-// Lock k, which passed: its modes are modes.
-fn fine_lock(words: &[u32], k: u32) -> Lock
-    requires { ⌜ Fine (now words) ⌝ }
-    requires { ⌜ (1 ≤ k) × (k ≤ locks-in (now words)) ⌝ }
-    ensures { λ l. ⌜ Passed (now (words .entry)) k l ⌝ }
-{
-    lock_at(words, k)
+// What the walk along the grant chain finds: how many locks, or one more than there are; the set of their modes; how
+// many have an unread completion.
+pub struct Granted {
+    pub met: u32,
+    pub modes: u32,
+    pub noticed: u32,
+}
+
+// What the walks along a resource's queues find: how many locks, or more than there are if something is wrong; how many
+// of them belong on the blocked chain, and how many on the notice chain.
+pub struct Census {
+    pub met: u32,
+    pub blocked: u32,
+    pub noticed: u32,
 }
 
 // What a walk says of a chain on which something is wrong: one more than the n that there may be.
@@ -41,37 +54,72 @@ fn over(n: u32, set: u32) -> Held
     }
 }
 
+fn grants_over(n: u32, set: u32) -> Granted
+    requires { ⌜ n ≤ 1024 ⌝ }
+    ensures { λ x. ⌜ x ≡ grants-over n set ⌝ }
+{
+    Granted {
+        met: n + 1,
+        modes: set,
+        noticed: 0,
+    }
+}
+
+fn queues_over(n: u32) -> Census
+    requires { ⌜ n ≤ 1024 ⌝ }
+    ensures { λ x. ⌜ x ≡ queues-over n ⌝ }
+{
+    Census {
+        met: n + 1,
+        blocked: 0,
+        noticed: 0,
+    }
+}
+
+// 1 if lock k has an unread completion.
+fn unread(words: &[u32], k: u32) -> u32
+    requires { ⌜ Sized (now words) ⌝ }
+    requires { ⌜ (1 ≤ k) × (k ≤ locks-in (now words)) ⌝ }
+    ensures { λ x. ⌜ (x ≡ bit (told (read-lock (now (words .entry)) k))) × (x ≤ 1) ⌝ }
+{
+    bit(lock_word(words, k, LOCK_COMPLETION) != COMPLETION_NONE)
+}
+
 // The holders on a resource's grant chain: each mode is to fit those before it.
-fn grant_walk(words: &[u32], r: u32) -> Held
+fn grant_walk(words: &[u32], r: u32) -> Granted
     requires { ⌜ Fine (now words) ⌝ }
     requires { ⌜ (1 ≤ r) × (r ≤ resources-in (now words)) ⌝ }
-    ensures { λ x. ⌜ Walked (locks-in (now (words .entry))) (grant-walk (now (words .entry)) r) x ⌝ }
+    requires { ⌜ named (now words) r ≡ true ⌝ }
+    ensures { λ x. ⌜ Granting (now (words .entry)) r x ⌝ }
 {
     let n = words[LOCKS];
     let mut k = resource_word(words, r, RESOURCE_GRANT);
     let mut met = 0;
     let mut set = 0;
+    let mut noticed = 0;
     while k != 0 {
         if n <= met {
-            return over(n, set);
+            return grants_over(n, set);
         }
         if n < k {
-            return over(n, set);
+            return grants_over(n, set);
         }
-        let l = fine_lock(words, k);
-        if !at_home(l, STATE_GRANTED, r) {
-            return over(n, set);
+        if !stands_granted(words, r, k) {
+            return grants_over(n, set);
         }
-        if !modes::fits(set, l.held) {
-            return over(n, set);
+        let held = lock_word(words, k, LOCK_HELD);
+        if !modes::fits(set, held) {
+            return grants_over(n, set);
         }
-        set = modes::with_mode(set, l.held);
+        set = modes::with_mode(set, held);
+        noticed += unread(words, k);
         k = lock_word(words, k, LOCK_NEXT);
         met += 1;
     }
-    Held {
+    Granted {
         met: met,
         modes: set,
+        noticed: noticed,
     }
 }
 
@@ -89,6 +137,8 @@ fn fits_beside(head: u32, set: u32, mode: u32) -> bool
 // leaves the head's out.
 fn tail_walk(words: &[u32], r: u32, head: u32, first: u32, granted: u32) -> Held
     requires { ⌜ Fine (now words) ⌝ }
+    requires { ⌜ (1 ≤ r) × (r ≤ resources-in (now words)) ⌝ }
+    requires { ⌜ named (now words) r ≡ true ⌝ }
     requires { ⌜ head < 6 ⌝ }
     requires { ⌜ granted < 64 ⌝ }
     ensures { λ x. ⌜ Walked (locks-in (now (words .entry)) - 1) (tail-steps (now (words .entry)) r head (locks-in (now (words .entry)) - 1) first granted) x ⌝ }
@@ -105,14 +155,14 @@ fn tail_walk(words: &[u32], r: u32, head: u32, first: u32, granted: u32) -> Held
         if last < k {
             return over(n, set);
         }
-        let l = fine_lock(words, k);
-        if !at_home(l, STATE_CONVERTING, r) {
+        if !stands_converting(words, r, k) {
             return over(n, set);
         }
-        if !fits_beside(head, set, l.held) {
+        let held = lock_word(words, k, LOCK_HELD);
+        if !fits_beside(head, set, held) {
             return over(n, set);
         }
-        set = modes::with_mode(set, l.held);
+        set = modes::with_mode(set, held);
         k = lock_word(words, k, LOCK_NEXT);
         met += 1;
     }
@@ -125,6 +175,8 @@ fn tail_walk(words: &[u32], r: u32, head: u32, first: u32, granted: u32) -> Held
 // The convert chain from its head c on: c's held mode is to fit the granted ones.
 fn convert_from(words: &[u32], r: u32, c: u32, granted: u32) -> Held
     requires { ⌜ Fine (now words) ⌝ }
+    requires { ⌜ (1 ≤ r) × (r ≤ resources-in (now words)) ⌝ }
+    requires { ⌜ named (now words) r ≡ true ⌝ }
     requires { ⌜ 1 ≤ c ⌝ }
     requires { ⌜ granted < 64 ⌝ }
     ensures { λ x. ⌜ Walked (locks-in (now (words .entry))) (convert-from (now (words .entry)) r c granted) x ⌝ }
@@ -133,15 +185,15 @@ fn convert_from(words: &[u32], r: u32, c: u32, granted: u32) -> Held
     if n < c {
         return over(n, granted);
     }
-    let l = fine_lock(words, c);
-    if !at_home(l, STATE_CONVERTING, r) {
+    if !stands_converting(words, r, c) {
         return over(n, granted);
     }
-    if !modes::fits(granted, l.held) {
+    let held = lock_word(words, c, LOCK_HELD);
+    if !modes::fits(granted, held) {
         return over(n, granted);
     }
     let first = lock_word(words, c, LOCK_NEXT);
-    let rest = tail_walk(words, r, l.held, first, granted);
+    let rest = tail_walk(words, r, held, first, granted);
     Held {
         met: rest.met + 1,
         modes: rest.modes,
@@ -151,6 +203,7 @@ fn convert_from(words: &[u32], r: u32, c: u32, granted: u32) -> Held
 fn convert_walk(words: &[u32], r: u32, granted: u32) -> Held
     requires { ⌜ Fine (now words) ⌝ }
     requires { ⌜ (1 ≤ r) × (r ≤ resources-in (now words)) ⌝ }
+    requires { ⌜ named (now words) r ≡ true ⌝ }
     requires { ⌜ granted < 64 ⌝ }
     ensures { λ x. ⌜ Walked (locks-in (now (words .entry))) (convert-walk (now (words .entry)) r granted) x ⌝ }
 {
@@ -174,39 +227,41 @@ fn heads_wait(words: &[u32], r: u32, granted: u32, others: u32) -> bool
 {
     let c = resource_word(words, r, RESOURCE_CONVERT);
     if c != 0 {
-        let l = fine_lock(words, c);
-        return !modes::fits(others, l.asked);
+        return !modes::fits(others, lock_word(words, c, LOCK_ASKED));
     }
     let w = resource_word(words, r, RESOURCE_WAIT);
     if w == 0 {
         return true;
     }
-    let l = fine_lock(words, w);
-    !modes::fits(granted, l.asked)
+    !modes::fits(granted, lock_word(words, w, LOCK_ASKED))
 }
 
-// The locks on a resource's three queues; one more than there are if something is wrong with them.
-pub fn resource_walk(words: &[u32], r: u32) -> u32
+// The locks on the three queues of a resource in use.
+pub fn resource_walk(words: &[u32], r: u32) -> Census
     requires { ⌜ Fine (now words) ⌝ }
     requires { ⌜ (1 ≤ r) × (r ≤ resources-in (now words)) ⌝ }
-    ensures { λ x. ⌜ (x ≡ resource-walk (now (words .entry)) r) × (x ≤ 3 * locks-in (now (words .entry)) + 1) ⌝ }
+    requires { ⌜ named (now words) r ≡ true ⌝ }
+    ensures { λ x. ⌜ Counted (now (words .entry)) r x ⌝ }
 {
     let n = words[LOCKS];
     let g = grant_walk(words, r);
     if n < g.met {
-        return n + 1;
+        return queues_over(n);
     }
     let c = convert_walk(words, r, g.modes);
     if n < c.met {
-        return n + 1;
+        return queues_over(n);
     }
-    let first = resource_word(words, r, RESOURCE_WAIT);
-    let w = home_met(words, STATE_WAITING, r, first);
+    let w = waiting_met(words, r);
     if n < w {
-        return n + 1;
+        return queues_over(n);
     }
     if !heads_wait(words, r, g.modes, c.modes) {
-        return n + 1;
+        return queues_over(n);
     }
-    g.met + c.met + w
+    Census {
+        met: g.met + c.met + w,
+        blocked: c.met + w,
+        noticed: g.noticed,
+    }
 }

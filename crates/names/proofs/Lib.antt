@@ -1,6 +1,6 @@
 pub mod Runs
 pub mod Spans
+pub mod Words
 pub mod Parts
-pub mod Numbers
 pub mod Stores
 pub mod States

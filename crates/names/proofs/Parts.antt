@@ -1,22 +1,20 @@
 -- Parts of a slot, as the code reads them.
-use mathlib.Core.Path.{_≡_, refl, sym, ap, _∙_}
-use mathlib.Core.Bool.{Bool, true, false, _&&_, not}
+use mathlib.Core.Path.{_≡_, sym, ap, _∙_}
+use mathlib.Core.Bool.{Bool, true, false}
 use mathlib.Core.List.{List, [], _∷_}
 use Prim.Native.Nat.{ℕ, zero, suc, _+_, _-_, _*_, _≤_, _<_}
 use native.Mathlib.Omega.{arith}
 use borrow.Author.Tests.{eq-eqb, ne-eqb}
 use borrow.Author.Needs.{needs}
-use lib.Dec.{eqb}
-use Rattle.tables.proofs.Cases.{by-equal}
 use lib.ListN.{length, take, drop, drop-of-length-le, length-drop, length-take}
 use lib.Seq.{drop-drop, take-take, length-take-le, take-nil}
 use Rattle.tables.specs.Lists.{all, first-that, same}
 use Rattle.tables.specs.State.{name-width}
 use Rattle.tables.specs.Layout.{of-resource, slot-width, resources-in, word-in, slot-in}
 use Rattle.tables.specs.Sound.{all-zero}
-use Rattle.names.specs.Names.{named, name-in, slot-fine, apart, apart-after, names-differ, find-in}
+use Rattle.names.specs.Names.{named, name-in, slot-fine, find-in}
 use Rattle.names.specs.Standing.{Short, Named}
-use Rattle.names.proofs.Runs.{upto, from-first, from-after, all-loop, first-loop}
+use Rattle.names.proofs.Runs.{upto, from-first, first-loop}
 use Rattle.names.proofs.Spans.{same-short}
 
 pub drop-take : (a n : ℕ) (l : List ℕ) → drop a (take (a + n) l) ≡ take n (drop a l)
@@ -98,31 +96,6 @@ module _ (ws ss nm : List ℕ) (r : ℕ) {n : ℕ} (read : n ≡ word-in ws (of-
   pub named-same : (start : ℕ) {x : Bool} → n ≤ name-width → start ≡ slot-width * (r - 1) → x ≡ same (take (start + n - start) (drop start ss)) nm → x ≡ same (name-in ws ss r) nm
   named-same start h f e = rw (name-part ws ss r n start read h f) at e
 
--- what `apart` returns
-eqb-sym : (x y : ℕ) → eqb x y ≡ eqb y x
-eqb-sym x y = by-equal x y (λ e. rw e) (λ n. rw (ne-eqb x y n, ne-eqb y x (λ e. n (sym e))))
-
-same-sym : (xs ys : List ℕ) → same xs ys ≡ same ys xs
-unfolding same
-same-sym [] [] = refl
-same-sym [] (y ∷ ys) = refl
-same-sym (x ∷ xs) [] = refl
-same-sym (x ∷ xs) (y ∷ ys) = rw (same-sym xs ys, eqb-sym x y)
-
-pub apart-read : (ws ss : List ℕ) (r s start : ℕ) {n : ℕ} {x : Bool} → n ≡ word-in ws (of-resource r 4) → n ≤ name-width → start ≡ slot-width * (r - 1)
-    → x ≡ same (name-in ws ss s) (take (start + n - start) (drop start ss)) → not (not (eqb n 0) && x) ≡ apart ws ss r s
-unfolding apart named
-apart-read ws ss r s start {n} e h f g = rw (g, name-part ws ss r n start e h f, same-sym (name-in ws ss s) (name-in ws ss r), e)
-
--- the runs over which names are compared and found
-pub after-run : (ws ss : List ℕ) (r : ℕ) {n : ℕ} → n ≡ resources-in ws → apart-after ws ss r ≡ all (apart ws ss r) (upto (r + 1) n)
-unfolding apart-after
-after-run ws ss r {n} e = rw (e, from-after r (resources-in ws))
-
-pub differ-run : (ws ss : List ℕ) {n : ℕ} → n ≡ resources-in ws → names-differ ws ss ≡ all (apart-after ws ss) (upto 1 n)
-unfolding names-differ
-differ-run ws ss {n} e = rw (e, from-first (resources-in ws))
-
 -- the name of r is nm
 abbrev pub called : List ℕ → List ℕ → List ℕ → ℕ → Bool
 called ws ss nm r = same (name-in ws ss r) nm
@@ -131,8 +104,6 @@ pub find-run : (ws ss nm : List ℕ) {n : ℕ} → n ≡ resources-in ws → fin
 unfolding find-in
 find-run ws ss nm {n} e = rw (e, from-first (resources-in ws))
 
-pub ruleset slot-laws = (needs, fine-free, fine-long, fine-used, short-at, length-read, named-other, named-same, apart-read)
-
-pub ruleset compare-loop = (all-loop, after-run, differ-run)
+pub ruleset slot-laws = (needs, fine-free, fine-long, fine-used, short-at, length-read, named-other, named-same)
 
 pub ruleset find-loop = (first-loop, find-run)

@@ -1,14 +1,12 @@
 -- Laws of loops over a run of numbers.
-use mathlib.Core.Path.{_≡_, refl, sym, ap, _∙_}
-use mathlib.Core.Bool.{Bool, true, false, not}
+use mathlib.Core.Path.{_≡_, sym, ap, _∙_}
+use mathlib.Core.Bool.{Bool, true, false}
 use mathlib.Core.List.{List, [], _∷_}
-use Prim.Native.Nat.{ℕ, zero, suc, _+_, _-_, _<_, _≤_}
+use Prim.Native.Nat.{ℕ, suc, _+_, _-_, _<_, _≤_}
 use native.Mathlib.Omega.{arith}
 use native.Mathlib.Numerals.{add-one}
-use borrow.Author.Tests.{not-true, not-false}
 use borrow.Author.Needs.{needs}
-use Rattle.tables.specs.Lists.{all, first-that, from}
-use Rattle.tables.proofs.Cases.{and-intro}
+use Rattle.tables.specs.Lists.{first-that, from}
 
 -- the numbers from a up to b
 unfoldable pub upto : ℕ → ℕ → List ℕ
@@ -23,29 +21,10 @@ pub upto-none : {a b : ℕ} → b < a → upto a b ≡ []
 unfolding upto
 upto-none {a} {b} h = let q : b + 1 - a ≡ 0 = omega arith in rw q
 
--- the runs of the definitions
+-- the run of the definitions
 pub from-first : (n : ℕ) → from 1 n ≡ upto 1 n
 unfolding upto
 from-first n = let q : n + 1 - 1 ≡ n = omega arith in rw q
-
-pub from-after : (r n : ℕ) → from (suc r) (n - r) ≡ upto (r + 1) n
-unfolding upto
-from-after r n = let q : n + 1 - (r + 1) ≡ n - r = omega arith in rw (q, add-one r)
-
--- `while a <= b { if !p(a) { return false; } a += 1; } true`: what is left to test from a on decides the whole
-pub all-next : (p : ℕ → Bool) {a b : ℕ} {whole r : Bool} → whole ≡ all p (upto a b) → a ≤ b → r ≡ p a → not r ≡ false → whole ≡ all p (upto (a + 1) b)
-unfolding all
-all-next p {r = r} i h e t = i ∙ rw (upto-more h, ← e, not-false r t)
-
-pub all-stop : (p : ℕ → Bool) {a b : ℕ} {whole r : Bool} → whole ≡ all p (upto a b) → a ≤ b → r ≡ p a → not r ≡ true → false ≡ whole
-unfolding all
-all-stop p {r = r} i h e t = sym (i ∙ rw (upto-more h, ← e, not-true r t))
-
-pub all-end : (p : ℕ → Bool) {a b : ℕ} {whole : Bool} → whole ≡ all p (upto a b) → b < a → true ≡ whole
-unfolding all
-all-end p i h = sym (i ∙ rw (upto-none h))
-
-pub ruleset all-loop = (needs, all-next, all-stop, all-end)
 
 -- `while a <= b { if p(a) { return a; } a += 1; } 0`
 first-yes : (p : ℕ → Bool) (j : ℕ) (js : List ℕ) → p j ≡ true → first-that p (j ∷ js) ≡ j
@@ -67,9 +46,3 @@ unfolding first-that
 first-end p i h = sym (i ∙ rw (upto-none h))
 
 pub ruleset first-loop = (needs, first-here, first-next, first-end)
-
--- what holds of each number of a run holds of all
-pub all-each : (p : ℕ → Bool) (n a : ℕ) → ((k : ℕ) → a ≤ k → k < a + n → p k ≡ true) → all p (from a n) ≡ true
-unfolding all
-all-each p zero a h = refl
-all-each p (suc n) a h = and-intro (p a) _ (h a (omega arith) (omega arith)) (all-each p n (suc a) (λ k u v. h k (omega arith) (omega arith)))

@@ -1,5 +1,4 @@
 pub mod Runs
 pub mod Tests
-pub mod States
 pub mod Passing
 pub mod Standing

@@ -1,4 +1,4 @@
--- The two passes: what was counted and what is left to look at decide the whole.
+-- The pass over the resources: what was counted and what is left to look at decide the whole.
 use mathlib.Core.Path.{_≡_, refl, sym, _∙_}
 use mathlib.Core.Bool.{Bool, true, false, not, cond}
 use mathlib.Core.List.{List, _∷_}
@@ -8,22 +8,19 @@ use lib.Dec.{eqb}
 use lib.ListN.{length}
 use borrow.Author.Needs.{needs}
 use borrow.Author.Tests.{not-true, not-false}
-use Rattle.tables.specs.declared.Lock.{Lock}
 use Rattle.tables.specs.Lists.{bit, all, keep}
-use Rattle.tables.specs.State.{blocked-lock, told}
-use Rattle.tables.specs.Layout.{of-resource, resources-in, locks-in, word-in, read-lock}
+use Rattle.tables.specs.Layout.{of-resource, resources-in, word-in}
 use Rattle.names.specs.Names.{named}
 use Rattle.checking.specs.declared.Row.{Row}
-use Rattle.checking.specs.Check.{row-in, resource-fine, lock-fine}
-use Rattle.records.specs.Passes.{ResourceCounts, LockCounts, upto, resources-on, resources-pass, locks-on, locks-pass}
+use Rattle.checking.specs.Check.{row-in, resource-fine}
+use Rattle.records.specs.Passes.{ResourceCounts, upto, resources-on, resources-pass}
 use Rattle.records.proofs.Runs.{upto-more, upto-none, upto-all}
 
 -- a record that is looked at adds its bit
-count-one : (b : Bool) (k : ℕ) (ks : List ℕ) (n : ℕ) → n + length (cond b (k ∷ ks) ks) ≡ n + bit b + length ks
+pub count-one : (b : Bool) (k : ℕ) (ks : List ℕ) (n : ℕ) → n + length (cond b (k ∷ ks) ks) ≡ n + bit b + length ks
 count-one true k ks n = omega arith
 count-one false k ks n = omega arith
 
--- RESOURCES
 twice : (b : Bool) → not (not b) ≡ b
 twice true = refl
 twice false = refl
@@ -53,38 +50,3 @@ module _ (ws ss : List ℕ) where
         i ∙ rw (upto-more h, ← g, not-false f t, count-one (not (named ws r)) r (keep (λ r. not (named ws r)) (upto (r + 1) n)) free, p)
 
 pub ruleset resources-loop = (needs, resources-start, resources-end, resources-fail, resources-next)
-
--- LOCKS
-module _ (ws : List ℕ) where
-  pub locks-start : locks-pass ws ≡ locks-on ws 0 0 (upto 1 (locks-in ws))
-  unfolding locks-pass
-  locks-start = rw (upto-all (locks-in ws))
-
-  module _ (blocked noticed k n : ℕ) {whole : LockCounts} (i : whole ≡ locks-on ws blocked noticed (upto k n)) where
-    pub locks-end : n < k → record { fine = true; blocked = blocked; noticed = noticed } ≡ whole
-    unfolding locks-on all keep
-    locks-end h =
-        let y : blocked + 0 ≡ blocked = omega arith in
-        let z : noticed + 0 ≡ noticed = omega arith in
-        sym (i ∙ rw (upto-none h, y, z))
-
-    pub locks-fail : {f : Bool} → k ≤ n → f ≡ lock-fine ws k → not f ≡ true → record { fine = false; blocked = 0; noticed = 0 } ≡ whole
-    unfolding locks-on all
-    locks-fail {f} h g t = sym (i ∙ rw (upto-more h, ← g, not-true f t))
-
-    pub locks-next : {l : Lock} {f p q : Bool} {a b : ℕ} → k ≤ n → l ≡ read-lock ws k → f ≡ lock-fine ws k → not f ≡ false → p ≡ blocked-lock l → a ≡ bit p → q ≡ told l → b ≡ bit q → whole ≡ locks-on ws (blocked + a) (noticed + b) (upto (k + 1) n)
-    unfolding locks-on all keep
-    locks-next {l} {f} {p} {q} {a} {b} h e g t u x v y =
-        let c : bit (blocked-lock (read-lock ws k)) ≡ a = rw (← e, ← u) (sym x) in
-        let d : bit (told (read-lock ws k)) ≡ b = rw (← e, ← v) (sym y) in
-        i ∙ rw (
-          upto-more h,
-          ← g,
-          not-false f t,
-          count-one (blocked-lock (read-lock ws k)) k (keep (λ k. blocked-lock (read-lock ws k)) (upto (k + 1) n)) blocked,
-          count-one (told (read-lock ws k)) k (keep (λ k. told (read-lock ws k)) (upto (k + 1) n)) noticed,
-          c,
-          d,
-        )
-
-pub ruleset locks-loop = (needs, locks-start, locks-end, locks-fail, locks-next)

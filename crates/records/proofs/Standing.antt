@@ -8,15 +8,15 @@ use lib.Dec.{eqb, leb}
 use lib.ListN.{length}
 use borrow.Author.Tests.{not-false, leb-true, eqb-true}
 use Rattle.tables.specs.Lists.{all, from, keep}
-use Rattle.tables.specs.State.{name-width, blocked-lock, told}
-use Rattle.tables.specs.Layout.{of-resource, size, slot-width, resources-in, locks-in, word-in, read-lock}
+use Rattle.tables.specs.State.{name-width}
+use Rattle.tables.specs.Layout.{of-resource, size, slot-width, resources-in, locks-in, word-in}
 use Rattle.tables.specs.Sound.{sizes-right}
 use Rattle.tables.proofs.Cases.{by-cases, clash, and-left, and-right, parts}
 use Rattle.fields.specs.Sizes.{Sized}
 use Rattle.names.specs.Names.{named, slot-fine}
 use Rattle.names.specs.Standing.{Slotted, Tidy}
-use Rattle.checking.specs.Check.{row-in, used-row, row-fine, resource-fine, lock-fine}
-use Rattle.records.specs.Passes.{ResourceCounts, LockCounts, free-count, blocked-count, noticed-count, resources-on, resources-pass, locks-on, locks-pass, Fine}
+use Rattle.checking.specs.Check.{row-in, used-row, row-fine, resource-fine}
+use Rattle.records.specs.Passes.{ResourceCounts, free-count, resources-on, resources-pass, Fine}
 use Rattle.records.proofs.Runs.{all-from}
 
 -- SIZES
@@ -44,15 +44,22 @@ module _ (ws ss : List ℕ) {a : Bool} (e : a ≡ sizes-right ws ss) (f : not a 
   unfolding sizes-right
   some-lock = let h = right in let p : leb 1 (locks-in ws) ≡ true = search parts depth 20 in leb-true _ _ p
 
+  pub fine : Fine ws
+  fine = record { sized = sized; some = some-lock }
+
   -- RESOURCES
   module _ (g : all (resource-fine ws ss) (from 1 (resources-in ws)) ≡ true) where
     fine-at : (r : ℕ) → 1 ≤ r → r ≤ resources-in ws → resource-fine ws ss r ≡ true
     fine-at r l h = all-from (resource-fine ws ss) (resources-in ws) 1 r g l (omega arith)
 
+    pub rows : (r : ℕ) → 1 ≤ r → r ≤ resources-in ws → row-fine (row-in ws r) ≡ true
+    unfolding resource-fine
+    rows r l h = and-left (row-fine (row-in ws r)) (slot-fine ws ss r) (fine-at r l h)
+
     short-at : (r : ℕ) → 1 ≤ r → r ≤ resources-in ws → word-in ws (of-resource r 4) ≤ name-width
     unfolding resource-fine row-fine used-row row-in
     short-at r l h =
-        let x = and-left (row-fine (row-in ws r)) (slot-fine ws ss r) (fine-at r l h) in
+        let x = rows r l h in
         let w = word-in ws (of-resource r 4) in
         by-cases (eqb w 0)
         (λ z. omega (arith, eqb-true w 0 z))
@@ -69,11 +76,7 @@ module _ (ws ss : List ℕ) {a : Bool} (e : a ≡ sizes-right ws ss) (f : not a 
           fine = λ r l h. and-right (row-fine (row-in ws r)) (slot-fine ws ss r) (fine-at r l h);
         }
 
-  -- LOCKS
-  pub fine : all (lock-fine ws) (from 1 (locks-in ws)) ≡ true → Fine ws
-  fine h = record { sized = sized; some = some-lock; passed = h }
-
--- what the passes found
+-- what the pass found
 module _ (ws ss : List ℕ) {x : ResourceCounts} (e : x ≡ resources-pass ws ss) where
   resources-tested : (a : Bool) (n : ℕ) (y : ResourceCounts) → y ≡ cond a (record { fine = true; free = 0 + n }) (record { fine = false; free = 0 }) → (y .fine ≡ a) × (y .fine ≡ true → y .free ≡ n)
   resources-tested true n y q = rw q (refl, λ t. omega arith)
@@ -88,23 +91,3 @@ module _ (ws ss : List ℕ) {x : ResourceCounts} (e : x ≡ resources-pass ws ss
 
   pub resources-free : x .fine ≡ true → x .free ≡ free-count ws
   resources-free = resources-said .1
-
-module _ (ws : List ℕ) {x : LockCounts} (e : x ≡ locks-pass ws) where
-  locks-tested : (a : Bool) (m n : ℕ) (y : LockCounts) → y ≡ cond a (record { fine = true; blocked = 0 + m; noticed = 0 + n }) (record { fine = false; blocked = 0; noticed = 0 }) → (y .fine ≡ a) × ((y .fine ≡ true → y .blocked ≡ m) × (y .fine ≡ true → y .noticed ≡ n))
-  locks-tested true m n y q = rw q (refl, (λ t. omega arith, λ t. omega arith))
-  locks-tested false m n y q = rw q (refl, (λ t. clash false t refl, λ t. clash false t refl))
-
-  locks-said : (x .fine ≡ all (lock-fine ws) (from 1 (locks-in ws))) × ((x .fine ≡ true → x .blocked ≡ blocked-count ws) × (x .fine ≡ true → x .noticed ≡ noticed-count ws))
-  unfolding locks-pass locks-on blocked-count noticed-count
-  locks-said =
-      locks-tested (all (lock-fine ws) (from 1 (locks-in ws))) (length (keep (λ k. blocked-lock (read-lock ws k)) (from 1 (locks-in ws))))
-      (length (keep (λ k. told (read-lock ws k)) (from 1 (locks-in ws)))) x e
-
-  pub locks-fine : x .fine ≡ all (lock-fine ws) (from 1 (locks-in ws))
-  locks-fine = locks-said .0
-
-  pub locks-blocked : x .fine ≡ true → x .blocked ≡ blocked-count ws
-  locks-blocked = locks-said .1 .0
-
-  pub locks-noticed : x .fine ≡ true → x .noticed ≡ noticed-count ws
-  locks-noticed = locks-said .1 .1

@@ -2,19 +2,18 @@
 use mathlib.Core.Path.{_≡_, refl, sym}
 use mathlib.Core.Bool.{Bool, true, false, not, _&&_}
 use mathlib.Core.List.{List}
-use Prim.Native.Nat.{ℕ, _+_, _-_, _*_, _≤_, _<_}
+use Prim.Native.Nat.{ℕ, _+_, _-_, _*_, _<_}
 use native.Mathlib.Omega.{arith}
 use lib.Dec.{eqb, leb}
 use lib.ListN.{getD, length}
 use borrow.Author.Needs.{needs}
-use borrow.Author.Tests.{not-true, not-false, le-leb, lt-leb, eq-eqb, ne-eqb}
-use Rattle.tables.specs.declared.Lock.{Lock}
+use borrow.Author.Tests.{not-true, not-false, eq-eqb, ne-eqb}
 use Rattle.tables.specs.Lists.{bit}
-use Rattle.tables.specs.Layout.{header-width, resource-width, size, slot-width, resources-in, locks-in, read-lock}
+use Rattle.tables.specs.Layout.{header-width, resource-width, size, slot-width, resources-in, locks-in}
 use Rattle.tables.specs.Sound.{sizes-right}
-use Rattle.names.specs.Names.{named, slot-fine}
+use Rattle.names.specs.Names.{slot-fine}
 use Rattle.checking.specs.declared.Row.{Row}
-use Rattle.checking.specs.Check.{row-in, free-row, used-row, row-fine, resource-fine, on-named, fields-fine, links-fine, lock-fine}
+use Rattle.checking.specs.Check.{row-in, free-row, used-row, row-fine, resource-fine}
 
 -- SIZES. Words that lack a header are not as long as they say
 and-false : (a b : Bool) → (a && false) && b ≡ false
@@ -70,27 +69,4 @@ module _ (ws ss : List ℕ) (r : ℕ) {x : Row} {f : Bool} (e : x ≡ row-in ws 
   unfolding resource-fine
   resource-go t w = rw (← e, ← g, not-false f t) w
 
-module _ (ws : List ℕ) (r : ℕ) where
-  pub named-low : r < 1 → false ≡ on-named ws r
-  unfolding on-named
-  named-low h = rw (lt-leb 1 r h)
-
-  pub named-high : 1 ≤ r → resources-in ws < r → false ≡ on-named ws r
-  unfolding on-named
-  named-high l h = rw (le-leb 1 r l, lt-leb r (resources-in ws) h)
-
-  pub named-at : {x : Bool} → 1 ≤ r → r ≤ resources-in ws → x ≡ named ws r → x ≡ on-named ws r
-  unfolding on-named
-  named-at l h e = rw (le-leb 1 r l, le-leb r (resources-in ws) h) e
-
--- LOCKS
-module _ (ws : List ℕ) (k : ℕ) {l : Lock} {f : Bool} (e : l ≡ read-lock ws k) (p : f ≡ fields-fine (on-named ws (l .resource)) l) where
-  pub lock-stop : not f ≡ true → false ≡ lock-fine ws k
-  unfolding lock-fine
-  lock-stop t = rw (← e, ← p, not-true f t)
-
-  pub lock-go : {g : Bool} → not f ≡ false → g ≡ links-fine ws k → g ≡ lock-fine ws k
-  unfolding lock-fine
-  lock-go t w = rw (← e, ← p, not-false f t) w
-
-pub ruleset records = (needs, short-words, bit-one, bit-none, row-read, row-nonzero, row-free, row-used, resource-stop, resource-go, named-low, named-high, named-at, lock-stop, lock-go)
+pub ruleset records = (needs, short-words, bit-one, bit-none, row-read, row-nonzero, row-free, row-used, resource-stop, resource-go)

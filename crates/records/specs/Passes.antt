@@ -1,5 +1,4 @@
--- What the passes over the records find, and what stands on it.
-use mathlib.Core.Path.{_≡_}
+-- What the pass over the resources finds, how many records belong on a chain, and what the walks stand on.
 use mathlib.Core.Bool.{true, false, not, cond}
 use mathlib.Core.List.{List}
 use Prim.Native.Nat.{ℕ, _+_, _-_, _≤_}
@@ -9,9 +8,8 @@ use Rattle.tables.specs.State.{blocked-lock, told}
 use Rattle.tables.specs.Layout.{resources-in, locks-in, read-lock}
 use Rattle.fields.specs.Sizes.{Sized}
 use Rattle.names.specs.Names.{named}
-use Rattle.checking.specs.Check.{resource-fine, lock-fine}
+use Rattle.checking.specs.Check.{resource-fine}
 pub use Rattle.records.specs.declared.ResourceCounts.{ResourceCounts}
-pub use Rattle.records.specs.declared.LockCounts.{LockCounts}
 
 -- the numbers from a to b
 unfoldable pub upto : ℕ → ℕ → List ℕ
@@ -35,22 +33,7 @@ resources-on ws ss free rs =
 unfoldable pub resources-pass : List ℕ → List ℕ → ResourceCounts
 resources-pass ws ss = resources-on ws ss 0 (from 1 (resources-in ws))
 
--- the locks ks, after some of which so many were blocked and so many had a completion
-unfoldable pub locks-on : List ℕ → ℕ → ℕ → List ℕ → LockCounts
-locks-on ws blocked noticed ks =
-    cond (all (lock-fine ws) ks)
-    (record {
-      fine = true;
-      blocked = blocked + length (keep (λ k. blocked-lock (read-lock ws k)) ks);
-      noticed = noticed + length (keep (λ k. told (read-lock ws k)) ks);
-    })
-    (record { fine = false; blocked = 0; noticed = 0 })
-
-unfoldable pub locks-pass : List ℕ → LockCounts
-locks-pass ws = locks-on ws 0 0 (from 1 (locks-in ws))
-
--- words whose locks passed: each has modes up to 5
+-- words whose sizes are right
 pub record Fine (ws : List ℕ) : Type 0 where
   pub sized : Sized ws
   pub some : 1 ≤ locks-in ws
-  pub passed : all (lock-fine ws) (from 1 (locks-in ws)) ≡ true

@@ -7,14 +7,13 @@ use lib.Dec.{eqb}
 use borrow.Author.Needs.{needs}
 use borrow.Author.Tests.{not-true, not-false}
 use Rattle.tables.specs.Lists.{all, from}
-use Rattle.tables.specs.Layout.{of-header, resources-in, locks-in, word-in}
+use Rattle.tables.specs.Layout.{of-header, resources-in, word-in}
 use Rattle.tables.specs.Sound.{sizes-right, sound}
-use Rattle.checking.specs.Check.{resource-fine, lock-fine, check}
+use Rattle.checking.specs.Check.{resource-fine, check}
 use Rattle.checking.proofs.Equal.{check-is-sound}
 use Rattle.records.specs.declared.ResourceCounts.{ResourceCounts}
-use Rattle.records.specs.declared.LockCounts.{LockCounts}
-use Rattle.records.specs.Passes.{resources-pass, locks-pass}
-use Rattle.records.proofs.Standing.{slotted, sized, tidy, fine, resources-fine, resources-free, locks-fine, locks-blocked, locks-noticed}
+use Rattle.records.specs.Passes.{resources-pass}
+use Rattle.records.proofs.Standing.{slotted, sized, tidy, fine, rows, resources-fine, resources-free}
 use Rattle.soundness.specs.Chains.{chains-fine, Checked}
 
 module _ (ws ss : List ℕ) {rs : ResourceCounts} (er : rs ≡ resources-pass ws ss) where
@@ -23,13 +22,6 @@ module _ (ws ss : List ℕ) {rs : ResourceCounts} (er : rs ≡ resources-pass ws
 
   resources-yes : not (rs .fine) ≡ false → all (resource-fine ws ss) (from 1 (resources-in ws)) ≡ true
   resources-yes n = sym (resources-fine ws ss er) ∙ not-false (rs .fine) n
-
-module _ (ws : List ℕ) {ls : LockCounts} (el : ls ≡ locks-pass ws) where
-  locks-no : not (ls .fine) ≡ true → all (lock-fine ws) (from 1 (locks-in ws)) ≡ false
-  locks-no n = sym (locks-fine ws el) ∙ not-true (ls .fine) n
-
-  locks-yes : not (ls .fine) ≡ false → all (lock-fine ws) (from 1 (locks-in ws)) ≡ true
-  locks-yes n = sym (locks-fine ws el) ∙ not-false (ls .fine) n
 
 module _ (ws ss : List ℕ) {a : Bool} (ea : a ≡ sizes-right ws ss) where
   pub sound-sizes : not a ≡ true → false ≡ sound ws ss
@@ -46,23 +38,16 @@ module _ (ws ss : List ℕ) {a : Bool} (ea : a ≡ sizes-right ws ss) where
       unfolding check
       sound-resources n = rw (← check-is-sound ws ss, ← ea, not-false a na, ← eb, not-false b nb, resources-no ws ss er n)
 
-      module _ {ls : LockCounts} (nr : not (rs .fine) ≡ false) (el : ls ≡ locks-pass ws) where
-        pub sound-locks : not (ls .fine) ≡ true → false ≡ sound ws ss
-        unfolding check
-        sound-locks n = rw (← check-is-sound ws ss, ← ea, not-false a na, ← eb, not-false b nb, resources-yes ws ss er nr, locks-no ws el n)
+      pub sound-chains : {x : Bool} → not (rs .fine) ≡ false → x ≡ chains-fine ws ss → x ≡ sound ws ss
+      unfolding check chains-fine
+      sound-chains n e = rw (← check-is-sound ws ss, ← ea, not-false a na, ← eb, not-false b nb, resources-yes ws ss er n) e
 
-        pub sound-chains : {x : Bool} → not (ls .fine) ≡ false → x ≡ chains-fine ws ss → x ≡ sound ws ss
-        unfolding check chains-fine
-        sound-chains n e = rw (← check-is-sound ws ss, ← ea, not-false a na, ← eb, not-false b nb, resources-yes ws ss er nr, locks-yes ws el n) e
-
-pub checked : (ws ss : List ℕ) {a : Bool} {rs : ResourceCounts} {ls : LockCounts} → a ≡ sizes-right ws ss → not a ≡ false → rs ≡ resources-pass ws ss → not (rs .fine) ≡ false → ls ≡ locks-pass ws → not (ls .fine) ≡ false → Checked ws ss rs ls
-checked ws ss {rs = rs} {ls = ls} ea na er nr el nl =
+pub checked : (ws ss : List ℕ) {a : Bool} {rs : ResourceCounts} → a ≡ sizes-right ws ss → not a ≡ false → rs ≡ resources-pass ws ss → not (rs .fine) ≡ false → Checked ws ss rs
+checked ws ss {rs = rs} ea na er nr =
     record {
-      fine = fine ws ss ea na (locks-yes ws el nl);
+      rowed = record { fine = fine ws ss ea na; rows = rows ws ss ea na (resources-yes ws ss er nr) };
       tidy = tidy ws ss ea na (resources-yes ws ss er nr);
       free = resources-free ws ss er (not-false (rs .fine) nr);
-      blocked = locks-blocked ws el (not-false (ls .fine) nl);
-      noticed = locks-noticed ws el (not-false (ls .fine) nl);
     }
 
-pub ruleset sounding = (needs, slotted, sized, sound-sizes, sound-header, sound-resources, sound-locks, sound-chains, checked)
+pub ruleset sounding = (needs, slotted, sized, sound-sizes, sound-header, sound-resources, sound-chains, checked)

@@ -1,80 +1,113 @@
-// The check of whatever tables are lent: it needs nothing of them, looks at each of their records in one pass, and walks
-// each of their chains once.
+// The check of whatever tables are lent: it needs nothing of them, looks at each of their records once, and walks each of
+// their chains once.
 use chains::blocked_fine;
+use chains::denied_met;
+use chains::free_locks_met;
 use chains::free_resources_fine;
-use chains::home_met;
 use chains::notices_fine;
-use fields::DENIED;
-use fields::FREE_LOCKS;
 use fields::LOCKS;
 use fields::RESOURCES;
-use fields::STATE_DENIED;
-use fields::STATE_FREE;
+use holders::Census;
 use holders::resource_walk;
-use records::LockCounts;
 use records::ResourceCounts;
 use records::header_fine;
-use records::locks_pass;
+use records::in_use;
 use records::resources_pass;
 use records::sizes_right;
 ghost use mathlib.Core.Path.{_≡_};
 ghost use Prim.Native.Nat.{_+_, _*_, _≤_};
-ghost use lib.Dec.{eqb};
-ghost use Rattle.tables.specs.Lists.{from};
 ghost use Rattle.tables.specs.Layout.{«resources-in», «locks-in»};
 ghost use Rattle.tables.specs.Sound.{sound};
-ghost use Rattle.checking.specs.Check.{«queues-walk», «homes-fine»};
-ghost use Rattle.records.specs.Passes.{Fine};
-ghost use Rattle.soundness.specs.Chains.{«chains-fine», Checked};
+ghost use Rattle.holders.specs.Holding.{Counted};
+ghost use Rattle.soundness.specs.Chains.{«chains-fine», Rowed, Checked, Queues, Homes};
 
-// With so many locks on the other chains, those on all queues are to make up the number of locks.
-fn queues_fine(words: &[u32], start: u32) -> bool
-    requires { ⌜ Fine (now words) ⌝ }
-    requires { ⌜ start ≤ 2 * locks-in (now words) + 2 ⌝ }
-    ensures { λ x. ⌜ x ≡ eqb (start + queues-walk (now (words .entry)) (from 1 (resources-in (now (words .entry))))) (locks-in (now (words .entry))) ⌝ }
+// What the walk along the home chains finds: each lock stands on one of them, and so many belong on the blocked and on
+// the notice chain; or some lock does not.
+pub struct HomeCounts {
+    pub fine: bool,
+    pub blocked: u32,
+    pub noticed: u32,
+}
+
+// The queues of resource r. One that is free has none.
+fn queues_at(words: &[u32], r: u32) -> Census
+    requires { ⌜ Rowed (now words) ⌝ }
+    requires { ⌜ (1 ≤ r) × (r ≤ resources-in (now words)) ⌝ }
+    ensures { λ x. ⌜ Counted (now (words .entry)) r x ⌝ }
+{
+    if !in_use(words, r) {
+        return Census {
+            met: 0,
+            blocked: 0,
+            noticed: 0,
+        };
+    }
+    resource_walk(words, r)
+}
+
+// The queues of all resources. With so many locks on the other home chains, so many of them with an unread completion,
+// they are to make up the number of locks.
+fn queues(words: &[u32], others: u32, unread: u32) -> HomeCounts
+    requires { ⌜ Rowed (now words) ⌝ }
+    requires { ⌜ (others ≤ 2 * locks-in (now words) + 2) × (unread ≤ locks-in (now words) + 1) ⌝ }
+    ensures { λ x. ⌜ Queues (now (words .entry)) others unread x ⌝ }
 {
     let n = words[LOCKS];
     let last = words[RESOURCES];
-    let mut sum = start;
+    let mut met = others;
+    let mut blocked = 0;
+    let mut noticed = unread;
     let mut r = 1;
     while r <= last {
-        if n < sum {
-            return false;
+        if n < met {
+            return HomeCounts {
+                fine: false,
+                blocked: 0,
+                noticed: 0,
+            };
         }
-        sum += resource_walk(words, r);
+        let found = queues_at(words, r);
+        met += found.met;
+        blocked += found.blocked;
+        noticed += found.noticed;
         r += 1;
     }
-    sum == n
+    HomeCounts {
+        fine: met == n,
+        blocked: blocked,
+        noticed: noticed,
+    }
 }
 
 // Each lock stands on one home chain: free, denied, or a queue of a resource.
-fn homes_fine(words: &[u32]) -> bool
-    requires { ⌜ Fine (now words) ⌝ }
-    ensures { λ x. ⌜ x ≡ homes-fine (now (words .entry)) ⌝ }
+fn homes(words: &[u32]) -> HomeCounts
+    requires { ⌜ Rowed (now words) ⌝ }
+    ensures { λ x. ⌜ Homes (now (words .entry)) x ⌝ }
 {
-    let free = home_met(words, STATE_FREE, 0, words[FREE_LOCKS]);
-    let denied = home_met(words, STATE_DENIED, 0, words[DENIED]);
-    queues_fine(words, free + denied)
+    let free = free_locks_met(words);
+    let denied = denied_met(words);
+    queues(words, free + denied, denied)
 }
 
-// The chains, with as many records as were counted, and the names.
-fn chains_fine(words: &[u32], slots: &[u8], resources: ResourceCounts, locks: LockCounts) -> bool
-    requires { ⌜ Checked (now words) (now slots) resources locks ⌝ }
+// The chains and the names, with as many free resources as were counted.
+fn chains_fine(words: &[u32], slots: &[u8], resources: ResourceCounts) -> bool
+    requires { ⌜ Checked (now words) (now slots) resources ⌝ }
     ensures { λ x. ⌜ x ≡ chains-fine (now (words .entry)) (now (slots .entry)) ⌝ }
 {
     if !free_resources_fine(words, resources.free) {
         return false;
     }
-    if !blocked_fine(words, locks.blocked) {
+    let found = homes(words);
+    if !found.fine {
         return false;
     }
-    if !notices_fine(words, locks.noticed) {
+    if !blocked_fine(words, found.blocked) {
         return false;
     }
-    if !homes_fine(words) {
+    if !notices_fine(words, found.noticed) {
         return false;
     }
-    names::names_differ(words, slots)
+    distinct::names_differ(words, slots)
 }
 
 // Whether the tables are sound.
@@ -91,9 +124,5 @@ pub fn sound(words: &[u32], slots: &[u8]) -> bool
     if !resources.fine {
         return false;
     }
-    let locks = locks_pass(words);
-    if !locks.fine {
-        return false;
-    }
-    chains_fine(words, slots, resources, locks)
+    chains_fine(words, slots, resources)
 }

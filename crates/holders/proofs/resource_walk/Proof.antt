@@ -1,26 +1,28 @@
 use Rattle.holders.proofs.Queues.{heads, over-grant, over-convert, over-wait, head-fits, all-three}
 use borrow.Author.Needs.{needs}
-use native.Mathlib.Omega.{arith}
 use Rattle.holders.proofs.resource_walk.Statement.{statement}
 use Rattle.holders.proofs.resource_walk.Tie as tie
 
 returns : tie.Need-returns
-returns c = (search over-grant, omega arith)
+returns c = search over-grant
 
 returns-2 : tie.Need-returns-2
-returns-2 c = (search over-convert, omega arith)
+returns-2 c = search over-convert
 
 returns-3 : tie.Need-returns-3
-returns-3 c = (search over-wait, omega arith)
+returns-3 c = search over-wait
 
 heads-wait-requires : tie.Need-heads-wait-requires
-heads-wait-requires c κs = let d = c .before .before in (search needs, (search needs, (heads _ _ _ (d .before .before .before .convert-walk .ensures .same) (d .before .if2 .left) (d .resource-word .ensures) (c .before .home-met .ensures .0) (c .if3 .left), search needs)))
+heads-wait-requires c κs =
+    let convert = c .before .before in
+    let stand = heads _ _ _ (convert .before .before .convert-walk .ensures) (convert .if2 .left) (c .before .waiting-met .ensures .0) (c .if3 .left) in
+    (search needs, (search needs, (stand, search needs)))
 
 returns-4 : tie.Need-returns-4
-returns-4 c = (search head-fits, omega arith)
+returns-4 c = search head-fits
 
 returns-5 : tie.Need-returns-5
-returns-5 c = (search all-three, omega arith)
+returns-5 c = search all-three
 
 pub resource-walk-spec : {M : Type 1} → statement M
 resource-walk-spec =
@@ -28,18 +30,18 @@ resource-walk-spec =
     (tie.spec
     (λ c. search needs)
     (λ c κs. search needs)
-    (λ c. search needs)
+    (λ c κs. search needs)
     returns
     (λ c κs. search needs)
-    (λ c. search needs)
+    (λ c κs. search needs)
     returns-2
     (λ c κs. search needs)
     (λ c κs. search needs)
-    (λ c. search needs)
     returns-3
     heads-wait-requires
-    (λ c. search needs)
+    (λ c κs. search needs)
     returns-4
+    (λ c. search needs)
     (λ c. search needs)
     (λ c. search needs)
     returns-5)

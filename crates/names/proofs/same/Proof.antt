@@ -1,17 +1,27 @@
--- What is left to compare from i on decides the whole.
+-- What is left to compare in front of `at` decides the whole. That the elements of both are bytes is known at the entry.
 use mathlib.Core.Path.{_≡_}
-use Prim.Native.Nat.{_-_}
-use lib.ListN.{length, drop}
+use Prim.Native.Nat.{_≤_}
+use lib.ListN.{length, take}
 use Rattle.tables.specs.Lists.{same}
-use Rattle.names.proofs.Spans.{same-loop}
+use Rattle.names.proofs.Words.{words-next, words-loop}
 use Rattle.names.proofs.same.Statement.{statement}
 use Rattle.names.proofs.same.Tie as tie
 
 abbrev Inv-loop : tie.InvT-loop
-Inv-loop a b i₀ i = same a b ≡ same (drop i a) (drop i b)
+Inv-loop a b at₀ at = (at ≤ length a) × (at ≤ length b) × (same a b ≡ same (take at a) (take at b))
 
 abbrev μ-loop : tie.MeasureT-loop
-μ-loop a b i₀ i = length a - i
+μ-loop a b at₀ at = at
+
+loop-again : tie.Need-loop-again Inv-loop μ-loop
+loop-again c =
+    let turn = c .before .before .before .before in
+    let entry = turn .before .before in (
+      search words-loop,
+      search words-loop,
+      words-next _ _ _ (turn .loop .inv .2) (search words-loop) (c .before .before .word-at .ensures) (c .before .word-at2 .ensures) (search words-loop) (search words-loop)
+          (entry .before .shared-slice-known .given) (entry .shared-slice-known2 .given) (search words-loop),
+    )
 
 pub same-spec : {M : Type 1} → statement M
 same-spec =
@@ -19,12 +29,14 @@ same-spec =
     (tie.spec
     Inv-loop
     μ-loop
-    (λ c. search same-loop)
-    (λ c. search same-loop)
-    (λ c. search same-loop)
-    (λ c. search same-loop)
-    (λ c. search same-loop)
-    (λ c. search same-loop)
-    (λ c. search same-loop)
-    (λ c. search same-loop)
-    (λ c. search same-loop))
+    (λ c. search words-loop)
+    (λ c. (search words-loop, search words-loop, search words-loop))
+    (λ c κs. search words-loop)
+    (λ c κs. search words-loop)
+    (λ c. search words-loop)
+    (λ c. search words-loop)
+    loop-again
+    (λ c. search words-loop)
+    (λ c. search words-loop)
+    (λ c κs. search words-loop)
+    (λ c. search words-loop))

@@ -1,5 +1,6 @@
 use Rattle.soundness.specs.Chains.{chains-fine}
 use Rattle.records.proofs.Runs.{and-chain}
+use Rattle.soundness.proofs.Adding.{homes-blocked, homes-noticed}
 use borrow.Author.Needs.{needs}
 use Rattle.soundness.proofs.chains_fine.Statement.{statement}
 use Rattle.soundness.proofs.chains_fine.Tie as tie
@@ -32,9 +33,9 @@ chains-fine-spec =
     returns
     (λ c κs. search needs)
     returns-2
-    (λ c κs. search needs)
+    (λ c κs. search (needs, homes-blocked))
     returns-3
-    (λ c κs. search needs)
+    (λ c κs. search (needs, homes-noticed))
     returns-4
     (λ c κs. search needs)
     returns-5)

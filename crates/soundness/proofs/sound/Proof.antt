@@ -14,6 +14,4 @@ sound-spec =
     (λ c κs. search sounding)
     (λ c. search sounding)
     (λ c κs. search sounding)
-    (λ c. search sounding)
-    (λ c κs. search sounding)
     (λ c. search sounding))

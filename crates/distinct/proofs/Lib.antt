@@ -1,0 +1,4 @@
+pub mod Runs
+pub mod Comparing
+pub mod Numbering
+pub mod Telling

@@ -1,0 +1,31 @@
+-- What is left to compare from s on decides the whole.
+use mathlib.Core.Path.{_≡_}
+use Prim.Native.Nat.{_≤_, _+_, _-_}
+use Rattle.tables.specs.Lists.{all}
+use Rattle.names.specs.Names.{apart, apart-after}
+use Rattle.names.proofs.Runs.{upto}
+use Rattle.distinct.proofs.Comparing.{compare-loop}
+use Rattle.distinct.proofs.compare_after.Statement.{statement}
+use Rattle.distinct.proofs.compare_after.Tie as tie
+
+abbrev Inv-loop : tie.InvT-loop
+Inv-loop words slots r n s₀ s = (1 ≤ s) × (apart-after words slots r ≡ all (apart words slots r) (upto s n))
+
+abbrev μ-loop : tie.MeasureT-loop
+μ-loop words slots r n s₀ s = n + 1 - s
+
+pub compare-after-spec : {M : Type 1} → statement M
+compare-after-spec =
+    tie.close
+    (tie.spec
+    Inv-loop
+    μ-loop
+    (λ c κs. search compare-loop)
+    (λ c. search compare-loop)
+    (λ c. search compare-loop)
+    (λ c κs. search compare-loop)
+    (λ c. search compare-loop)
+    (λ c. search compare-loop)
+    (λ c. search compare-loop)
+    (λ c. search compare-loop)
+    (λ c. search compare-loop))

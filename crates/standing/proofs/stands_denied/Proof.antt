@@ -1,0 +1,12 @@
+use Rattle.standing.proofs.States.{standing}
+use Rattle.standing.proofs.stands_denied.Statement.{statement}
+use Rattle.standing.proofs.stands_denied.Tie as tie
+
+pub stands-denied-spec : {M : Type 1} → statement M
+stands-denied-spec =
+    tie.close
+    (tie.spec
+    (λ c κs. search standing)
+    (λ c κs. search standing)
+    (λ c κs. search standing)
+    (λ c. search standing))
