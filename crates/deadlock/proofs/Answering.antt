@@ -1,77 +1,49 @@
--- The functions above the search: the count of blocked locks, the lock on a cycle, the first such.
-use mathlib.Core.Path.{_≡_, refl, sym, ap, _∙_}
+-- The functions above the search: whether a lock is on a cycle, the first such, the victim.
+use mathlib.Core.Path.{_≡_, refl, sym, _∙_}
 use mathlib.Core.Logic.{_≢_}
-use mathlib.Core.Bool.{Bool, true, false, _&&_}
+use mathlib.Core.Bool.{Bool, true, false}
 use mathlib.Core.List.{List, [], _∷_}
 use Prim.Native.Nat.{ℕ, zero, suc, _+_, _≤_, _<_, _^_}
 use native.Mathlib.Omega.{arith}
-use lib.ListN.{getD, set, length, replicate, length-replicate}
+use lib.ListN.{getD, set, replicate, length-replicate}
 use borrow.Author.Needs.{needs}
-use Rattle.tables.specs.Lists.{bit, count, first-that, within}
-use Rattle.tables.specs.State.{lock, blocked, belongs}
+use Rattle.tables.specs.Lists.{count, first-that}
 use Rattle.tables.specs.Layout.{of-header, of-lock, locks-in, word-in}
-use Rattle.tables.proofs.Cases.{clash}
+use Rattle.tables.proofs.Cases.{by-cases, clash}
 use Rattle.tables.proofs.Counts.{count-same, count-step}
 use Rattle.tables.proofs.Valid.{Core}
 use Rattle.rules.specs.Deadlock.{leads, deadlocked, victim}
 use Rattle.rules.proofs.Deadlocks.{deadlocked-walk}
 use Rattle.access.specs.Contracts.{Some, Tells}
-use Rattle.deadlock.specs.Contracts.{seen}
-use Rattle.deadlock.specs.Chained.{onward, Walking}
+use Rattle.blocking.specs.Contracts.{seen}
+use Rattle.blocking.specs.Chained.{onward, Walking}
+use Rattle.blocking.specs.Marks.{marked, unmarked, Cleared}
+use Rattle.blocking.proofs.Alike.{alike, victim-alike}
+use Rattle.blocking.proofs.Onward.{some-sized, walk-splits, walk-ends, blocked-walks, blocked-onward, walk-sized, walk-low, walk-high, walk-less, walk-on}
+use Rattle.blocking.proofs.Reading.{blocked-at}
+use Rattle.blocking.proofs.Marks.{mark-kept, clear-more}
+use Rattle.clearing.specs.Clearing.{Left}
 use Rattle.deadlock.specs.Ranks.{Unranked, Ranked}
-use Rattle.deadlock.specs.Marking.{marked, Cleared, Searched}
+use Rattle.deadlock.specs.Marking.{Searched}
 use Rattle.deadlock.specs.Searches.{Searching, Trying}
-use Rattle.deadlock.proofs.Alike.{alike, victim-alike}
-use Rattle.deadlock.proofs.Onward.{some-sized, walk-splits, walk-ends, blocked-walks, blocked-onward}
-use Rattle.deadlock.proofs.Reading.{some-alike, blocked-at}
-use Rattle.deadlock.proofs.Noting.{walk-sized, walk-low, walk-high, walk-less, walk-on}
-use Rattle.deadlock.proofs.Marks.{mark-other, unmarked-le, clear-more, answer}
-
--- ---- how many are blocked
-
-pub record Counting (ws : List ℕ) (n k : ℕ) : Type 0 where
-  pub walks : Walking ws 1 k
-  pub whole : length (seen ws .blocked) ≡ n + length (onward ws 1 k)
-  pub few : length (seen ws .blocked) ≤ 1024
-
-pub counting-starts : {ws : List ℕ} {k : ℕ} → Some Core ws → k ≡ word-in ws (of-header 5) → Counting ws 0 k
-counting-starts {ws} {k} s e =
-    let all = ap length (blocked-onward ws k s e) in
-    let w = blocked-walks s e in
-    record { walks = w; whole = omega arith; few = omega (arith, w .short, some-sized s .few-locks) }
-
-module _ {ws : List ℕ} {n k : ℕ} (i : Counting ws n k) where
-  module _ (e : k ≢ 0) where
-    split : length (onward ws 1 k) ≡ suc (length (onward ws 1 (word-in ws (of-lock k 1))))
-    split = ap length (walk-splits ws 1 k (i .walks) e)
-
-    pub counting-fits : n + 1 < 2 ^ 32
-    counting-fits = omega (arith, i .whole, i .few, split)
-
-    pub counting-again : {x : ℕ} → x ≡ word-in ws (of-lock k 1) → Counting ws (n + 1) x
-    counting-again h = record { walks = walk-on (i .walks) e h; whole = rw h (omega (arith, i .whole, split)); few = i .few }
-
-  pub counting-ends : k ≡ 0 → n ≡ length (seen ws .blocked)
-  counting-ends e =
-      let none : onward ws 1 k ≡ [] = rw (e, walk-ends ws 1) in
-      omega (arith, i .whole, ap length none)
-
-pub ruleset count-laws = (needs, some-sized, walk-sized, walk-low, walk-high, walk-less, counting-starts, counting-fits, counting-again, counting-ends)
+use Rattle.deadlock.proofs.Marking.{unmarked-mono, some-left, answer}
 
 -- ---- whether a lock is on a cycle
-
-none-marked : (n x : ℕ) → marked (replicate n false) x ≡ false
-unfolding marked
-none-marked zero x = refl
-none-marked (suc n) zero = refl
-none-marked (suc n) (suc x) = none-marked n x
 
 blocked-below : {ws : List ℕ} → Some Core ws → (y : ℕ) → 1 ≤ count y (seen ws .blocked) → y < locks-in ws + 1
 blocked-below {ws} s y m = let at = blocked-at ws y (record { some = s; stands = m }) in omega (arith, at .high)
 
 module _ {ws ranks : List ℕ} {a d : ℕ} {m : List Bool} (i : Trying ws ranks a d m) where
-  pub cycle-searches : Searching ws ranks a d m
-  cycle-searches =
+  pub cycle-place : a < 1025
+  cycle-place = omega (arith, blocked-below (i .stands .some) a (i .stands .stands), some-sized (i .stands .some) .few-locks)
+
+  pub cycle-none : getD m a false ≡ true → false ≡ deadlocked (seen ws) a
+  unfolding marked
+  cycle-none h = by-cases (deadlocked (seen ws) a) (λ y. absurd (i .cleared .none a h (deadlocked-walk (seen ws) a (i .stands .stands) .0 y))) (λ y. sym y)
+
+  pub cycle-searches : getD m a false ≡ false → Searching ws ranks a d m
+  unfolding marked
+  cycle-searches f =
       let s = i .stands .some in
       record {
         some = s;
@@ -82,8 +54,8 @@ module _ {ws ranks : List ℕ} {a d : ℕ} {m : List Bool} (i : Trying ws ranks 
           wide = i .cleared .wide;
           small = omega (arith, some-sized s .few-locks);
         };
-        fresh = i .fresh;
-        deep = omega (arith, i .deep, unmarked-le (seen ws .blocked) m);
+        fresh = f;
+        deep = i .deep;
       }
 
   pub cycle-known : {m′ : List Bool} {r : Bool} → Searched (leads (seen ws)) (seen ws .blocked) (locks-in ws + 1) a a m m′ r → r ≡ deadlocked (seen ws) a
@@ -91,9 +63,17 @@ module _ {ws ranks : List ℕ} {a d : ℕ} {m : List Bool} (i : Trying ws ranks 
   cycle-known {m′} {r} s =
       answer (leads (seen ws)) (seen ws .blocked) (locks-in ws + 1) a m m′ r (blocked-below (i .stands .some)) (i .stands .stands) (i .cleared) s
 
-pub ruleset cycle-laws = (needs, cycle-searches, cycle-known)
+pub ruleset cycle-laws = (needs, cycle-place, cycle-none, cycle-searches, cycle-known)
 
 -- ---- the first on the blocked chain that is
+
+none-ranked : (n k : ℕ) → _≡_ {A = ℕ} (getD (replicate n 0) k 0) 0
+none-ranked zero k = refl
+none-ranked (suc n) zero = refl
+none-ranked (suc n) (suc k) = none-ranked n k
+
+pub none-ranked-yet : Unranked (replicate 1025 0)
+none-ranked-yet = record { wide = length-replicate {A = ℕ} 1025 0; each = none-ranked 1025 }
 
 first-of : (p : ℕ → Bool) (xs : List ℕ) (k : ℕ) (ks : List ℕ) → xs ≡ k ∷ ks → p k ≡ true → first-that p xs ≡ k
 unfolding first-that
@@ -103,45 +83,26 @@ first-past : (p : ℕ → Bool) (xs : List ℕ) (k : ℕ) (ks : List ℕ) → xs
 unfolding first-that
 first-past p xs k ks e h = rw (e, h, first-that)
 
--- a lock stands on the blocked chain once
-bit-most : (b : Bool) → bit b ≤ 1
-bit-most true = omega arith
-bit-most false = omega arith
-
-blocked-once : (ws : List ℕ) → Some Core ws → (j : ℕ) → count j (seen ws .blocked) ≤ 1
-blocked-once ws s j =
-    let t = s .state in
-    let same : count j (seen ws .blocked) ≡ count j (t .blocked) = ap (count j) (some-alike ws s .stopped) in
-    let is : count j (t .blocked) ≡ bit (within (length (t .locks)) j && belongs blocked (lock t j)) = s .good .linked blocked j in
-    omega (arith, bit-most (within (length (t .locks)) j && belongs blocked (lock t j)))
-
--- at the lock k of the chain, c the cleared locks: those from k on are not among them
+-- at the lock k of the chain, c the cleared locks
 pub record Seeking (ws m : List ℕ) (d k : ℕ) (c : List Bool) : Type 0 where
   pub ranked : Ranked ws m
   pub walks : Walking ws 1 k
   pub inside : (j : ℕ) → 1 ≤ count j (onward ws 1 k) → 1 ≤ count j (seen ws .blocked)
   pub whole : victim (seen ws) ≡ first-that (deadlocked (seen ws)) (onward ws 1 k)
-  pub once : (j : ℕ) → count j (onward ws 1 k) ≤ 1
-  pub fresh : (j : ℕ) → 1 ≤ count j (onward ws 1 k) → marked c j ≡ false
   pub cleared : Cleared (leads (seen ws)) (seen ws .blocked) c
-  pub deep : d ≡ length (seen ws .blocked)
+  pub deep : unmarked (seen ws .blocked) c ≤ d
 
-none-cleared : (step : ℕ → ℕ → Bool) (nodes : List ℕ) → Cleared step nodes (replicate 1025 false)
-none-cleared step nodes = record { wide = length-replicate 1025 false; none = λ x h. clash (marked (replicate 1025 false) x) h (none-marked 1025 x) }
-
-pub seeking-starts : {ws m : List ℕ} {d k : ℕ} → Some Core ws → Ranked ws m → d ≡ length (seen ws .blocked) → k ≡ word-in ws (of-header 5) → Seeking ws m d k (replicate 1025 false)
+pub seeking-starts : {ws m : List ℕ} {d k : ℕ} {c : List Bool} → Some Core ws → Ranked ws m → Left ws c d → k ≡ word-in ws (of-header 5) → Seeking ws m d k c
 unfolding victim
-seeking-starts {ws} {m} {d} {k} s r l e =
+seeking-starts {ws} {m} {d} {k} {c} s r l e =
     let all = blocked-onward ws k s e in
     record {
       ranked = r;
       walks = blocked-walks s e;
       inside = λ j h. rw all at h;
       whole = rw all;
-      once = λ j. rw all (blocked-once ws s j);
-      fresh = λ j h. none-marked 1025 j;
-      cleared = none-cleared (leads (seen ws)) (seen ws .blocked);
-      deep = l;
+      cleared = l .cleared;
+      deep = omega (arith, l .is);
     }
 
 module _ {ws m : List ℕ} {d k : ℕ} {c : List Bool} (i : Seeking ws m d k c) where
@@ -158,7 +119,6 @@ module _ {ws m : List ℕ} {d k : ℕ} {c : List Bool} (i : Seeking ws m d k c) 
           ranked = i .ranked;
           stands = record { some = i .walks .some; stands = i .inside k here };
           cleared = i .cleared;
-          fresh = i .fresh k here;
           deep = i .deep;
         }
 
@@ -179,12 +139,6 @@ module _ {ws m : List ℕ} {d k : ℕ} {c : List Bool} (i : Seeking ws m d k c) 
         later : (j : ℕ) → 1 ≤ count j (onward ws 1 x) → 1 ≤ count j (onward ws 1 k)
         later j l = rw from-here (omega (arith, rw q at l, count-step j k (onward ws 1 (word-in ws (of-lock k 1)))))
 
-        later-other : (j : ℕ) → 1 ≤ count j (onward ws 1 x) → j ≢ k
-        later-other j l s =
-            let l′ : 1 ≤ count k (onward ws 1 (word-in ws (of-lock k 1))) = rw (s, q) at l in
-            let o : count k (k ∷ onward ws 1 (word-in ws (of-lock k 1))) ≤ 1 = rw from-here at (i .once k) in
-            omega (arith, count-same k (onward ws 1 (word-in ws (of-lock k 1))))
-
         pub seeking-again : Seeking ws m d x (set c k true)
         seeking-again =
             record {
@@ -192,29 +146,47 @@ module _ {ws m : List ℕ} {d k : ℕ} {c : List Bool} (i : Seeking ws m d k c) 
               walks = walk-on (i .walks) n q;
               inside = λ j l. i .inside j (later j l);
               whole = i .whole ∙ first-past (deadlocked (seen ws)) (onward ws 1 k) k _ from-here (sym e ∙ h) ∙ rw q;
-              once = λ j. rw q (let o : count j (k ∷ onward ws 1 (word-in ws (of-lock k 1))) ≤ 1 = rw from-here at (i .once j) in omega (arith, count-step j k (onward ws 1 (word-in ws (of-lock k 1)))));
-              fresh = λ j l. mark-other c k j (later-other j l) ∙ i .fresh j (later j l);
               cleared = clear-more c k (i .cleared) (λ w. clash (deadlocked (seen ws) k) (deadlocked-walk (seen ws) k (i .inside k here) .1 w) (sym e ∙ h));
-              deep = i .deep;
+              deep = omega (arith, i .deep, unmarked-mono (seen ws .blocked) c (set c k true) (mark-kept c k (omega (arith, seeking-place, i .cleared .wide))));
             }
 
   pub seeking-ends : k ≡ 0 → 0 ≡ victim (seen ws)
   unfolding first-that
   seeking-ends e = sym (i .whole ∙ rw (e, walk-ends ws 1))
 
-pub ruleset seek-laws = (needs, some-sized, walk-sized, walk-low, walk-high, walk-less, seeking-starts, seeking-tries, seeking-place, seeking-fits, seeking-found, seeking-again, seeking-ends)
+pub ruleset seek-laws = (needs, some-sized, walk-sized, walk-low, walk-high, walk-less, none-ranked-yet, seeking-starts, seeking-tries, seeking-place, seeking-fits, seeking-found, seeking-again, seeking-ends)
 
 -- ---- the victim
 
-none-ranked : (n k : ℕ) → _≡_ {A = ℕ} (getD (replicate n 0) k 0) 0
-none-ranked zero k = refl
-none-ranked (suc n) zero = refl
-none-ranked (suc n) (suc k) = none-ranked n k
+none-marked : (n x : ℕ) → marked (replicate n false) x ≡ false
+unfolding marked
+none-marked zero x = refl
+none-marked (suc n) zero = refl
+none-marked (suc n) (suc x) = none-marked n x
 
-pub victim-unranked : Unranked (replicate 1025 0)
-victim-unranked = record { wide = length-replicate {A = ℕ} 1025 0; each = none-ranked 1025 }
+pub none-cleared : (step : ℕ → ℕ → Bool) (nodes : List ℕ) → Cleared step nodes (replicate 1025 false)
+none-cleared step nodes = record { wide = length-replicate 1025 false; none = λ x h. clash (marked (replicate 1025 false) x) h (none-marked 1025 x) }
+
+first-none : (p : ℕ → Bool) (xs : List ℕ) → ((j : ℕ) → 1 ≤ count j xs → p j ≡ false) → first-that p xs ≡ 0
+unfolding first-that
+first-none p [] h = refl
+first-none p (x ∷ xs) h = rw (h x (rw count-same (omega arith)), first-that) (first-none p xs (λ j m. h j (omega (arith, count-step j x xs))))
+
+-- where no blocked lock is left, none is on a cycle
+all-free : (ws : List ℕ) (m : List Bool) → Left ws m 0 → 0 ≡ victim (seen ws)
+unfolding victim
+all-free ws m l =
+    sym (first-none (deadlocked (seen ws)) (seen ws .blocked)
+    (λ j c. by-cases (deadlocked (seen ws) j)
+    (λ y. by-cases (marked m j)
+    (λ k. absurd (l .cleared .none j k (deadlocked-walk (seen ws) j c .0 y)))
+    (λ k. absurd (omega (arith, l .is, some-left (seen ws .blocked) m j c k))))
+    (λ y. y)))
 
 pub victim-told : {ws : List ℕ} {r : ℕ} → r ≡ victim (seen ws) → Tells Core victim ws r
 victim-told {ws} e = record { then = λ t c is. e ∙ victim-alike t (seen ws) (alike t c ws is) }
 
-pub ruleset victim-laws = (needs, victim-unranked, victim-told)
+pub victim-none : {ws : List ℕ} {m : List Bool} {n : ℕ} → Left ws m n → n ≡ 0 → Tells Core victim ws 0
+victim-none {ws} {m} l e = victim-told (all-free ws m (rw e at l))
+
+pub ruleset victim-laws = (needs, none-cleared, victim-none, victim-told)

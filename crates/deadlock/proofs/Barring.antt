@@ -9,11 +9,11 @@ use lib.Seq.{getD-set-same, getD-set-other}
 use lib.Dec.{eqb}
 use borrow.Author.Tests.{eq-eqb, ne-eqb}
 use Rattle.tables.specs.Lists.{any, keep}
-use Rattle.tables.specs.State.{Tables, lock, resource}
-use Rattle.tables.specs.Grants.{holders}
+use Rattle.tables.specs.State.{Tables, lock}
 use Rattle.tables.proofs.Cases.{by-cases, by-equal, or-right}
-use Rattle.rules.specs.Deadlock.{obstacles, owner}
-use Rattle.deadlock.specs.Owners.{in-way, note, note-all}
+use Rattle.rules.specs.Deadlock.{owner}
+use Rattle.blocking.specs.Owners.{in-way}
+use Rattle.deadlock.specs.Barring.{note, note-all}
 
 module _ (t : Tables) (a : ℕ) where
   pub length-note : (j : ℕ) (o : List Bool) → length (note t a j o) ≡ length o
@@ -59,7 +59,3 @@ module _ (t : Tables) (a : ℕ) where
         ∙ by-cases (in-way t a j)
         (λ h. by-equal (owner (lock t j)) c (λ e. note-here j js o (few j) h e) (λ e. note-past j js o h e))
         (λ h. note-off j js o h)
-
-  pub obstacles-are : obstacles t a ≡ keep (in-way t a) (resource t (lock t a .resource) .grant ++ resource t (lock t a .resource) .convert)
-  unfolding obstacles holders in-way
-  obstacles-are = refl

@@ -18,14 +18,14 @@ use Rattle.tables.proofs.Valid.{used, StateOk, Core, line, used-within}
 use Rattle.tables.proofs.Standing.{line-once, blocked-place}
 use Rattle.fields.specs.Sizes.{Sized}
 use Rattle.access.specs.Contracts.{Some}
-use Rattle.deadlock.specs.Contracts.{seen}
-use Rattle.deadlock.specs.Chained.{onward, Walking}
+use Rattle.blocking.specs.Contracts.{seen}
+use Rattle.blocking.specs.Chained.{onward, Walking}
+use Rattle.blocking.proofs.Alike.{Alike}
+use Rattle.blocking.proofs.Onward.{some-sized, walk-splits, walk-ends, queue-onward, walk-sized, walk-low, walk-high, walk-less, walk-on, line-converts}
+use Rattle.blocking.proofs.Reading.{some-alike, resources-told}
+use Rattle.blocking.proofs.Ahead.{line-here, line-alike}
 use Rattle.deadlock.specs.Ranks.{rank, rank-of, number, Unranked, Numbered, Ranked}
-use Rattle.deadlock.proofs.Alike.{Alike}
-use Rattle.deadlock.proofs.Onward.{some-sized, walk-splits, walk-ends, queue-walks, queue-onward}
-use Rattle.deadlock.proofs.Reading.{some-alike, resources-told}
-use Rattle.deadlock.proofs.Ranking.{rank-none, line-here, length-number, number-append, number-off, number-at}
-use Rattle.deadlock.proofs.Noting.{walk-sized, walk-low, walk-high, walk-less, walk-on}
+use Rattle.deadlock.proofs.Ranking.{rank-none, length-number, number-append, number-off, number-at}
 
 -- ---- a chain
 
@@ -78,21 +78,14 @@ module _ {ws : List ℕ} {first n₀ k n : ℕ} {m₀ m : List ℕ} (i : Numberi
 
 -- ---- a line: the convert chain, then the wait chain
 
-line-alike : (t u : Tables) → Alike t u → (r : ℕ) → line u r ≡ line t r
-unfolding line
-line-alike t u a r = rw (a .queues converts r, a .queues waits r)
-
 pub rank-alike : (t u : Tables) → Alike t u → (k : ℕ) → rank-of u k ≡ rank-of t k
 unfolding rank-of
 rank-alike t u a k = rw (a .locks k, line-alike t u a (lock t k .resource))
 
 module _ {ws : List ℕ} {r : ℕ} (s : Some Core ws) (there : (1 ≤ r) × (r ≤ resources-in ws)) where
   module _ {x : ℕ} (e : x ≡ word-in ws (of-resource r 2)) where
-    pub line-converts : Walking ws 0 x
-    line-converts = rw e (queue-walks ws s r converts (there .0) (there .1))
-
     pub line-last : {n : ℕ} {m m₁ : List ℕ} → Numbered ws x 0 m m₁ n → n ≤ 1024
-    line-last d = omega (arith, d .last, line-converts .short, some-sized s .few-locks)
+    line-last d = omega (arith, d .last, line-converts s there e .short, some-sized s .few-locks)
 
     module _ {y : ℕ} (h : y ≡ word-in ws (of-resource r 3)) where
       pub line-done : {n p : ℕ} {m m₁ m₂ : List ℕ} → Numbered ws x 0 m m₁ n → Numbered ws y n m₁ m₂ p → m₂ ≡ number 0 (line (seen ws) r) m
@@ -102,9 +95,6 @@ module _ {ws : List ℕ} {r : ℕ} (s : Some Core ws) (there : (1 ≤ r) × (r �
           let qs : onward ws 0 y ≡ resource (seen ws) r .wait = ap (onward ws 0) h ∙ queue-onward ws s r waits (there .0) (there .1) in
           let n-is : n ≡ 0 + length (resource (seen ws) r .convert) = a .last ∙ ap (λ zs. 0 + length zs) cs in
           b .written ∙ rw (a .written, n-is, cs, qs) (sym (number-append 0 (resource (seen ws) r .convert) (resource (seen ws) r .wait) m))
-
-  pub line-waits : {y : ℕ} → y ≡ word-in ws (of-resource r 3) → Walking ws 0 y
-  line-waits h = rw h (queue-walks ws s r waits (there .0) (there .1))
 
 -- ---- all lines
 

@@ -3,47 +3,23 @@ use mathlib.Core.Path.{_≡_, refl, sym, ap, _∙_}
 use mathlib.Core.Logic.{_≢_}
 use mathlib.Core.Bool.{Bool, true, false, not}
 use mathlib.Core.List.{List, _++_}
-use Prim.Native.Nat.{ℕ, _≤_, _<_}
+use Prim.Native.Nat.{ℕ, _<_}
 use native.Mathlib.Omega.{arith}
 use lib.ListN.{getD, set, length}
 use borrow.Author.Tests.{not-true, not-false}
 use borrow.Author.Needs.{needs}
 use Rattle.tables.specs.Lists.{keep}
 use Rattle.tables.specs.State.{lock, resource, grants, converts}
-use Rattle.tables.specs.Layout.{of-resource, of-lock, resources-in, locks-in, word-in}
-use Rattle.fields.specs.Sizes.{Sized}
+use Rattle.tables.specs.Layout.{of-resource, of-lock, word-in}
 use Rattle.rules.specs.Deadlock.{obstacles, owner}
-use Rattle.deadlock.specs.Contracts.{seen, At, Blocked}
-use Rattle.deadlock.specs.Chained.{onward, Walking}
-use Rattle.deadlock.specs.Owners.{in-way, note, note-all, Owned, Unbarred, Barred}
-use Rattle.deadlock.proofs.Onward.{some-sized, walk-splits, walk-goes, walk-at, walk-ends, queue-walks, queue-onward}
-use Rattle.deadlock.proofs.Reading.{client-few, resource-told, owner-known, held-mode, asked-mode, way-known, blocked-at, blocked-resource}
-use Rattle.deadlock.proofs.Barring.{length-note, length-notes, notes-append, notes-at, obstacles-are}
-
--- ---- what a read of a lock's word asks for
-
-pub at-sized : {ws : List ℕ} {k : ℕ} → At ws k → Sized ws
-at-sized a = some-sized (a .some)
-
-module _ {ws : List ℕ} {f k : ℕ} where
-  pub walk-sized : Walking ws f k → Sized ws
-  walk-sized w = some-sized (w .some)
-
-  pub walk-low : Walking ws f k → k ≢ 0 → 1 ≤ k
-  walk-low w n = walk-at ws f k w n .low
-
-  pub walk-high : Walking ws f k → k ≢ 0 → k ≤ locks-in ws
-  walk-high w n = walk-at ws f k w n .high
-
-  pub walk-stands : Walking ws f k → k ≢ 0 → At ws k
-  walk-stands w n = walk-at ws f k w n
-
-  -- a turn is one lock nearer to the end
-  pub walk-less : (x : ℕ) → Walking ws f k → k ≢ 0 → x ≡ word-in ws (of-lock k f) → length (onward ws f x) < length (onward ws f k)
-  walk-less x w n e = rw e (omega (arith, ap length (walk-splits ws f k w n)))
-
-  pub walk-on : {x : ℕ} → Walking ws f k → k ≢ 0 → x ≡ word-in ws (of-lock k f) → Walking ws f x
-  walk-on w n e = rw e (walk-goes ws f k w n)
+use Rattle.blocking.specs.Contracts.{seen, At, Blocked}
+use Rattle.blocking.specs.Chained.{onward, Walking}
+use Rattle.blocking.specs.Owners.{in-way, Owned}
+use Rattle.blocking.proofs.Onward.{walk-splits, walk-ends, queue-onward, walk-sized, walk-low, walk-high, walk-stands, walk-less, walk-on}
+use Rattle.blocking.proofs.Reading.{client-few, resource-told, blocked-at, at-sized, owner-place, blocked-sized, blocked-low, blocked-high, bar-low, bar-high}
+use Rattle.blocking.proofs.Ahead.{obstacles-are}
+use Rattle.deadlock.specs.Barring.{note, note-all, Unbarred, Barred}
+use Rattle.deadlock.proofs.Barring.{length-note, length-notes, notes-append, notes-at}
 
 -- ---- one lock
 
@@ -55,9 +31,6 @@ module _ (ws : List ℕ) (a j : ℕ) (o : List Bool) (r : Bool) (e : r ≡ in-wa
   pub note-stores : (x : ℕ) → not r ≡ false → Owned ws j x → set o x true ≡ note (seen ws) a j o
   unfolding note
   note-stores x h w = rw (sym e ∙ not-false r h, w .is)
-
-pub owner-place : {ws : List ℕ} {k x : ℕ} (o : List Bool) → Owned ws k x → length o ≡ 256 → x < length o
-owner-place o w e = omega (arith, w .few)
 
 -- ---- a chain of locks
 
@@ -90,37 +63,13 @@ noting-ends ws a first k o₀ o i e = sym (i .whole ∙ rw (e, walk-ends ws 0))
 
 -- ---- the holders on a blocked lock's resource
 
-pub blocked-sized : {ws : List ℕ} {a : ℕ} → Blocked ws a → Sized ws
-blocked-sized b = some-sized (b .some)
-
-pub blocked-stands : {ws : List ℕ} {a : ℕ} → Blocked ws a → At ws a
-blocked-stands {ws} {a} b = blocked-at ws a b
-
-pub blocked-low : {ws : List ℕ} {a : ℕ} → Blocked ws a → 1 ≤ a
-blocked-low {ws} {a} b = blocked-at ws a b .low
-
-pub blocked-high : {ws : List ℕ} {a : ℕ} → Blocked ws a → a ≤ locks-in ws
-blocked-high {ws} {a} b = blocked-at ws a b .high
-
 module _ {ws : List ℕ} {a r : ℕ} (b : Blocked ws a) (e : r ≡ word-in ws (of-lock a 3)) where
-  pub bar-low : 1 ≤ r
-  bar-low = blocked-resource ws a r b e .0
-
-  pub bar-high : r ≤ resources-in ws
-  bar-high = blocked-resource ws a r b e .1
-
-  pub bar-grants : {g : ℕ} → g ≡ word-in ws (of-resource r 1) → Walking ws 0 g
-  bar-grants h = rw h (queue-walks ws (b .some) r grants bar-low bar-high)
-
-  pub bar-converts : {g : ℕ} → g ≡ word-in ws (of-resource r 2) → Walking ws 0 g
-  bar-converts h = rw h (queue-walks ws (b .some) r converts bar-low bar-high)
-
   pub bar-done : {g h : ℕ} {o o₁ o₂ : List Bool} → g ≡ word-in ws (of-resource r 1) → h ≡ word-in ws (of-resource r 2) → Unbarred o →
       o₁ ≡ note-all (seen ws) a (onward ws 0 g) o → o₂ ≡ note-all (seen ws) a (onward ws 0 h) o₁ → Barred ws a o₂
   bar-done {g} {h} {o} {o₁} {o₂} eg eh u e₁ e₂ =
       let here : r ≡ lock (seen ws) a .resource = e ∙ resource-told ws a (blocked-at ws a b) in
-      let gs : onward ws 0 g ≡ resource (seen ws) r .grant = ap (onward ws 0) eg ∙ queue-onward ws (b .some) r grants bar-low bar-high in
-      let cs : onward ws 0 h ≡ resource (seen ws) r .convert = ap (onward ws 0) eh ∙ queue-onward ws (b .some) r converts bar-low bar-high in
+      let gs : onward ws 0 g ≡ resource (seen ws) r .grant = ap (onward ws 0) eg ∙ queue-onward ws (b .some) r grants (bar-low b e) (bar-high b e) in
+      let cs : onward ws 0 h ≡ resource (seen ws) r .convert = ap (onward ws 0) eh ∙ queue-onward ws (b .some) r converts (bar-low b e) (bar-high b e) in
       let holders : List ℕ = resource (seen ws) r .grant ++ resource (seen ws) r .convert in
       let all : o₂ ≡ note-all (seen ws) a holders o = e₂ ∙ rw (e₁, gs, cs) (sym (notes-append (seen ws) a (resource (seen ws) r .grant) (resource (seen ws) r .convert) o)) in
       let few : (j : ℕ) → owner (lock (seen ws) j) < length o = λ j. omega (arith, client-few ws (b .some) j, u .wide) in
@@ -135,5 +84,3 @@ module _ {ws : List ℕ} {a r : ℕ} (b : Blocked ws a) (e : r ≡ word-in ws (o
 pub ruleset note-laws = (needs, at-sized, walk-sized, walk-low, walk-high, walk-stands, walk-less, note-skips, note-stores, owner-place, noting-starts, noting-again, noting-ends)
 
 pub ruleset bar-laws = (needs, blocked-sized, blocked-low, blocked-high, bar-low, bar-high, bar-done)
-
-pub ruleset read-laws = (needs, at-sized, owner-known, held-mode, asked-mode, way-known)

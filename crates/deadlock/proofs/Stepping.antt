@@ -13,21 +13,22 @@ use Rattle.tables.specs.State.{Tables, lock, blocked-lock}
 use Rattle.tables.specs.Layout.{of-lock, locks-in, word-in}
 use Rattle.tables.proofs.Cases.{by-cases, and-left}
 use Rattle.tables.proofs.Valid.{Core}
-use Rattle.fields.specs.Sizes.{Sized}
 use Rattle.rules.specs.Deadlock.{ahead, leads}
+use Rattle.fields.specs.Sizes.{Sized}
 use Rattle.access.specs.Contracts.{Some}
-use Rattle.deadlock.specs.Contracts.{seen, At, Blocked}
+use Rattle.blocking.specs.Contracts.{seen, At, Blocked}
+use Rattle.blocking.specs.Owners.{Owned}
+use Rattle.blocking.specs.Marks.{marked}
+use Rattle.blocking.proofs.Alike.{Alike, ahead-alike}
+use Rattle.blocking.proofs.Onward.{some-sized}
+use Rattle.blocking.proofs.Reading.{some-alike, resource-told, blocked-at, blocked-is, is-blocked, blocked-sized, blocked-low, blocked-high}
 use Rattle.deadlock.specs.Ranks.{rank-of, Ranked}
-use Rattle.deadlock.specs.Owners.{Owned, Unbarred, Barred}
-use Rattle.deadlock.specs.Marking.{marked, Followed, Searched}
+use Rattle.deadlock.specs.Barring.{Unbarred, Barred}
+use Rattle.deadlock.specs.Marking.{Followed, Searched}
 use Rattle.deadlock.specs.Searches.{Following, Searching}
-use Rattle.deadlock.proofs.Alike.{Alike, ahead-alike}
-use Rattle.deadlock.proofs.Onward.{some-sized}
-use Rattle.deadlock.proofs.Reading.{some-alike, resource-told, blocked-at, blocked-is, is-blocked}
 use Rattle.deadlock.proofs.Ranking.{ahead-rank, rank-blocked, rank-free}
-use Rattle.deadlock.proofs.Noting.{blocked-sized, blocked-low, blocked-high}
 use Rattle.deadlock.proofs.Lines.{rank-alike}
-use Rattle.deadlock.proofs.Marks.{some-left, Loop, no-step, hit, entered-before, deeper, loop-start, loop-done}
+use Rattle.deadlock.proofs.Marking.{some-left, Loop, no-step, hit, entered-before, deeper, loop-start, loop-done}
 
 -- ---- whether one lock stands ahead of another
 

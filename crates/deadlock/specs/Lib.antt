@@ -1,6 +1,4 @@
-pub mod Contracts
-pub mod Chained
 pub mod Ranks
-pub mod Owners
+pub mod Barring
 pub mod Marking
 pub mod Searches

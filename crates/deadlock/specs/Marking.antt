@@ -1,25 +1,12 @@
 -- What a depth-first search does to its marks.
 use mathlib.Core.Path.{_≡_}
-use mathlib.Core.Bool.{Bool, true, false, cond}
-use mathlib.Core.List.{List, [], _∷_}
-use Prim.Native.Nat.{ℕ, suc, _<_, _≤_}
-use lib.ListN.{length, getD}
+use mathlib.Core.Bool.{Bool, true, false}
+use mathlib.Core.List.{List}
+use Prim.Native.Nat.{ℕ, _<_, _≤_}
+use lib.ListN.{length}
 use Rattle.tables.specs.Lists.{count}
 use Rattle.rules.specs.Walks.{Walk}
-
--- x has been entered
-unfoldable pub marked : List Bool → ℕ → Bool
-marked m x = getD m x false
-
--- how many of the nodes have not been entered
-unfoldable pub unmarked : List ℕ → List Bool → ℕ
-unmarked [] m = 0
-unmarked (x ∷ xs) m = cond (marked m x) (unmarked xs m) (suc (unmarked xs m))
-
--- no node that is marked leads back to itself
-pub record Cleared (leads : ℕ → ℕ → Bool) (nodes : List ℕ) (m : List Bool) : Type 0 where
-  pub wide : length m ≡ 1025
-  pub none : (x : ℕ) → marked m x ≡ true → Walk leads nodes x x → ⊥
+use Rattle.blocking.specs.Marks.{marked}
 
 -- y is not t, and has been entered
 pub record Passed (t : ℕ) (m : List Bool) (y : ℕ) : Type 0 where

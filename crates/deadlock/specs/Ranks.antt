@@ -8,8 +8,8 @@ use lib.Dec.{eqb}
 use Rattle.tables.specs.State.{Tables, lock}
 use Rattle.tables.specs.Layout.{locks-in}
 use Rattle.tables.proofs.Valid.{line}
-use Rattle.deadlock.specs.Contracts.{seen}
-use Rattle.deadlock.specs.Chained.{onward}
+use Rattle.blocking.specs.Contracts.{seen}
+use Rattle.blocking.specs.Chained.{onward}
 
 -- the place of k on a list, counted on from n, or 0
 unfoldable pub rank : ℕ → ℕ → List ℕ → ℕ

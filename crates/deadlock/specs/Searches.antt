@@ -3,15 +3,15 @@ use mathlib.Core.Path.{_≡_}
 use mathlib.Core.Bool.{Bool, false}
 use mathlib.Core.List.{List}
 use Prim.Native.Nat.{ℕ, _+_, _<_, _≤_}
-use lib.ListN.{length}
 use Rattle.tables.specs.Layout.{locks-in}
 use Rattle.tables.proofs.Valid.{Core}
 use Rattle.rules.specs.Deadlock.{leads}
 use Rattle.access.specs.Contracts.{Some}
-use Rattle.deadlock.specs.Contracts.{seen, At, Blocked}
+use Rattle.blocking.specs.Contracts.{seen, At, Blocked}
+use Rattle.blocking.specs.Marks.{marked, unmarked, Cleared}
 use Rattle.deadlock.specs.Ranks.{Ranked}
-use Rattle.deadlock.specs.Owners.{Barred}
-use Rattle.deadlock.specs.Marking.{marked, unmarked, Ready, Cleared}
+use Rattle.deadlock.specs.Barring.{Barred}
+use Rattle.deadlock.specs.Marking.{Ready}
 
 -- `from` is entered, and fewer blocked locks than the depth are left
 pub record Following (ws ranks : List ℕ) (owners : List Bool) (from b d : ℕ) (m : List Bool) : Type 0 where
@@ -30,10 +30,9 @@ pub record Searching (ws ranks : List ℕ) (from d : ℕ) (m : List Bool) : Type
   pub fresh : marked m from ≡ false
   pub deep : unmarked (seen ws .blocked) m ≤ d
 
--- the blocked lock a is to be tried: it is not among the cleared locks, and the depth is the count of blocked locks
+-- the blocked lock a is to be tried, and no more blocked locks than the depth are not cleared
 pub record Trying (ws ranks : List ℕ) (a d : ℕ) (m : List Bool) : Type 0 where
   pub ranked : Ranked ws ranks
   pub stands : Blocked ws a
   pub cleared : Cleared (leads (seen ws)) (seen ws .blocked) m
-  pub fresh : marked m a ≡ false
-  pub deep : d ≡ length (seen ws .blocked)
+  pub deep : unmarked (seen ws .blocked) m ≤ d

@@ -1,8 +1,10 @@
 // Breaking deadlocks: the first blocked lock that leads back to itself, found in the lent words.
+use blocking::LOCK_PLACES;
+use blocking::OWNER_PLACES;
+use blocking::in_way;
+use blocking::owner_of;
+use clearing::clear_all;
 use fields::BLOCKED;
-use fields::LOCK_ASKED;
-use fields::LOCK_CLIENT;
-use fields::LOCK_HELD;
 use fields::LOCK_NEXT;
 use fields::LOCK_NEXT_BLOCKED;
 use fields::LOCK_RESOURCE;
@@ -15,7 +17,6 @@ use fields::lock_word;
 use fields::resource_count;
 use fields::resource_word;
 use fields::wide;
-use modes::goes_with;
 ghost use mathlib.Core.Path.{_≡_};
 ghost use Prim.Native.Nat.{_+_, _≤_};
 ghost use lib.Dec.{eqb};
@@ -25,37 +26,13 @@ ghost use Rattle.tables.specs.Layout.{«resources-in», «locks-in»};
 ghost use Rattle.tables.proofs.Valid.{Core, line};
 ghost use Rattle.rules.specs.Deadlock.{ahead, leads, deadlocked, victim};
 ghost use Rattle.access.specs.Contracts.{Some, Tells};
-ghost use Rattle.deadlock.specs.Contracts.{seen, At, Blocked};
-ghost use Rattle.deadlock.specs.Chained.{onward, Walking};
+ghost use Rattle.blocking.specs.Contracts.{seen, At, Blocked};
+ghost use Rattle.blocking.specs.Chained.{onward, Walking};
 ghost use Rattle.deadlock.specs.Ranks.{number, Unranked, Numbered, Ranked};
-ghost use Rattle.deadlock.specs.Owners.{«in-way», note, «note-all», Owned, Unbarred, Barred};
+ghost use Rattle.deadlock.specs.Barring.{note, «note-all», Unbarred, Barred};
 ghost use Rattle.deadlock.specs.Marking.{Followed, Searched};
 ghost use Rattle.deadlock.specs.Searches.{Following, Searching, Trying};
-
-// A place for each lock number, up to 1,024.
-const LOCK_PLACES: usize = 1025;
-
-// A place for each owner: clients are 1 to 255.
-const OWNER_PLACES: usize = 256;
-
-// Who has lock k. A lock leads to those of the owners that are in its way.
-fn owner_of(words: &[u32], k: u32) -> usize
-    requires { ⌜ At (now words) k ⌝ }
-    ensures { λ r. ⌜ Owned (now (words .entry)) k r ⌝ }
-{
-    wide(lock_word(words, k, LOCK_CLIENT))
-}
-
-// Whether the mode that j holds is incompatible with the mode that a, another lock, asks for.
-fn in_way(words: &[u32], a: u32, j: u32) -> bool
-    requires { ⌜ At (now words) a ⌝ }
-    requires { ⌜ At (now words) j ⌝ }
-    ensures { λ r. ⌜ r ≡ in-way (seen (now (words .entry))) a j ⌝ }
-{
-    let held = lock_word(words, j, LOCK_HELD);
-    let asked = lock_word(words, a, LOCK_ASKED);
-    (j != a) & !goes_with(held, asked)
-}
+ghost use Rattle.clearing.specs.Clearing.{Left};
 
 // The owner of j is written down, if j is in a's way.
 fn note_owner(words: &[u32], a: u32, j: u32, owners: &mut [bool])
@@ -224,42 +201,32 @@ fn search(
     false
 }
 
-// How many locks are blocked.
-fn count_blocked(words: &[u32]) -> u32
-    requires { ⌜ Some Core (now words) ⌝ }
-    ensures { λ r. ⌜ r ≡ length (seen (now (words .entry)) .blocked) ⌝ }
-{
-    let mut n = 0;
-    let mut k = header_word(words, BLOCKED);
-    while k != 0 {
-        n += 1;
-        k = lock_word(words, k, LOCK_NEXT_BLOCKED);
-    }
-    n
-}
-
 // Whether the blocked lock a leads back to itself. No cycle passes a cleared lock, so these have their marks from the start.
 fn on_cycle(words: &[u32], ranks: &[u32], a: u32, depth: u32, cleared: [bool; LOCK_PLACES]) -> bool
     requires { ⌜ Trying (now words) (now ranks) a depth cleared ⌝ }
     ensures { λ r. ⌜ r ≡ deadlocked (seen (now (words .entry))) a ⌝ }
 {
+    if cleared[a as usize] {
+        return false;
+    }
     let mut marks = cleared;
     search(words, ranks, a, a, depth, &mut marks)
 }
 
 // The first lock on the blocked chain that leads back to itself, or 0. A lock that does not is cleared: no later search
-// enters it. A search is never deeper than the count of blocked locks.
-fn first_on_cycle(words: &[u32], ranks: &[u32]) -> u32
+// enters it. A search is never deeper than the count of blocked locks that were left.
+fn first_on_cycle(words: &[u32], left: u32, cleared: [bool; LOCK_PLACES]) -> u32
     requires { ⌜ Some Core (now words) ⌝ }
-    requires { ⌜ Ranked (now words) (now ranks) ⌝ }
+    requires { ⌜ Left (now words) cleared left ⌝ }
     ensures { λ r. ⌜ r ≡ victim (seen (now (words .entry))) ⌝ }
 {
-    let depth = count_blocked(words);
-    let mut cleared = [false; LOCK_PLACES];
+    let mut ranks = [0; LOCK_PLACES];
+    rank_lines(words, &mut ranks);
+    let mut cleared = cleared;
     let mut k = header_word(words, BLOCKED);
     while k != 0 {
         let next = lock_word(words, k, LOCK_NEXT_BLOCKED);
-        if on_cycle(words, ranks, k, depth, cleared) {
+        if on_cycle(words, &ranks, k, left, cleared) {
             return k;
         }
         cleared[k as usize] = true;
@@ -268,12 +235,15 @@ fn first_on_cycle(words: &[u32], ranks: &[u32]) -> u32
     0
 }
 
-// The lock that is denied to break a deadlock, or 0 if there is none.
+// The lock that is denied to break a deadlock, or 0 if there is none. Where there is none all are cleared, without a search.
 pub fn victim(words: &[u32]) -> u32
     requires { ⌜ Some Core (now words) ⌝ }
     ensures { λ r. ⌜ Tells Core victim (now (words .entry)) r ⌝ }
 {
-    let mut ranks = [0; LOCK_PLACES];
-    rank_lines(words, &mut ranks);
-    first_on_cycle(words, &ranks)
+    let mut cleared = [false; LOCK_PLACES];
+    let left = clear_all(words, &mut cleared);
+    if left == 0 {
+        return 0;
+    }
+    first_on_cycle(words, left, cleared)
 }

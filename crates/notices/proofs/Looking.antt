@@ -22,9 +22,8 @@ use Rattle.tables.proofs.Valid.{Core}
 use Rattle.tables.proofs.Standing.{on-chain}
 use Rattle.tables.proofs.Threading.{core-threaded}
 use Rattle.access.specs.Contracts.{Some, Tells}
-use Rattle.deadlock.specs.Chained.{onward, Runs, stop, on, Walking}
-use Rattle.deadlock.proofs.Onward.{some-sized, walk-splits, walk-ends}
-use Rattle.deadlock.proofs.Noting.{walk-sized, walk-low, walk-high, walk-less, walk-on}
+use Rattle.blocking.specs.Chained.{onward, Runs, stop, on, Walking}
+use Rattle.blocking.proofs.Onward.{some-sized, walk-splits, walk-ends, walk-sized, walk-low, walk-high, walk-less, walk-on}
 use Rattle.releases.proofs.Locks.{lock-is}
 use Rattle.notices.specs.Contracts.{first-notice}
 

@@ -4,8 +4,8 @@ use native.Mathlib.Omega.{arith}
 use borrow.Author.Needs.{needs}
 use Rattle.tables.specs.Layout.{locks-in}
 use Rattle.rules.specs.Deadlock.{leads}
-use Rattle.deadlock.specs.Contracts.{seen}
-use Rattle.deadlock.proofs.Marks.{Loop, loop-again, loop-found}
+use Rattle.blocking.specs.Contracts.{seen}
+use Rattle.deadlock.proofs.Marking.{Loop, loop-again, loop-found}
 use Rattle.deadlock.proofs.Stepping.{follow-blocked, follow-place, follow-depth, follow-none, follow-hit, follow-seen, follow-deeper, follow-searches, search-sized, search-blocked, search-deep, search-place, search-starts, search-follows, search-fits, search-done, search-size, turn-size, none-barred}
 use borrow.Fn.Kinds.{In}
 use borrow.Fn.PlainCycle.{Measures, is, falls, and}

@@ -1,4 +1,5 @@
-use Rattle.deadlock.proofs.Noting.{blocked-stands, bar-grants, bar-converts, bar-laws}
+use Rattle.blocking.proofs.Reading.{blocked-stands, bar-grants, bar-converts}
+use Rattle.deadlock.proofs.Noting.{bar-laws}
 use borrow.Author.Needs.{needs}
 use Rattle.deadlock.proofs.bar_owners.Statement.{statement}
 use Rattle.deadlock.proofs.bar_owners.Tie as tie

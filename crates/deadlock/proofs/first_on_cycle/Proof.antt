@@ -1,17 +1,20 @@
 use Rattle.deadlock.proofs.Answering.{seek-laws, Seeking}
-use Rattle.deadlock.specs.Chained.{onward}
+use Rattle.blocking.specs.Chained.{onward}
 use lib.ListN.{length}
 use Rattle.deadlock.proofs.first_on_cycle.Statement.{statement}
 use Rattle.deadlock.proofs.first_on_cycle.Tie as tie
 
 abbrev Inv-loop : tie.InvT-loop
-Inv-loop words ranks depth cleared₀ k₀ cleared k = Seeking words ranks depth k cleared
+Inv-loop words left ranks cleared₀ k₀ cleared k = Seeking words ranks left k cleared
 
 abbrev μ-loop : tie.MeasureT-loop
-μ-loop words ranks depth cleared₀ k₀ cleared k = length (onward words 1 k)
+μ-loop words left ranks cleared₀ k₀ cleared k = length (onward words 1 k)
 
-count-blocked-requires : tie.Need-count-blocked-requires Inv-loop μ-loop
-count-blocked-requires c κs = search seek-laws
+slice-aggregate-rank-lines : tie.Need-slice-aggregate-rank-lines Inv-loop μ-loop
+slice-aggregate-rank-lines c = search seek-laws
+
+rank-lines-requires : tie.Need-rank-lines-requires Inv-loop μ-loop
+rank-lines-requires c κs = search seek-laws
 
 header-word-requires : tie.Need-header-word-requires Inv-loop μ-loop
 header-word-requires c κs = search seek-laws
@@ -21,6 +24,9 @@ loop-holds c = search seek-laws
 
 lock-word-requires : tie.Need-lock-word-requires Inv-loop μ-loop
 lock-word-requires c κs = search seek-laws
+
+slice-aggregate-on-cycle : tie.Need-slice-aggregate-on-cycle Inv-loop μ-loop
+slice-aggregate-on-cycle c = search seek-laws
 
 on-cycle-requires : tie.Need-on-cycle-requires Inv-loop μ-loop
 on-cycle-requires c κs = search seek-laws
@@ -49,10 +55,12 @@ first-on-cycle-spec =
     (tie.spec
     Inv-loop
     μ-loop
-    count-blocked-requires
+    slice-aggregate-rank-lines
+    rank-lines-requires
     header-word-requires
     loop-holds
     lock-word-requires
+    slice-aggregate-on-cycle
     on-cycle-requires
     returns
     cast-cleared

@@ -1,5 +1,5 @@
 use Rattle.deadlock.proofs.Noting.{note-laws, Noting}
-use Rattle.deadlock.specs.Chained.{onward}
+use Rattle.blocking.specs.Chained.{onward}
 use lib.ListN.{length}
 use Rattle.deadlock.proofs.note_owners.Statement.{statement}
 use Rattle.deadlock.proofs.note_owners.Tie as tie

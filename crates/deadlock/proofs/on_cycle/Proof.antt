@@ -1,16 +1,22 @@
 use Rattle.deadlock.proofs.Answering.{cycle-laws}
-use borrow.Author.Needs.{needs}
 use Rattle.deadlock.proofs.on_cycle.Statement.{statement}
 use Rattle.deadlock.proofs.on_cycle.Tie as tie
 
-slice-aggregate-search : tie.Need-slice-aggregate-search
-slice-aggregate-search c = search needs
-
-search-requires : tie.Need-search-requires
-search-requires c κs = search cycle-laws
+array-read-if1 : tie.Need-array-read-if1
+array-read-if1 c = search cycle-laws
 
 returns : tie.Need-returns
 returns c = search cycle-laws
 
+slice-aggregate-search : tie.Need-slice-aggregate-search
+slice-aggregate-search c = search cycle-laws
+
+search-requires : tie.Need-search-requires
+search-requires c κs = search cycle-laws
+
+returns-2 : tie.Need-returns-2
+returns-2 c = search cycle-laws
+
 pub on-cycle-spec : {M : Type 1} → statement M
-on-cycle-spec = tie.close (tie.spec slice-aggregate-search search-requires returns)
+on-cycle-spec =
+    tie.close (tie.spec array-read-if1 returns slice-aggregate-search search-requires returns-2)

@@ -1,5 +1,5 @@
 use Rattle.deadlock.proofs.Lines.{chain-laws, Numbering}
-use Rattle.deadlock.specs.Chained.{onward}
+use Rattle.blocking.specs.Chained.{onward}
 use lib.ListN.{length}
 use Rattle.deadlock.proofs.rank_chain.Statement.{statement}
 use Rattle.deadlock.proofs.rank_chain.Tie as tie

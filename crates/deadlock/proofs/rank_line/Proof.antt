@@ -1,4 +1,5 @@
-use Rattle.deadlock.proofs.Lines.{line-converts, line-waits, line-last, line-done, line-laws}
+use Rattle.blocking.proofs.Onward.{line-converts, line-waits}
+use Rattle.deadlock.proofs.Lines.{line-last, line-done, line-laws}
 use native.Mathlib.Omega.{arith}
 use borrow.Author.Needs.{needs}
 use Rattle.deadlock.proofs.rank_line.Statement.{statement}

@@ -1,5 +1,5 @@
 use lib.ListN.{length}
-use Rattle.deadlock.specs.Chained.{onward}
+use Rattle.blocking.specs.Chained.{onward}
 use Rattle.notices.proofs.Looking.{Looks, looks-on, look-laws}
 use Rattle.notices.proofs.first_notice.Statement.{statement}
 use Rattle.notices.proofs.first_notice.Tie as tie

@@ -19,7 +19,7 @@ use Rattle.tables.proofs.Threading.{core-threaded}
 use Rattle.tables.proofs.Valid.{Core, absent}
 use Rattle.rules.specs.Walks.{reaches}
 use Rattle.rules.specs.Deadlock.{ahead, obstacles, leads, deadlocked, victim}
-use Rattle.deadlock.specs.Contracts.{seen}
+use Rattle.blocking.specs.Contracts.{seen}
 
 -- u has the locks of t, and their chains
 pub record Alike (t u : Tables) : Type 0 where

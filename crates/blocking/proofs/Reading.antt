@@ -1,4 +1,4 @@
--- What the words say of a lock.
+-- What the words say of a lock, and what a read of them asks for.
 use mathlib.Core.Path.{_≡_, sym, ap, _∙_}
 use mathlib.Core.Bool.{Bool, true, not, _&&_}
 use mathlib.Core.List.{List}
@@ -7,21 +7,25 @@ use native.Mathlib.Omega.{arith}
 use lib.ListN.{length}
 use lib.Dec.{eqb}
 use borrow.Author.Tests.{eqb-true}
+use borrow.Author.Needs.{needs}
 use Rattle.modes.specs.Modes.{compatible}
 use Rattle.tables.specs.Lists.{within, count}
 use Rattle.tables.specs.declared.Lock.{Lock}
-use Rattle.tables.specs.State.{Tables, lock, converting, blocked-lock, blocked}
-use Rattle.tables.specs.Layout.{of-lock, resources-in, locks-in, word-in, read-lock}
+use Rattle.tables.specs.State.{Tables, lock, converting, blocked-lock, blocked, grants, converts}
+use Rattle.tables.specs.Layout.{of-lock, resources-in, locks-in, word-in, read-lock, of-resource}
 use Rattle.tables.proofs.Cases.{by-cases}
 use Rattle.tables.proofs.Counts.{within-le}
 use Rattle.tables.proofs.Read.{resources-word, locks-word, lock-read}
 use Rattle.tables.proofs.Valid.{used, StateOk, ok-at, Core, used-within}
 use Rattle.tables.proofs.Standing.{state-within, on-chain, chain-has}
 use Rattle.rules.specs.Deadlock.{owner}
+use Rattle.fields.specs.Sizes.{Sized}
 use Rattle.access.specs.Contracts.{Some}
-use Rattle.deadlock.specs.Contracts.{seen, At, Blocked}
-use Rattle.deadlock.specs.Owners.{in-way, Owned}
-use Rattle.deadlock.proofs.Alike.{Alike, alike}
+use Rattle.blocking.specs.Contracts.{seen, At, Blocked}
+use Rattle.blocking.specs.Owners.{in-way, Owned}
+use Rattle.blocking.specs.Chained.{Walking}
+use Rattle.blocking.proofs.Alike.{Alike, alike}
+use Rattle.blocking.proofs.Onward.{some-sized, queue-walks}
 
 -- the state that the words tell is like that whose words they are
 pub some-alike : (ws : List ℕ) (s : Some Core ws) → Alike (s .state) (seen ws)
@@ -69,10 +73,10 @@ module _ (ws : List ℕ) (s : Some Core ws) (k : ℕ) where
   pub client-few : lock (seen ws) k .client < 256
   client-few = rw same-lock (client-in (used t) (lock t k) (lock t k .state) (s .good .lock-ok k))
 
-  held-few : lock (seen ws) k .held < 6
+  pub held-few : lock (seen ws) k .held < 6
   held-few = rw same-lock (held-in (used t) (lock t k) (lock t k .state) (s .good .lock-ok k))
 
-  asked-few : lock (seen ws) k .asked < 6
+  pub asked-few : lock (seen ws) k .asked < 6
   asked-few = rw same-lock (asked-in (used t) (lock t k) (lock t k .state) (s .good .lock-ok k))
 
 -- the words of the lock k
@@ -92,11 +96,11 @@ module _ (ws : List ℕ) (k : ℕ) (a : At ws k) where
   unfolding read-lock
   client-told = ap (λ (l : Lock). l .client) lock-seen
 
-  held-told : word-in ws (of-lock k 6) ≡ lock (seen ws) k .held
+  pub held-told : word-in ws (of-lock k 6) ≡ lock (seen ws) k .held
   unfolding read-lock
   held-told = ap (λ (l : Lock). l .held) lock-seen
 
-  asked-told : word-in ws (of-lock k 7) ≡ lock (seen ws) k .asked
+  pub asked-told : word-in ws (of-lock k 7) ≡ lock (seen ws) k .asked
   unfolding read-lock
   asked-told = ap (λ (l : Lock). l .asked) lock-seen
 
@@ -160,3 +164,38 @@ module _ (ws : List ℕ) (k : ℕ) where
 
   pub blocked-resource : (x : ℕ) → Blocked ws k → x ≡ word-in ws (of-lock k 3) → (1 ≤ x) × (x ≤ resources-in ws)
   blocked-resource x b e = rw (e ∙ resource-told ws k (blocked-at b)) (blocked-home b)
+
+-- ---- what a read of a word asks for
+
+pub at-sized : {ws : List ℕ} {k : ℕ} → At ws k → Sized ws
+at-sized a = some-sized (a .some)
+
+pub owner-place : {ws : List ℕ} {k x : ℕ} (o : List Bool) → Owned ws k x → length o ≡ 256 → x < length o
+owner-place o w e = omega (arith, w .few)
+
+pub blocked-sized : {ws : List ℕ} {a : ℕ} → Blocked ws a → Sized ws
+blocked-sized b = some-sized (b .some)
+
+pub blocked-stands : {ws : List ℕ} {a : ℕ} → Blocked ws a → At ws a
+blocked-stands {ws} {a} b = blocked-at ws a b
+
+pub blocked-low : {ws : List ℕ} {a : ℕ} → Blocked ws a → 1 ≤ a
+blocked-low {ws} {a} b = blocked-at ws a b .low
+
+pub blocked-high : {ws : List ℕ} {a : ℕ} → Blocked ws a → a ≤ locks-in ws
+blocked-high {ws} {a} b = blocked-at ws a b .high
+
+module _ {ws : List ℕ} {a r : ℕ} (b : Blocked ws a) (e : r ≡ word-in ws (of-lock a 3)) where
+  pub bar-low : 1 ≤ r
+  bar-low = blocked-resource ws a r b e .0
+
+  pub bar-high : r ≤ resources-in ws
+  bar-high = blocked-resource ws a r b e .1
+
+  pub bar-grants : {g : ℕ} → g ≡ word-in ws (of-resource r 1) → Walking ws 0 g
+  bar-grants h = rw h (queue-walks ws (b .some) r grants bar-low bar-high)
+
+  pub bar-converts : {g : ℕ} → g ≡ word-in ws (of-resource r 2) → Walking ws 0 g
+  bar-converts h = rw h (queue-walks ws (b .some) r converts bar-low bar-high)
+
+pub ruleset read-laws = (needs, at-sized, owner-known, held-mode, asked-mode, way-known)

@@ -1,7 +1,7 @@
-use Rattle.deadlock.proofs.Noting.{read-laws}
+use Rattle.blocking.proofs.Reading.{read-laws}
 use borrow.Author.Needs.{needs}
-use Rattle.deadlock.proofs.owner_of.Statement.{statement}
-use Rattle.deadlock.proofs.owner_of.Tie as tie
+use Rattle.blocking.proofs.owner_of.Statement.{statement}
+use Rattle.blocking.proofs.owner_of.Tie as tie
 
 lock-word-requires : tie.Need-lock-word-requires
 lock-word-requires c κs = search read-laws

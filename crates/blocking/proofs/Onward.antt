@@ -18,9 +18,9 @@ use Rattle.tables.proofs.Standing.{on-chain}
 use Rattle.tables.proofs.Threading.{core-threaded}
 use Rattle.fields.specs.Sizes.{Sized}
 use Rattle.access.specs.Contracts.{Some}
-use Rattle.deadlock.specs.Contracts.{seen, At}
-use Rattle.deadlock.specs.Chained.{onward, Runs, stop, on, Walking}
-use Rattle.deadlock.proofs.Alike.{alike}
+use Rattle.blocking.specs.Contracts.{seen, At}
+use Rattle.blocking.specs.Chained.{onward, Runs, stop, on, Walking}
+use Rattle.blocking.proofs.Alike.{alike}
 
 -- the words of a state are as long as they say
 sized-words : (t : Tables) → Core t → Sized (words t)
@@ -86,6 +86,27 @@ module _ (ws : List ℕ) (f : ℕ) where
   pub walk-ends : onward ws f 0 ≡ []
   walk-ends = runs-onward 0 [] stop (omega arith)
 
+-- what a turn asks for, and where it leads
+module _ {ws : List ℕ} {f k : ℕ} where
+  pub walk-sized : Walking ws f k → Sized ws
+  walk-sized w = some-sized (w .some)
+
+  pub walk-low : Walking ws f k → k ≢ 0 → 1 ≤ k
+  walk-low w n = walk-at ws f k w n .low
+
+  pub walk-high : Walking ws f k → k ≢ 0 → k ≤ locks-in ws
+  walk-high w n = walk-at ws f k w n .high
+
+  pub walk-stands : Walking ws f k → k ≢ 0 → At ws k
+  walk-stands w n = walk-at ws f k w n
+
+  -- a turn is one lock nearer to the end
+  pub walk-less : (x : ℕ) → Walking ws f k → k ≢ 0 → x ≡ word-in ws (of-lock k f) → length (onward ws f x) < length (onward ws f k)
+  walk-less x w n e = rw e (omega (arith, ap length (walk-splits ws f k w n)))
+
+  pub walk-on : {x : ℕ} → Walking ws f k → k ≢ 0 → x ≡ word-in ws (of-lock k f) → Walking ws f x
+  walk-on w n e = rw e (walk-goes ws f k w n)
+
 -- where a chain begins
 leads-runs : (ws : List ℕ) (f : ℕ) (g : ℕ → ℕ) (y : ℕ) (xs : List ℕ) → Leads g y xs
     → ((j : ℕ) → 1 ≤ count j xs → (1 ≤ j) × (j ≤ locks-in ws) × (word-in ws (of-lock j f) ≡ g j)) → Runs ws f (g y) xs
@@ -147,3 +168,11 @@ module _ (ws : List ℕ) (s : Some Core ws) (r : ℕ) (q : Queue) (low : 1 ≤ r
   queue-onward =
       rw (s .is)
       (chain-onward (s .state) (s .good) (queue r q) 0 (λ k. refl) present ∙ sym (alike (s .state) (s .good) (words (s .state)) refl .queues q r))
+
+-- the line of a resource: its convert chain, then its wait chain
+module _ {ws : List ℕ} {r x : ℕ} (s : Some Core ws) (there : (1 ≤ r) × (r ≤ resources-in ws)) where
+  pub line-converts : x ≡ word-in ws (of-resource r 2) → Walking ws 0 x
+  line-converts e = rw e (queue-walks ws s r converts (there .0) (there .1))
+
+  pub line-waits : x ≡ word-in ws (of-resource r 3) → Walking ws 0 x
+  line-waits e = rw e (queue-walks ws s r waits (there .0) (there .1))

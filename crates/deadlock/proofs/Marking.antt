@@ -5,41 +5,20 @@ use mathlib.Core.Bool.{Bool, true, false}
 use mathlib.Core.List.{List, [], _∷_}
 use Prim.Native.Nat.{ℕ, _+_, _<_, _≤_}
 use native.Mathlib.Omega.{arith}
-use borrow.Author.Count.{below-more}
 use lib.ListN.{length, set, length-set}
-use lib.Seq.{getD-set-same, getD-set-other}
+use borrow.Author.Count.{below-more}
 use Rattle.tables.specs.Lists.{count}
 use Rattle.tables.proofs.Cases.{by-cases, by-equal, clash}
 use Rattle.tables.proofs.Counts.{count-nil, count-other}
 use Rattle.rules.specs.Walks.{reaches, Walk, step, through}
 use Rattle.rules.proofs.Walks.{search-complete}
-use Rattle.deadlock.specs.Marking.{marked, unmarked, Cleared, Passed, Tried, Grown, Ready, Followed, Searched}
-
--- ---- one mark
-
-mark-same : (m : List Bool) (x : ℕ) → x < length m → marked (set m x true) x ≡ true
-unfolding marked
-mark-same m x l = getD-set-same m x true false l
-
-pub mark-other : (m : List Bool) (x y : ℕ) → y ≢ x → marked (set m x true) y ≡ marked m y
-unfolding marked
-mark-other m x y h = getD-set-other m x y true false h
-
--- the marks m are among the marks m′
-abbrev pub Keeping : List Bool → List Bool → Type 0
-Keeping m m′ = (x : ℕ) → marked m x ≡ true → marked m′ x ≡ true
-
-mark-kept : (m : List Bool) (x : ℕ) → x < length m → Keeping m (set m x true)
-mark-kept m x l y h = by-equal y x (λ e. rw e (mark-same m x l)) (λ e. mark-other m x y e ∙ h)
+use Rattle.blocking.specs.Marks.{marked, unmarked, Cleared}
+use Rattle.blocking.proofs.Marks.{mark-same, mark-other, Keeping, mark-kept, join}
+use Rattle.deadlock.specs.Marking.{Passed, Tried, Grown, Ready, Followed, Searched}
 
 -- ---- how many are left
 
-pub unmarked-le : (xs : List ℕ) (m : List Bool) → unmarked xs m ≤ length xs
-unfolding unmarked
-unmarked-le [] m = omega arith
-unmarked-le (x ∷ xs) m = by-cases (marked m x) (λ h. rw h (omega (arith, unmarked-le xs m))) (λ h. rw h (omega (arith, unmarked-le xs m)))
-
-unmarked-mono : (xs : List ℕ) (m m′ : List Bool) → Keeping m m′ → unmarked xs m′ ≤ unmarked xs m
+pub unmarked-mono : (xs : List ℕ) (m m′ : List Bool) → Keeping m m′ → unmarked xs m′ ≤ unmarked xs m
 unfolding unmarked
 unmarked-mono [] m m′ k = omega arith
 unmarked-mono (x ∷ xs) m m′ k =
@@ -171,18 +150,6 @@ module _ {leads : ℕ → ℕ → Bool} {t : ℕ} where
 -- ---- the whole search: what it entered is closed, so that a walk leaves it only by a cleared node
 
 module _ {leads : ℕ → ℕ → Bool} {nodes : List ℕ} where
-  join : (a c b : ℕ) → 1 ≤ count c nodes → Walk leads nodes a c → Walk leads nodes c b → Walk leads nodes a b
-  join a c b k (step _ _ e) w = through a c b k e w
-  join a c b k (through _ d _ l e v) w = through a d b l e (join d c b k v w)
-
-  -- one more node is cleared
-  pub clear-more : (m : List Bool) (x : ℕ) → Cleared leads nodes m → (Walk leads nodes x x → ⊥) → Cleared leads nodes (set m x true)
-  clear-more m x c h =
-      record {
-        wide = length-set m x true ∙ c .wide;
-        none = λ y k w. by-equal y x (λ e. h (rw e at w)) (λ o. c .none y (sym (mark-other m x y o) ∙ k) w);
-      }
-
   module _ (n a : ℕ) (below : (y : ℕ) → 1 ≤ count y nodes → y < n) (stands : 1 ≤ count a nodes) (m m′ : List Bool) (clear : Cleared leads nodes m) (g : Grown leads n a m m′) where
     -- a walk from a back to a passes no cleared node, which it would lead back to itself
     no-walk : (c : ℕ) → 1 ≤ count c nodes → marked m′ c ≡ true → Walk leads nodes a c → Walk leads nodes c a → ⊥

@@ -1,7 +1,6 @@
-use Rattle.deadlock.proofs.Noting.{read-laws}
-use Rattle.deadlock.proofs.Reading.{way-known}
-use Rattle.deadlock.proofs.in_way.Statement.{statement}
-use Rattle.deadlock.proofs.in_way.Tie as tie
+use Rattle.blocking.proofs.Reading.{read-laws, way-known}
+use Rattle.blocking.proofs.in_way.Statement.{statement}
+use Rattle.blocking.proofs.in_way.Tie as tie
 
 lock-word-requires : tie.Need-lock-word-requires
 lock-word-requires c κs = search read-laws

@@ -1,0 +1,4 @@
+pub mod Contracts
+pub mod Chained
+pub mod Owners
+pub mod Marks
