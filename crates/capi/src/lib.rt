@@ -169,5 +169,5 @@ pub extern "C" fn zamgyorud_sound(words: &[u32], slots: &[u8]) -> u32
 pub extern "C" fn zamgyorud_holder(image: &[u8], name: &[u8]) -> u32
     ensures { λ r. ⌜ r ≡ holder-entry (now (image .entry)) (now (name .entry)) ⌝ }
 {
-    image::holder(image, name)
+    takeover::holder(image, name)
 }

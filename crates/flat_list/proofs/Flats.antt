@@ -5,10 +5,11 @@ use Prim.Native.Nat.{ℕ, zero, suc, _+_, _*_, _/_, _<_, _≤_}
 use native.Mathlib.Omega.{arith}
 use native.Mathlib.Numerals.{add-one, add-two, add-three, add-four}
 use borrow.Author.Needs.{needs}
+use borrow.Author.Tests.{lt-leb, le-leb}
 use lib.ListN.{set, length, take, drop, length-append, length-drop}
 use lib.Seq.{sets-eq}
 use Rattle.tables.specs.declared.LockEntry.{LockEntry}
-use Rattle.flat_list.specs.Flat.{entry-words, flat, entries-of, entries-in, with-entries, with-entry}
+use Rattle.flat_list.specs.Flat.{entry-words, flat, entries-of, entries-in, with-entries, with-entry, with-fitting}
 
 -- put_entry
 pub entry-put : (a : List ℕ) (i : ℕ) (e : LockEntry) → i + 5 ≤ length a
@@ -18,6 +19,17 @@ entry-put a i e h =
     rw (add-one i, add-two i, add-three i, add-four i) (sets-eq (entry-words e) a i h ∙ append-assoc (take i a) (entry-words e) (drop (i + 5) a))
 
 pub ruleset put-laws = (needs, entry-put)
+
+-- put_if_room
+pub room-none : (a : List ℕ) (i : ℕ) (e : LockEntry) → length a < 5 * i + 5 → a ≡ with-fitting i e a
+unfolding with-fitting
+room-none a i e h = rw (lt-leb (5 * i + 5) (length a) h)
+
+pub room-put : (a b : List ℕ) (i : ℕ) (e : LockEntry) → 5 * i + 5 ≤ length a → b ≡ with-entry (5 * i) e a → b ≡ with-fitting i e a
+unfolding with-fitting
+room-put a b i e h put = rw (le-leb (5 * i + 5) (length a) h) put
+
+pub ruleset room-laws = (needs, room-none, room-put)
 
 -- the entries of an area are as many as fit, and written back they are the area
 pub length-entries : (n : ℕ) (ws : List ℕ) → length (entries-of n ws) ≡ n

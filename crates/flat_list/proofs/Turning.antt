@@ -1,111 +1,132 @@
 -- list_flat, lock by lock: what stands in the area after each, and at the end.
 use mathlib.Core.Path.{_≡_, refl, sym, ap, _∙_}
-use mathlib.Core.List.{List}
-use Prim.Native.Nat.{ℕ, _+_, _*_, _/_, _<_, _≤_}
+use mathlib.Core.List.{List, [], _∷_}
+use Prim.Native.Nat.{ℕ, zero, suc, _+_, _-_, _*_, _/_, _<_, _≤_, _^_}
 use native.Mathlib.Omega.{arith}
 use native.Mathlib.Numerals.{add-one}
 use borrow.Author.Needs.{needs}
+use borrow.Author.Tests.{leb-true, leb-false}
 use lib.ListN.{getD, set, length, take, drop}
+use lib.Seq.{take-all}
+use lib.Dec.{leb}
 use Rattle.tables.specs.declared.LockEntry.{LockEntry}
 use Rattle.tables.specs.State.{Tables}
-use Rattle.tables.specs.Layout.{words}
+use Rattle.tables.specs.Layout.{words, locks-in}
+use Rattle.tables.proofs.Cases.{by-cases}
 use Rattle.rules.specs.Entries.{listed, fill}
 use Rattle.access.specs.Contracts.{Some, Tells, Resourced}
-use Rattle.walker.specs.Order.{locks-on, first-on, count-on, Queued, following}
+use Rattle.walker.specs.Order.{locks-on, first-on, Queued, following}
+use Rattle.walker.proofs.Rows.{at-inside}
+use Rattle.walker.proofs.Telling.{Reached, count-starts, count-ends, count-queued, count-small, count-less, count-next}
 use Rattle.listing.specs.Listings.{entry-of, fitting}
-use Rattle.listing.proofs.Filling.{length-fill, fill-none, fill-next, fitting-low, length-listed, fill-first, fill-count, fill-queued, fill-follows, fill-entry, fill-ends}
-use Rattle.flat_list.specs.Flat.{entries-in, with-entries, with-entry, Flattened}
+use Rattle.listing.proofs.Filling.{length-fill, fill-none, fill-next, fill-fitting, length-listed, fill-count, fill-entry, fill-ends}
+use Rattle.flat_list.specs.Flat.{entries-in, with-entries, with-entry, with-fitting, Flattened}
 use Rattle.flat_list.proofs.Flats.{length-entries, entries-back, entry-among, length-with}
 
--- i of the locks are listed in the area, of the `shown` that are to be; k is the next
-pub record Listing (r : ℕ) (ws lent area : List ℕ) (shown k i : ℕ) : Type 0 where
+-- a full list stays as it is
+fill-full : (xs ys : List LockEntry) (i : ℕ) → length ys ≤ i → fill (take i xs) ys ≡ fill xs ys
+unfolding fill
+fill-full [] ys zero h = refl
+fill-full [] ys (suc i) h = refl
+fill-full (x ∷ xs) [] zero h = refl
+fill-full (x ∷ xs) [] (suc i) h = refl
+fill-full (x ∷ xs) (y ∷ ys) zero h = absurd (omega arith)
+fill-full (x ∷ xs) (y ∷ ys) (suc i) h = ap (λ (l : List LockEntry). x ∷ l) (fill-full xs ys i (omega arith))
+
+-- k is the lock at the place i on r, and the locks before it are listed in the area, as many as fit
+pub record Listing (r : ℕ) (ws lent area : List ℕ) (k i : ℕ) : Type 0 where
   pub state : Tables
   pub good : Resourced r state
   pub is : ws ≡ words state
-  pub most : shown ≡ fitting (length (locks-on r state)) (length lent / 5)
-  pub so-far : i ≤ shown
-  pub lock : k ≡ getD (locks-on r state) i 0
+  pub reached : Reached ws r i k
   pub holds : area ≡ with-entries (fill (take i (listed state r)) (entries-in lent)) lent
-  pub room : 5 * shown ≤ length lent
-  pub size : length area ≡ length lent
 
 module _ (r : ℕ) (ws lent : List ℕ) where
-  room-in : (n m : ℕ) → m ≡ fitting n (length lent / 5) → 5 * m ≤ length lent
-  room-in n m e = let low = fitting-low n (length lent / 5) in rw e (omega arith)
-
-  -- filled, the area has its length
-  size-in : (es : List LockEntry) → length (with-entries (fill es (entries-in lent)) lent) ≡ length lent
-  size-in es = length-with (fill es (entries-in lent)) lent (length-fill es (entries-in lent) ∙ length-entries (length lent / 5) lent)
-
-  pub list-starts : (n m k : ℕ) → Some (Resourced r) ws → Tells (Resourced r) (count-on r) ws n → m ≡ fitting n (length lent / 5) → Tells (Resourced r) (first-on r) ws k → Listing r ws lent lent m k 0
-  list-starts n m k s counts em firsts =
-      let t : Tables = s .state in
-      let en : n ≡ length (locks-on r t) = fill-count r t (s .good) ws (s .is) n counts in
-      let start : lent ≡ with-entries (fill (take 0 (listed t r)) (entries-in lent)) lent =
-      entries-back lent ∙ ap (λ (es : List LockEntry). with-entries es lent) (fill-none (listed t r) (entries-in lent)) in
+  pub list-starts : (k : ℕ) → Some (Resourced r) ws → Tells (Resourced r) (first-on r) ws k → Listing r ws lent lent k 0
+  list-starts k s firsts =
       record {
-        state = t;
+        state = s .state;
         good = s .good;
         is = s .is;
-        most = em ∙ ap (λ (j : ℕ). fitting j (length lent / 5)) en;
-        so-far = omega arith;
-        lock = fill-first r t (s .good) ws (s .is) k firsts;
-        holds = start;
-        room = room-in n m em;
-        size = refl;
+        reached = count-starts ws r k s firsts;
+        holds = entries-back lent ∙ ap (λ (es : List LockEntry). with-entries es lent) (fill-none (listed (s .state) r) (entries-in lent));
       }
 
-  module _ (area : List ℕ) (shown k i : ℕ) (f : Listing r ws lent area shown k i) where
-    module _ (h : i < shown) where
-      low : (shown ≤ length (locks-on r (f .state))) × (shown ≤ length lent / 5)
-      low = rw (f .most) (fitting-low (length (locks-on r (f .state))) (length lent / 5))
+  module _ (area : List ℕ) (k i : ℕ) (f : Listing r ws lent area k i) where
+    -- filled, the area has its length
+    pub list-size : length area ≡ length lent
+    list-size =
+        let es : List LockEntry = take i (listed (f .state) r) in
+        ap length (f .holds) ∙ length-with (fill es (entries-in lent)) lent (length-fill es (entries-in lent) ∙ length-entries (length lent / 5) lent)
 
-      here : i < length (locks-on r (f .state))
-      here = omega (arith, low .0)
+    module _ (m : k ≡ 0 → ⊥) where
+      here : k ≡ getD (locks-on r (f .state)) i 0
+      here = f .reached .then (f .state) (f .good) (f .is) .here
+
+      inside : i < length (locks-on r (f .state))
+      inside = at-inside (locks-on r (f .state)) i (λ z. m (here ∙ z))
 
       pub list-queued : Some (Queued k) ws
-      list-queued = rw (f .lock) (fill-queued r (f .state) (f .good) ws (f .is) i here)
+      list-queued = count-queued ws r i k (f .reached) m
 
-      pub list-room : 5 * i + 5 ≤ length area
-      list-room = omega (arith, f .room, f .size)
+      pub list-small : i + 1 < 2 ^ 32
+      list-small = count-small ws r i k (f .reached) m
 
-      pub list-next : (e : LockEntry) (b : List ℕ) (x : ℕ) → Tells (Queued k) (entry-of k) ws e → b ≡ with-entry (5 * i) e area → Tells (Queued k) (following k) ws x → Listing r ws lent b shown x (i + 1)
-      unfolding with-entries
-      list-next e b x tells put follows =
-          let t : Tables = f .state in
-          let es : List LockEntry = fill (take i (listed t r)) (entries-in lent) in
-          let fits : i < length (entries-in lent) = rw (length-entries (length lent / 5) lent) (omega (arith, low .1)) in
-          let inside : i < length es = rw (length-fill (take i (listed t r)) (entries-in lent)) fits in
-          let listed-here : i < length (listed t r) = rw (length-listed r t) here in
-          let same : e ≡ getD (listed t r) i e = fill-entry r t (f .good) ws (f .is) i here e e (rw (f .lock) at tells) in
-          let now : b ≡ with-entries (fill (take (i + 1) (listed t r)) (entries-in lent)) lent =
-          put ∙ ap (with-entry (5 * i) e) (f .holds)
-          ∙ entry-among es (drop (5 * (length lent / 5)) lent) i e inside
-          ∙ ap (λ (y : LockEntry). with-entries (set es i y) lent) same
-          ∙ ap (λ (l : List LockEntry). with-entries l lent) (fill-next (listed t r) (entries-in lent) i e listed-here fits)
-          ∙ ap (λ (j : ℕ). with-entries (fill (take j (listed t r)) (entries-in lent)) lent) (sym (add-one i)) in
-          record {
-            state = t;
-            good = f .good;
-            is = f .is;
-            most = f .most;
-            so-far = omega arith;
-            lock = rw (add-one i) (fill-follows r t (f .good) ws (f .is) i here x (rw (f .lock) at follows));
-            holds = now;
-            room = f .room;
-            size = ap length now ∙ size-in (take (i + 1) (listed t r));
-          }
+      pub list-less : locks-in ws - (i + 1) < locks-in ws - i
+      list-less = count-less ws r i k (f .reached) m
 
-    pub list-ends : (n : ℕ) → Tells (Resourced r) (count-on r) ws n → shown ≤ i → Flattened r ws lent area n
-    list-ends n counts h =
-        let t : Tables = f .state in
-        let en : n ≡ length (locks-on r t) = fill-count r t (f .good) ws (f .is) n counts in
-        let over : i ≡ fitting (length (locks-on r t)) (length (entries-in lent)) =
-        (let s = f .so-far in let q : i ≡ shown = omega arith in q) ∙ f .most ∙ ap (fitting (length (locks-on r t))) (sym (length-entries (length lent / 5) lent)) in
+      module _ (e : LockEntry) (tells : Tells (Queued k) (entry-of k) ws e) where
+        -- with the entry in its place, or with no room for it
+        put-in : i < length lent / 5 → with-entry (5 * i) e area ≡ with-entries (fill (take (suc i) (listed (f .state) r)) (entries-in lent)) lent
+        unfolding with-entries
+        put-in room =
+            let xs : List LockEntry = listed (f .state) r in
+            let es : List LockEntry = fill (take i xs) (entries-in lent) in
+            let fits : i < length (entries-in lent) = rw (length-entries (length lent / 5) lent) room in
+            let among : i < length es = rw (length-fill (take i xs) (entries-in lent)) fits in
+            let listed-here : i < length xs = rw (length-listed r (f .state)) inside in
+            let same : e ≡ getD xs i e = fill-entry r (f .state) (f .good) ws (f .is) i inside e e (rw here at tells) in
+            ap (with-entry (5 * i) e) (f .holds)
+            ∙ entry-among es (drop (5 * (length lent / 5)) lent) i e among
+            ∙ ap (λ (y : LockEntry). with-entries (set es i y) lent) same
+            ∙ ap (λ (l : List LockEntry). with-entries l lent) (fill-next xs (entries-in lent) i e listed-here fits)
+
+        left-out : length lent / 5 ≤ i → area ≡ with-entries (fill (take (suc i) (listed (f .state) r)) (entries-in lent)) lent
+        left-out full =
+            let xs : List LockEntry = listed (f .state) r in
+            let over : length (entries-in lent) ≤ i = rw (length-entries (length lent / 5) lent) full in
+            f .holds ∙ ap (λ (l : List LockEntry). with-entries l lent) (fill-full xs (entries-in lent) i over ∙ sym (fill-full xs (entries-in lent) (suc i) (omega arith)))
+
+        either : with-fitting i e area ≡ with-entries (fill (take (suc i) (listed (f .state) r)) (entries-in lent)) lent
+        unfolding with-fitting
+        either =
+            by-cases (leb (5 * i + 5) (length area))
+            (λ h. let l = leb-true (5 * i + 5) (length area) h in rw h (put-in (omega (arith, list-size))))
+            (λ h. let l = leb-false (5 * i + 5) (length area) h in rw h (left-out (omega (arith, list-size))))
+
+        pub list-next : (b : List ℕ) (x : ℕ) → b ≡ with-fitting i e area → Tells (Queued k) (following k) ws x → Listing r ws lent b x (i + 1)
+        list-next b x put follows =
+            record {
+              state = f .state;
+              good = f .good;
+              is = f .is;
+              reached = count-next ws r i k (f .reached) m x follows;
+              holds = rw (add-one i) (put ∙ either);
+            }
+
+    pub list-ends : k ≡ 0 → Flattened r ws lent area i
+    list-ends e =
+        let xs : List LockEntry = listed (f .state) r in
+        let ys : List LockEntry = entries-in lent in
+        let n : ℕ = length (locks-on r (f .state)) in
+        let all : i ≡ n = fill-count r (f .state) (f .good) ws (f .is) i (count-ends ws r i k (f .reached) e) in
+        let whole : take i xs ≡ xs = take-all i xs (rw (length-listed r (f .state)) (omega arith)) in
+        let fit : fill (take (fitting n (length ys)) xs) ys ≡ fill xs ys =
+        ap (λ (j : ℕ). fill (take (fitting j (length ys)) xs) ys) (sym (length-listed r (f .state))) ∙ fill-fitting xs ys in
         record {
-          entries = fill (take i (listed t r)) (entries-in lent);
-          told = rw (en, over) (fill-ends r t (f .good) ws (f .is) (entries-in lent));
-          is = f .holds;
+          entries = fill (take (fitting n (length ys)) xs) ys;
+          told = rw all (fill-ends r (f .state) (f .good) ws (f .is) ys);
+          is = f .holds ∙ ap (λ (l : List LockEntry). with-entries l lent) (ap (λ (l : List LockEntry). fill l ys) whole ∙ sym fit);
         }
 
-pub ruleset list-laws = (needs, list-starts, list-queued, list-room, list-next, list-ends)
+pub ruleset list-laws = (needs, list-starts, list-size, list-queued, list-small, list-less, list-next, list-ends)

@@ -1,8 +1,10 @@
 -- Lock entries as words, five to an entry, in an area that is lent by a caller who knows no structs.
 use mathlib.Core.Path.{_≡_}
+use mathlib.Core.Bool.{cond}
 use mathlib.Core.List.{List, [], _∷_, _++_}
 use Prim.Native.Nat.{ℕ, zero, suc, _+_, _*_, _/_}
 use lib.ListN.{getD, length, take, drop}
+use lib.Dec.{leb}
 use Rattle.tables.specs.declared.LockEntry.{LockEntry}
 use Rattle.access.specs.Contracts.{Tells, Resourced}
 use Rattle.listing.specs.Listings.{counted, listing, listing-of}
@@ -33,6 +35,10 @@ with-entries es area = flat es ++ drop (5 * (length area / 5)) area
 -- the area, with an entry's words from the place i on
 unfoldable pub with-entry : ℕ → LockEntry → List ℕ → List ℕ
 with-entry i e area = take i area ++ (entry-words e ++ drop (i + 5) area)
+
+-- the area, with an entry in the place i for entries, if it has room for it whole
+unfoldable pub with-fitting : ℕ → LockEntry → List ℕ → List ℕ
+with-fitting i e area = cond (leb (5 * i + 5) (length area)) (with-entry (5 * i) e area) area
 
 -- n locks stand on the resource r, and as many as fit were listed in the area
 pub record Flattened (r : ℕ) (ws lent area : List ℕ) (n : ℕ) : Type 0 where

@@ -4,7 +4,7 @@ ghost use mathlib.Core.Path.{_≡_};
 ghost use Prim.Native.Nat.{_+_, _≤_};
 ghost use lib.ListN.{length};
 ghost use Rattle.access.specs.Contracts.{Some, Resourced};
-ghost use Rattle.flat_list.specs.Flat.{«with-entry», Flattened};
+ghost use Rattle.flat_list.specs.Flat.{«with-entry», «with-fitting», Flattened};
 
 const ENTRY_WORDS: usize = 5;
 
@@ -20,21 +20,30 @@ fn put_entry(area: &mut [u32], at: usize, entry: LockEntry)
     area[at + 4] = entry.asked;
 }
 
+// The entry goes to the place i for entries, if the area has room for it whole.
+fn put_if_room(area: &mut [u32], i: u32, entry: LockEntry)
+    ensures { λ _. ⌜ now (area .exit) ≡ with-fitting i entry (now (area .entry)) ⌝ }
+{
+    let at = ENTRY_WORDS * (i as usize);
+    if area.len() < at + ENTRY_WORDS {
+        return;
+    }
+    put_entry(area, at, entry);
+}
+
 // Puts the entries of the locks on r into the area, in grant, convert, wait order, as many as fit whole. Gives the true
 // count.
 pub fn list_flat(area: &mut [u32], words: &[u32], r: u32) -> u32
     requires { ⌜ Some (Resourced r) (now words) ⌝ }
     ensures { λ n. ⌜ Flattened r (now (words .entry)) (now (area .entry)) (now (area .exit)) n ⌝ }
 {
-    let count = walker::count_on(words, r);
-    let shown = listing::fitting(count, area.len() / ENTRY_WORDS);
     let mut k = walker::first_on(words, r);
-    let mut i = 0;
-    while i < shown {
+    let mut count = 0;
+    while k != 0 {
         let entry = listing::entry_of(words, k);
-        put_entry(area, ENTRY_WORDS * i, entry);
+        put_if_room(area, count, entry);
         k = walker::following(words, k);
-        i += 1;
+        count += 1;
     }
     count
 }

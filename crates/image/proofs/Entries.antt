@@ -1,4 +1,4 @@
--- The ways out of image and load.
+-- The ways out of image and load_by.
 use mathlib.Core.Path.{_≡_, refl, sym, ap, ap₂, _∙_}
 use mathlib.Core.Bool.{Bool, true, false, _&&_, not}
 use mathlib.Core.List.{List, _++_, append-nil}
@@ -16,9 +16,9 @@ use Rattle.rules.specs.Calls.{unless}
 use Rattle.rules.specs.Images.{image-bytes, image-refusal, image-into, image-entry, image-size, image-words, image-slots, image-sound, load-refusal, load-into, load-entry}
 use Rattle.answers.specs.Answers.{accepted, refused, outcome}
 use Rattle.encoding.specs.Bytes.{encoded, decoded}
-use Rattle.encoding.proofs.Loops.{length-encoded, length-decoded}
+use Rattle.encoding.proofs.Loops.{length-encoded}
 use Rattle.image.specs.Contracts.{imaged, Unpacked}
-use Rattle.image.proofs.Measuring.{words-decoded, rest-slots, unpacked-none, unpacked-sound, unpacked-size}
+use Rattle.image.proofs.Measuring.{words-decoded, rest-slots, unpacked-not, unpacked-sound, unpacked-size}
 
 -- image
 module _ (ws ss area : List ℕ) (x : Bool) (ex : x ≡ sound ws ss) where
@@ -63,54 +63,55 @@ module _ (ws area : List ℕ) (m : ℕ) (long : length area ≡ 4 * length ws + 
 
 pub ruleset imaging = (needs, image-unsound, image-misfit, image-made, area-front, area-words)
 
--- load
-module _ (bs buffer ws ss : List ℕ) (n : ℕ) (u : Unpacked bs buffer n) where
-  pub load-unsound : n ≡ 0 → outcome (refused 1) ws ss ≡ load-entry bs ws ss
+-- load_by
+pub both-fit : (a b : ℕ) (y : Bool) → not (eqb a b && y) ≡ false → a ≡ b
+both-fit a b y h = eqb-true a b (and-left _ _ (not-false (eqb a b && y) h))
+
+module _ (bs zs ws ss : List ℕ) (x : Bool) (u : Unpacked bs zs x) where
+  pub load-unsound : not x ≡ true → outcome (refused 1) ws ss ≡ load-entry bs ws ss
   unfolding load-entry load-refusal unless load-into
-  load-unsound e = rw (unpacked-none bs buffer n u e)
+  load-unsound h = rw (unpacked-not bs zs x u h)
 
-  module _ (some : n ≡ 0 → ⊥) where
+  module _ (right : not x ≡ false) where
     sound-here : image-sound bs ≡ true
-    sound-here = unpacked-sound bs buffer n u some
+    sound-here = unpacked-sound bs zs x u right
 
-    size-here : n ≡ image-size bs
-    size-here = unpacked-size bs buffer n u some
+    size-here : length zs ≡ image-size bs
+    size-here = unpacked-size bs zs x u right
 
-    words-long : length (image-words bs) ≡ n
-    words-long = ap length (words-decoded bs) ∙ length-decoded bs (image-size bs) ∙ sym size-here
+    words-long : length (image-words bs) ≡ length zs
+    words-long = sym (ap length (u .there (not-false x right)))
 
-    slots-long : length (image-slots bs) ≡ length bs - 4 * n
+    slots-long : length (image-slots bs) ≡ length bs - 4 * length zs
     unfolding image-slots
     slots-long = length-drop (4 * image-size bs) bs ∙ ap (λ (k : ℕ). length bs - 4 * k) (sym size-here)
 
-    pub load-misfit : not (eqb (length ws) n && eqb (length ss) (length bs - 4 * n)) ≡ true → outcome (refused 14) ws ss ≡ load-entry bs ws ss
+    pub load-misfit : not (eqb (length ws) (length zs) && eqb (length ss) (length bs - 4 * length zs)) ≡ true → outcome (refused 14) ws ss ≡ load-entry bs ws ss
     unfolding load-entry load-refusal unless load-into
-    load-misfit h = rw (sound-here, words-long, slots-long, not-true (eqb (length ws) n && eqb (length ss) (length bs - 4 * n)) h)
+    load-misfit h = rw (sound-here, words-long, slots-long, not-true (eqb (length ws) (length zs) && eqb (length ss) (length bs - 4 * length zs)) h)
 
-    module _ (right : not (eqb (length ws) n && eqb (length ss) (length bs - 4 * n)) ≡ false) where
-      both : (eqb (length ws) n && eqb (length ss) (length bs - 4 * n)) ≡ true
-      both = not-false (eqb (length ws) n && eqb (length ss) (length bs - 4 * n)) right
+    module _ (fit : not (eqb (length ws) (length zs) && eqb (length ss) (length bs - 4 * length zs)) ≡ false) where
+      both : (eqb (length ws) (length zs) && eqb (length ss) (length bs - 4 * length zs)) ≡ true
+      both = not-false (eqb (length ws) (length zs) && eqb (length ss) (length bs - 4 * length zs)) fit
 
-      words-fit : length ws ≡ n
-      words-fit = eqb-true (length ws) n (and-left _ _ both)
+      words-fit : length ws ≡ length zs
+      words-fit = both-fit (length ws) (length zs) _ fit
 
-      slots-fit : length ss ≡ length bs - 4 * n
-      slots-fit = eqb-true (length ss) (length bs - 4 * n) (and-right (eqb (length ws) n) _ both)
+      slots-fit : length ss ≡ length bs - 4 * length zs
+      slots-fit = eqb-true (length ss) (length bs - 4 * length zs) (and-right (eqb (length ws) (length zs)) _ both)
 
-      pub load-room : 4 * length ws ≤ length bs
-      load-room = let i = u .inside in rw words-fit i
+      part-is : take (length bs - 4 * length zs) (drop (4 * length zs) bs) ≡ image-slots bs
+      part-is = rest-slots bs (length zs) size-here
 
-      part-is : take (length bs - 4 * n) (drop (4 * n) bs) ≡ image-slots bs
-      part-is = rest-slots bs n size-here
-
-      pub load-slots : length ss ≡ length (take (length bs - 4 * n) (drop (4 * n) bs))
+      pub load-slots : length ss ≡ length (take (length bs - 4 * length zs) (drop (4 * length zs) bs))
       load-slots = slots-fit ∙ sym slots-long ∙ ap length (sym part-is)
 
-      pub load-done : (vs ts : List ℕ) → vs ≡ decoded bs (length ws) → ts ≡ take (length bs - 4 * n) (drop (4 * n) bs) → outcome (accepted 0 0) vs ts ≡ load-entry bs ws ss
+      pub load-done : (vs ts : List ℕ) → vs ≡ decoded bs (length ws) → ts ≡ take (length bs - 4 * length zs) (drop (4 * length zs) bs)
+          → outcome (accepted 0 0) vs ts ≡ load-entry bs ws ss
       unfolding load-entry load-refusal unless load-into
       load-done vs ts ev et =
           let a : vs ≡ image-words bs = ev ∙ ap (decoded bs) (words-fit ∙ size-here) ∙ sym (words-decoded bs) in
           let b : ts ≡ image-slots bs = et ∙ part-is in
           rw (sound-here, words-long, slots-long, both) (ap₂ (outcome (accepted 0 0)) a b)
 
-pub ruleset loading = (needs, load-unsound, load-misfit, load-room, load-slots, load-done)
+pub ruleset loading = (needs, load-unsound, load-misfit, load-slots, load-done)

@@ -1,23 +1,23 @@
 -- What the bytes of an image say: how many words it has, which they are, and whether they are those of sound tables.
 use mathlib.Core.Path.{_≡_, refl, sym, ap, ap₂, _∙_}
 use mathlib.Core.Bool.{Bool, true, false, _&&_, not}
-use mathlib.Core.List.{List, _++_}
+use mathlib.Core.List.{List}
 use Prim.Native.Nat.{ℕ, _+_, _*_, _-_, _<_, _≤_, _^_}
 use native.Mathlib.Omega.{arith}
 use borrow.Author.Needs.{needs}
 use borrow.Author.Tests.{leb-true, le-leb, eqb-true, eq-eqb, not-true, not-false}
 use lib.Dec.{leb}
-use lib.ListN.{length, take, drop, length-append, length-drop}
-use lib.Seq.{take-all, take-at, length-take-le}
+use lib.ListN.{length, take, drop, replicate, length-drop, length-replicate}
+use lib.Seq.{take-all, length-take-le}
 use Rattle.tables.specs.Layout.{slot-width, resources-in, locks-in}
 use Rattle.tables.specs.Sound.{sound}
 use Rattle.tables.proofs.Blocks.{getD-map-from}
 use Rattle.tables.proofs.Cases.{by-cases, clash, parts}
-use Rattle.tables.proofs.Conditions.{resources-low, resources-high, locks-low, locks-high}
+use Rattle.tables.proofs.Conditions.{resources-low, resources-high, locks-low, locks-high, words-sized}
 use Rattle.rules.specs.Images.{word-from, image-size, image-words, image-slots, image-sound}
 use Rattle.encoding.specs.Bytes.{decoded}
 use Rattle.encoding.proofs.Loops.{length-decoded}
-use Rattle.image.specs.Contracts.{most-words, measures, Measured, Unpacked}
+use Rattle.image.specs.Contracts.{measures, Measured, Unpacked}
 
 module _ (bs : List ℕ) where
   -- the first two words
@@ -137,74 +137,57 @@ module _ (bs : List ℕ) where
 
 pub ruleset measuring = (needs, words-short, words-beyond, words-misfit, words-fit)
 
--- unpack
-module _ (bs buffer : List ℕ) (n : ℕ) (m : Measured bs n) (long : length buffer ≡ most-words) where
-  pub unpack-none : n ≡ 0 → Unpacked bs buffer 0
-  unpack-none e =
-      record {
-        many = rw (not-sound bs (by-cases (measures bs) (λ h. absurd (omega (arith, rw h at (m .many)))) (λ h. h)));
-        inside = omega arith;
-        few = omega arith;
-        long = long;
-        there = λ f. absurd (f refl);
-      }
+-- unpack: an image that has no words is none of sound tables
+module _ (bs buffer zs : List ℕ) (m : Measured bs (length buffer)) (ez : zs ≡ decoded bs (length buffer))
+    (x : Bool) (ex : x ≡ sound zs (take (length bs - 4 * length zs) (drop (4 * length zs) bs))) where
+  read-long : length zs ≡ length buffer
+  read-long = ap length ez ∙ length-decoded bs (length buffer)
 
-  module _ (some : n ≡ 0 → ⊥) where
-    is-measure : measures bs ≡ true
-    is-measure = by-cases (measures bs) (λ h. h) (λ h. absurd (some (rw h at (m .many))))
+  unsized : measures bs ≡ false → x ≡ image-sound bs
+  unsized h =
+      let none : length zs ≡ 0 = read-long ∙ rw h at (m .many) in
+      by-cases x
+      (λ s. absurd (omega (arith, words-sized zs _ (sym ex ∙ s))))
+      (λ s. s ∙ sym (not-sound bs h))
 
-    is-size : n ≡ image-size bs
-    is-size = rw is-measure at (m .many)
+  module _ (h : measures bs ≡ true) where
+    buffer-is : length buffer ≡ image-size bs
+    buffer-is = rw h at (m .many)
 
-    pub unpack-long : n ≡ length (take n buffer)
-    unpack-long = let f = m .few in sym (length-take-le n buffer (omega arith))
+    read-all : zs ≡ image-words bs
+    read-all = ez ∙ ap (decoded bs) buffer-is ∙ sym (words-decoded bs)
 
-    pub unpack-room : 4 * length (take n buffer) ≤ length bs
-    unpack-room = let f = m .inside in rw (← unpack-long) f
+    sized : x ≡ image-sound bs
+    sized = ex ∙ ap₂ sound read-all (rest-slots bs (length zs) (read-long ∙ buffer-is)) ∙ sym (sound-is bs h)
 
-    module _ (zs : List ℕ) (ez : zs ≡ decoded bs (length (take n buffer))) where
-      read-all : zs ≡ image-words bs
-      read-all = ez ∙ ap (decoded bs) (sym unpack-long ∙ is-size) ∙ sym (words-decoded bs)
+  told : x ≡ image-sound bs
+  told = by-cases (measures bs) sized unsized
 
-      read-long : length zs ≡ n
-      read-long = ap length ez ∙ length-decoded bs (length (take n buffer)) ∙ sym unpack-long
+  pub unpacked : Unpacked bs zs x
+  unpacked = record { tells = told; there = λ s. read-all (measured bs (sound-measure bs (sym told ∙ s))) }
 
-      front-is : take n (zs ++ drop n buffer) ≡ image-words bs
-      front-is = take-at zs (drop n buffer) n read-long ∙ read-all
-
-      pub unpack-front : n ≡ length (take n (zs ++ drop n buffer))
-      unpack-front = sym (ap length (take-at zs (drop n buffer) n read-long) ∙ read-long)
-
-      still-long : length (zs ++ drop n buffer) ≡ most-words
-      still-long = let f = m .few in rw (length-append, length-drop, read-long) (omega arith)
-
-      rest-is : take (length bs - 4 * n) (drop (4 * n) bs) ≡ image-slots bs
-      rest-is = rest-slots bs n is-size
-
-      module _ (x : Bool) (ex : x ≡ sound (take n (zs ++ drop n buffer)) (take (length bs - 4 * n) (drop (4 * n) bs))) where
-        answer-is : x ≡ image-sound bs
-        answer-is = ex ∙ ap₂ sound front-is rest-is ∙ sym (sound-is bs is-measure)
-
-        pub unpack-unsound : not x ≡ true → Unpacked bs (zs ++ drop n buffer) 0
-        unpack-unsound h =
-            let s : image-sound bs ≡ false = sym answer-is ∙ not-true x h in
-            record { many = rw s; inside = omega arith; few = omega arith; long = still-long; there = λ f. absurd (f refl) }
-
-        pub unpack-sound : not x ≡ false → Unpacked bs (zs ++ drop n buffer) n
-        unpack-sound h =
-            let s : image-sound bs ≡ true = sym answer-is ∙ not-false x h in
-            record { many = is-size ∙ rw s; inside = m .inside; few = m .few; long = still-long; there = λ f. front-is }
+pub ruleset unpacking = (needs, unpacked)
 
 -- what an unpacked image is
-module _ (bs buffer : List ℕ) (n : ℕ) (u : Unpacked bs buffer n) where
-  pub unpacked-none : n ≡ 0 → image-sound bs ≡ false
-  unpacked-none e = by-cases (image-sound bs) (λ h. absurd (omega (arith, rw h at (u .many)))) (λ h. h)
+module _ (bs zs : List ℕ) (x : Bool) (u : Unpacked bs zs x) where
+  pub unpacked-not : not x ≡ true → image-sound bs ≡ false
+  unpacked-not h = sym (u .tells) ∙ not-true x h
 
-  module _ (some : n ≡ 0 → ⊥) where
+  module _ (right : not x ≡ false) where
     pub unpacked-sound : image-sound bs ≡ true
-    unpacked-sound = by-cases (image-sound bs) (λ h. h) (λ h. absurd (some (rw h at (u .many))))
+    unpacked-sound = sym (u .tells) ∙ not-false x right
 
-    pub unpacked-size : n ≡ image-size bs
-    unpacked-size = rw unpacked-sound at (u .many)
+    pub unpacked-size : length zs ≡ image-size bs
+    unpacked-size = ap length (u .there (not-false x right) ∙ words-decoded bs) ∙ length-decoded bs (image-size bs)
 
-pub ruleset unpacking = (needs, unpack-none, unpack-long, unpack-room, unpack-front, unpack-unsound, unpack-sound)
+-- load and holder: the front of a buffer has room for just the words
+front-long : (n size : ℕ) → n ≤ size → length (take n (replicate {A = ℕ} size 0)) ≡ n
+front-long n size h = length-take-le n (replicate {A = ℕ} size 0) (rw length-replicate h)
+
+pub front-room : (n size : ℕ) → n ≤ size → n ≡ length (take n (replicate {A = ℕ} size 0))
+front-room n size h = sym (front-long n size h)
+
+pub front-measured : (bs : List ℕ) (n size : ℕ) → Measured bs n → n ≤ size → Measured bs (length (take n (replicate {A = ℕ} size 0)))
+front-measured bs n size m h = rw (front-long n size h) m
+
+pub ruleset lending = (needs, front-room, front-measured)

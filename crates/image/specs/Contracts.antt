@@ -1,18 +1,13 @@
 -- What the functions on images stand on, and what they say.
 use mathlib.Core.Path.{_≡_}
-use mathlib.Core.Bool.{Bool, cond, _&&_}
+use mathlib.Core.Bool.{Bool, true, cond, _&&_}
 use mathlib.Core.List.{List}
 use Prim.Native.Nat.{ℕ, _*_, _≤_}
-use lib.ListN.{length, take}
+use lib.ListN.{length}
 use lib.Dec.{eqb, leb}
-use Rattle.tables.specs.Lists.{first-that}
-use Rattle.tables.specs.State.{Tables, lock}
-use Rattle.tables.specs.Layout.{size, slot-width, locks-in}
-use Rattle.tables.specs.Grants.{holders}
-use Rattle.rules.specs.Images.{Imaged, image-length, word-from, image-size, image-words, image-sound, ex}
+use Rattle.tables.specs.Layout.{size, slot-width}
+use Rattle.rules.specs.Images.{Imaged, image-length, word-from, image-size, image-words, image-sound}
 use Rattle.answers.specs.Answers.{Numbers}
-use Rattle.fields.specs.Sizes.{Sized}
-use Rattle.queues.specs.Holders.{held-in, Linked}
 
 -- the answer, and what the lent area then holds
 abbrev pub imaged : Numbers → List ℕ → Imaged
@@ -34,24 +29,7 @@ pub record Measured (bs : List ℕ) (n : ℕ) : Type 0 where
   pub inside : 4 * n ≤ length bs
   pub few : n ≤ most-words
 
--- n is the number of the words of an image of sound tables, and they stand in the buffer; or it is no such image, and n is 0
-pub record Unpacked (bs buffer : List ℕ) (n : ℕ) : Type 0 where
-  pub many : n ≡ cond (image-sound bs) (image-size bs) 0
-  pub inside : 4 * n ≤ length bs
-  pub few : n ≤ most-words
-  pub long : length buffer ≡ most-words
-  pub there : (n ≡ 0 → ⊥) → take n buffer ≡ image-words bs
-
--- the locks from j on along their queue can be walked
-pub record Chained (ws : List ℕ) (j : ℕ) : Type 0 where
-  pub sized : Sized ws
-  pub locks : List ℕ
-  pub linked : Linked ws j locks
-  pub few : length locks ≤ locks-in ws
-
--- a lock that holds EX, by the words; on a state the first on the resource r that does, or 0
-unfoldable pub holds-ex : List ℕ → ℕ → Bool
-holds-ex ws k = eqb (held-in ws k) ex
-
-unfoldable pub ex-lock : ℕ → Tables → ℕ
-ex-lock r t = first-that (λ k. eqb (lock t k .held) ex) (holders t r)
+-- x tells whether it is an image of sound tables; if so, these are its words
+pub record Unpacked (bs ws : List ℕ) (x : Bool) : Type 0 where
+  pub tells : x ≡ image-sound bs
+  pub there : x ≡ true → ws ≡ image-words bs

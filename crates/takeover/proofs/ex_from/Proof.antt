@@ -1,8 +1,8 @@
 use lib.ListN.{length}
 use Rattle.queues.specs.Holders.{locks-from}
-use Rattle.image.proofs.Holding.{Seeking, seeking}
-use Rattle.image.proofs.ex_from.Statement.{statement}
-use Rattle.image.proofs.ex_from.Tie as tie
+use Rattle.takeover.proofs.Holding.{Seeking, seeking}
+use Rattle.takeover.proofs.ex_from.Statement.{statement}
+use Rattle.takeover.proofs.ex_from.Tie as tie
 
 abbrev Inv-loop : tie.InvT-loop
 Inv-loop words first k₀ k = Seeking words first k

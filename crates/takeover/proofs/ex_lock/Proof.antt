@@ -1,6 +1,6 @@
-use Rattle.image.proofs.Holding.{granted-chained, converting-chained, ex-locking}
-use Rattle.image.proofs.ex_lock.Statement.{statement}
-use Rattle.image.proofs.ex_lock.Tie as tie
+use Rattle.takeover.proofs.Holding.{granted-chained, converting-chained, ex-locking}
+use Rattle.takeover.proofs.ex_lock.Statement.{statement}
+use Rattle.takeover.proofs.ex_lock.Tie as tie
 
 resource-word-requires : tie.Need-resource-word-requires
 resource-word-requires c κs = search ex-locking

@@ -30,7 +30,7 @@ use Rattle.access.proofs.States.{locks-is, sized-is}
 use Rattle.queues.specs.Holders.{locks-from, Linked}
 use Rattle.queues.proofs.Walking.{from-linked}
 use Rattle.queues.proofs.Telling.{threaded, here-sized, here-low, here-high, others-granted, others-converting}
-use Rattle.image.specs.Contracts.{Chained, holds-ex, ex-lock}
+use Rattle.takeover.specs.Contracts.{Chained, holds-ex, ex-lock}
 
 -- the first of a list that passes a test
 module _ (p : ℕ → Bool) where

@@ -1,6 +1,6 @@
-use Rattle.image.proofs.Holding.{ex-holding}
-use Rattle.image.proofs.ex_holder.Statement.{statement}
-use Rattle.image.proofs.ex_holder.Tie as tie
+use Rattle.takeover.proofs.Holding.{ex-holding}
+use Rattle.takeover.proofs.ex_holder.Statement.{statement}
+use Rattle.takeover.proofs.ex_holder.Tie as tie
 
 find-requires : tie.Need-find-requires
 find-requires c κs = search ex-holding
