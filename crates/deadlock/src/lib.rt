@@ -202,14 +202,14 @@ fn search(
 }
 
 // Whether the blocked lock a leads back to itself. No cycle passes a cleared lock, so these have their marks from the start.
-fn on_cycle(words: &[u32], ranks: &[u32], a: u32, depth: u32, cleared: [bool; LOCK_PLACES]) -> bool
-    requires { ⌜ Trying (now words) (now ranks) a depth cleared ⌝ }
+fn on_cycle(words: &[u32], ranks: &[u32], a: u32, depth: u32, cleared: &[bool; LOCK_PLACES]) -> bool
+    requires { ⌜ Trying (now words) (now ranks) a depth (now cleared) ⌝ }
     ensures { λ r. ⌜ r ≡ deadlocked (seen (now (words .entry))) a ⌝ }
 {
     if cleared[a as usize] {
         return false;
     }
-    let mut marks = cleared;
+    let mut marks = *cleared;
     search(words, ranks, a, a, depth, &mut marks)
 }
 
@@ -226,7 +226,7 @@ fn first_on_cycle(words: &[u32], left: u32, cleared: [bool; LOCK_PLACES]) -> u32
     let mut k = header_word(words, BLOCKED);
     while k != 0 {
         let next = lock_word(words, k, LOCK_NEXT_BLOCKED);
-        if on_cycle(words, &ranks, k, left, cleared) {
+        if on_cycle(words, &ranks, k, left, &cleared) {
             return k;
         }
         cleared[k as usize] = true;

@@ -2,14 +2,8 @@ use Rattle.deadlock.proofs.Answering.{cycle-laws}
 use Rattle.deadlock.proofs.on_cycle.Statement.{statement}
 use Rattle.deadlock.proofs.on_cycle.Tie as tie
 
-array-read-if1 : tie.Need-array-read-if1
-array-read-if1 c = search cycle-laws
-
 returns : tie.Need-returns
 returns c = search cycle-laws
-
-slice-aggregate-search : tie.Need-slice-aggregate-search
-slice-aggregate-search c = search cycle-laws
 
 search-requires : tie.Need-search-requires
 search-requires c κs = search cycle-laws
@@ -19,4 +13,4 @@ returns-2 c = search cycle-laws
 
 pub on-cycle-spec : {M : Type 1} → statement M
 on-cycle-spec =
-    tie.close (tie.spec array-read-if1 returns slice-aggregate-search search-requires returns-2)
+    tie.close (tie.spec (λ c. search cycle-laws) returns (λ c. search cycle-laws) search-requires returns-2)
