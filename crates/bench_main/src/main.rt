@@ -8,7 +8,7 @@ ghost use mathlib.Core.Path.{_≡_};
 ghost use Prim.Native.Nat.{_≤_};
 ghost use lib.ListN.{length};
 ghost use Rattle.gathering.specs.Reading.{Room};
-ghost use Rattle.play.specs.Plays.{Lengths};
+ghost use Rattle.play.specs.Sessions.{Lengths};
 
 // What a byte can print.
 const PRINTED: usize = 24;

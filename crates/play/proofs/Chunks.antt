@@ -8,8 +8,8 @@ use Rattle.commands.specs.Forms.{Meaning, meant}
 use Rattle.gathering.specs.Reading.{Kept, kept, meant-kept, lines, Came, whole, more, comes, begun, given, gives}
 use Rattle.printing.specs.Printing.{printed}
 use Rattle.gathering.proofs.Gathering.{kept-means, gives-lines}
-use Rattle.play.specs.Plays.{played, printed-for}
-use Rattle.play.specs.Sessions.{Session, taken, fed, fed-all, ended, from-line, printed-in-chunks}
+use Rattle.performing.specs.Plays.{played}
+use Rattle.play.specs.Sessions.{printed-for, Session, taken, fed, fed-all, ended, from-line, printed-in-chunks}
 
 -- what lines print, by what is kept of them
 printed-kept : List Kept → Lent → List ℕ

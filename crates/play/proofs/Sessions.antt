@@ -17,7 +17,7 @@ use Rattle.gathering.specs.Reading.{kept, keeps, meant-kept, comes, came, Room,
 use Rattle.printing.specs.Printing.{printed, Wrote}
 use Rattle.gathering.proofs.Gathering.{keeps-none, room-more, room-whole, room-start}
 use Rattle.play.specs.declared.Progress.{Progress}
-use Rattle.play.specs.Plays.{played, gives, lent}
+use Rattle.performing.specs.Plays.{played, gives, lent}
 use Rattle.play.specs.Sessions.{Session, taken, fed, fed-all, ended, standing, Ready, Spacious, Within, Ends}
 
 -- what stands in front after a write

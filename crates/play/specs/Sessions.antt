@@ -4,12 +4,28 @@ use mathlib.Core.Bool.{cond}
 use mathlib.Core.List.{List, [], _∷_, _++_}
 use Prim.Native.Nat.{ℕ, _+_, _*_, _≤_}
 use lib.ListN.{length, take}
+use Rattle.tables.specs.State.{started}
+use Rattle.tables.specs.Layout.{words, slots}
 use Rattle.rules.specs.Theorem.{Lent}
+use Rattle.commands.specs.Forms.{meant}
 use Rattle.gathering.specs.declared.Line.{Line}
 use Rattle.gathering.specs.Reading.{Kept, kept, keeps, meant-kept, Came, whole, more, comes, begun, Room}
 use Rattle.printing.specs.Printing.{printed}
 use Rattle.play.specs.declared.Progress.{Progress}
-use Rattle.play.specs.Plays.{played, lent}
+use Rattle.performing.specs.Plays.{played, lent}
+
+-- "R 4, L 8": lockplay's tables as they are started, and the lengths that they need
+abbrev pub fresh : Lent
+fresh = record { words = words (started 4 8); slots = slots (started 4 8) }
+
+pub record Lengths (words slots : List ℕ) : Type 0 where
+  pub words-long : length words ≡ 112
+  pub slots-long : length slots ≡ 384
+
+-- all lines of an input: what is printed for them, line by line
+unfoldable pub printed-for : List (List ℕ) → Lent → List ℕ
+printed-for [] t = []
+printed-for (line ∷ lines) t = printed (played (meant line) t .outcome) ++ printed-for lines (played (meant line) t .tables)
 
 -- what is kept of the line that has begun, the tables, and all that has been printed
 pub record Session : Type 0 where
