@@ -116,7 +116,7 @@ pub extern "C" fn zamgyorud_read(
 ) -> u64
     ensures { λ r. ⌜ filled (unpacked r) (now (value .exit)) ≡ value-filled (read-entry (now (words .entry)) (now (slots .entry)) client lock) (now (value .entry)) ⌝ }
 {
-    let found = manager::read(words, slots, client, lock);
+    let found = value_read::read(words, slots, client, lock);
     put_front(value, &found.value);
     packing::number(found.refusal, found.valid)
 }

@@ -201,6 +201,6 @@ module _ (ws ss : List ℕ) (h : sound ws ss ≡ true) where
   pub sound-check : check ws ss ≡ true
   unfolding check
   sound-check =
-      and-intro _ _ sizes (and-intro _ _ (eq-eqb _ 0 (header-zero ws ss h)) (and-intro _ _ resources-pass (and-intro _ _ (side-spare ws spare)
-      (and-intro _ _ (homes-are ws some homes (stand-total ws homes stood one-home)) (and-intro _ _ (side-blocked ws blocked-are) (and-intro _ _ (side-notice ws noticed)
+      and-intro _ _ sizes (and-intro _ _ (eq-eqb _ 0 (header-zero ws ss h)) (and-intro _ _ resources-pass (and-intro _ _ (homes-are ws some homes (stand-total ws homes stood one-home))
+      (and-intro _ _ (side-spare ws spare) (and-intro _ _ (side-blocked ws blocked-are) (and-intro _ _ (side-notice ws noticed)
       (unique-names ws ss sized (λ r p q u. right-unique ws ss sized some r p q (resource-is r p q) u))))))))

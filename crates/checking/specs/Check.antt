@@ -198,4 +198,4 @@ sum-over f (r ∷ rs) = f r + sum-over f rs
 unfoldable pub check : List ℕ → List ℕ → Bool
 check ws ss =
     sizes-right ws ss && (eqb (word-in ws (of-header 7)) 0 && (all (resource-fine ws ss) (from 1 (resources-in ws))
-    && (free-resources-fine ws && (homes-fine ws && (blocked-fine ws && (notices-fine ws && names-differ ws ss))))))
+    && (homes-fine ws && (free-resources-fine ws && (blocked-fine ws && (notices-fine ws && names-differ ws ss))))))

@@ -1,11 +1,11 @@
 -- Names that are compared: what `apart` returns, and the runs over which names are compared.
-use mathlib.Core.Path.{_≡_, refl, sym}
-use mathlib.Core.Bool.{Bool, _&&_, not}
+use mathlib.Core.Path.{_≡_, refl, sym, _∙_}
+use mathlib.Core.Bool.{Bool, true, false, _&&_, not}
 use mathlib.Core.List.{List, [], _∷_}
 use Prim.Native.Nat.{ℕ, suc, _+_, _-_, _*_, _≤_}
 use native.Mathlib.Numerals.{add-one}
 use native.Mathlib.Omega.{arith}
-use borrow.Author.Tests.{ne-eqb}
+use borrow.Author.Tests.{eq-eqb, ne-eqb}
 use borrow.Author.Needs.{needs}
 use lib.Dec.{eqb}
 use lib.ListN.{take, drop}
@@ -16,7 +16,7 @@ use Rattle.tables.proofs.Cases.{by-equal}
 use Rattle.names.specs.Names.{named, name-in, apart, apart-after, names-differ}
 use Rattle.names.proofs.Runs.{upto, from-first}
 use Rattle.names.proofs.Parts.{name-part}
-use Rattle.distinct.proofs.Runs.{all-loop}
+use Rattle.distinct.proofs.Runs.{all-loop, all-each}
 
 eqb-sym : (x y : ℕ) → eqb x y ≡ eqb y x
 eqb-sym x y = by-equal x y (λ e. rw e) (λ n. rw (ne-eqb x y n, ne-eqb y x (λ e. n (sym e))))
@@ -47,4 +47,13 @@ pub differ-run : (ws ss : List ℕ) {n : ℕ} → n ≡ resources-in ws → name
 unfolding names-differ
 differ-run ws ss {n} e = rw (e, from-first (resources-in ws))
 
-pub ruleset compare-loop = (all-loop, after-run, differ-run)
+-- a resource without a name is apart from every other
+pub free-apart : (ws ss : List ℕ) (r s : ℕ) → named ws r ≡ false → apart ws ss r s ≡ true
+unfolding apart
+free-apart ws ss r s h = rw h
+
+pub free-after : (ws ss : List ℕ) (r : ℕ) {n : ℕ} → n ≡ word-in ws (of-resource r 4) → n ≡ 0 → true ≡ apart-after ws ss r
+unfolding apart-after named
+free-after ws ss r e f = sym (all-each (apart ws ss r) (resources-in ws - r) (suc r) (λ s p q. free-apart ws ss r s (rw (eq-eqb _ _ (sym e ∙ f)))))
+
+pub ruleset compare-loop = (all-loop, free-after, after-run, differ-run)

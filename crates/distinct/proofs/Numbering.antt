@@ -1,27 +1,26 @@
 -- A name's number: the loops that make it and look for it, and that equal names have equal numbers.
 use mathlib.Core.Path.{_≡_, refl, sym, ap, ap₂, _∙_}
 use mathlib.Core.Bool.{Bool, true, false, _||_}
-use mathlib.Core.List.{List, [], _∷_, _++_}
+use mathlib.Core.List.{List, _++_}
 use Prim.Native.Nat.{ℕ, _+_, _-_, _*_, _%_, _<_, _≤_, _^_}
-use native.Mathlib.Nat.{le-trans, mul-le-mul-left, mul-le-mul-right}
+use native.Mathlib.Nat.{le-trans, mod-lt, mul-le-mul-left, mul-le-mul-right}
 use native.Mathlib.Numerals.{add-one}
 use native.Mathlib.Omega.{arith}
-use borrow.Author.Tests.{eqb-true}
 use borrow.Author.Needs.{needs}
 use lib.Dec.{eqb}
 use lib.ListN.{length, getD, take, drop, replicate, take-append-drop, length-drop, drop-of-length-le}
 use lib.Seq.{take-take, length-take-le}
-use Rattle.tables.specs.Lists.{all, any, same}
+use Rattle.tables.specs.Lists.{any, same}
 use Rattle.tables.specs.State.{name-width}
 use Rattle.tables.specs.Layout.{of-resource, slot-width, resources-in, word-in, slot-in}
-use Rattle.tables.specs.Sound.{all-zero}
-use Rattle.tables.proofs.Cases.{clash, and-left, and-right}
+use Rattle.tables.proofs.Counts.{same-eq}
+use Rattle.tables.proofs.Reading.{zeros-are}
 use Rattle.rules.specs.Images.{word-from}
 use Rattle.names.specs.Names.{named, name-in, slot-fine}
 use Rattle.names.specs.Standing.{Tidy}
 use Rattle.names.proofs.Spans.{drop-more}
 use Rattle.names.proofs.Parts.{slot-head, slot-long, slot-inside, name-long}
-use Rattle.distinct.specs.Numbers.{name-words, weighed, number}
+use Rattle.distinct.specs.Numbers.{name-words, number-range, weighed, number}
 
 -- ---- the sum of the words by weights: 16 weights below 2 ^ 16, words below 2 ^ 32
 
@@ -66,6 +65,10 @@ number-read ks ss r start {x} e h =
     let f : take (start + name-width - start) (drop start ss) ≡ take name-width (slot-in ss r) = rw (q, e) (slot-head ss r name-width (omega arith)) in
     rw (h, f)
 
+pub number-small : (ks ss : List ℕ) (r : ℕ) → number ks ss r < number-range
+unfolding number
+number-small ks ss r = mod-lt _ (omega arith)
+
 pub ruleset number-laws = (needs, number-read)
 
 -- ---- `while i < l.len() { met = met | (x == l[i]); i += 1; } met`
@@ -91,18 +94,6 @@ pub ruleset among-loop = (needs, among-next, among-end)
 
 -- ---- equal names stand in equal bytes, so they have equal numbers
 
-same-true : (xs ys : List ℕ) → same xs ys ≡ true → xs ≡ ys
-unfolding same
-same-true [] [] h = refl
-same-true [] (y ∷ ys) h = clash false h refl
-same-true (x ∷ xs) [] h = clash false h refl
-same-true (x ∷ xs) (y ∷ ys) h = ap₂ (λ (z : ℕ) (zs : List ℕ). z ∷ zs) (eqb-true x y (and-left (eqb x y) (same xs ys) h)) (same-true xs ys (and-right (eqb x y) (same xs ys) h))
-
-zeros-true : (xs : List ℕ) → all-zero xs ≡ true → xs ≡ replicate (length xs) 0
-unfolding all-zero all
-zeros-true [] h = refl
-zeros-true (x ∷ xs) h = ap₂ (λ (z : ℕ) (zs : List ℕ). z ∷ zs) (sym (eqb-true 0 x (and-left (eqb 0 x) _ h))) (zeros-true xs (and-right (eqb 0 x) _ h))
-
 module _ (ws ss : List ℕ) (tidy : Tidy ws ss) where
   -- the bytes where a name stands are the name and zeros
   name-bytes : (r : ℕ) → 1 ≤ r → r ≤ resources-in ws → named ws r ≡ true
@@ -116,12 +107,12 @@ module _ (ws ss : List ℕ) (tidy : Tidy ws ss) where
       let front : take n bytes ≡ take n (slot-in ss r) = take-take n name-width (slot-in ss r) h in
       let wide : length bytes ≡ name-width = length-take-le name-width (slot-in ss r) (omega arith) in
       let rest : length (drop n bytes) ≡ name-width - n = length-drop n bytes ∙ ap (λ (m : ℕ). m - n) wide in
-      let back : drop n bytes ≡ replicate (name-width - n) 0 = zeros-true (drop n bytes) (rw u at (tidy .fine r p q)) ∙ ap (λ (m : ℕ). replicate m 0) rest in
+      let back : drop n bytes ≡ replicate (name-width - n) 0 = zeros-are (drop n bytes) (name-width - n) (rw u at (tidy .fine r p q)) rest in
       sym (take-append-drop n bytes) ∙ ap₂ (λ (xs ys : List ℕ). xs ++ ys) front back
 
   module _ (r s : ℕ) (low : 1 ≤ r) (high : r ≤ resources-in ws) (low′ : 1 ≤ s) (high′ : s ≤ resources-in ws) (used : named ws r ≡ true) (equal : same (name-in ws ss r) (name-in ws ss s) ≡ true) where
     names-are : name-in ws ss r ≡ name-in ws ss s
-    names-are = same-true (name-in ws ss r) (name-in ws ss s) equal
+    names-are = same-eq (name-in ws ss r) (name-in ws ss s) equal
 
     lengths-are : word-in ws (of-resource r 4) ≡ word-in ws (of-resource s 4)
     lengths-are = sym (name-long ws ss r (tidy .named) low high) ∙ ap length names-are ∙ name-long ws ss s (tidy .named) low′ high′
@@ -135,4 +126,4 @@ module _ (ws ss : List ℕ) (tidy : Tidy ws ss) where
     same-number ks =
         let e : take name-width (slot-in ss r) ≡ take name-width (slot-in ss s) =
         name-bytes r low high used ∙ ap₂ (λ (xs : List ℕ) (m : ℕ). xs ++ replicate (name-width - m) 0) names-are lengths-are ∙ sym (name-bytes s low′ high′ both-named) in
-        ap (λ (bs : List ℕ). weighed ks bs name-words % 2 ^ 32) e
+        ap (λ (bs : List ℕ). weighed ks bs name-words % number-range) e

@@ -2,7 +2,7 @@
 use mathlib.Core.Path.{_≡_, sym, ap, _∙_}
 use mathlib.Core.Bool.{Bool, true, false, _&&_, not}
 use mathlib.Core.List.{List, [], _∷_}
-use Prim.Native.Nat.{ℕ, zero, suc, _+_, _-_, _%_, _<_, _≤_}
+use Prim.Native.Nat.{ℕ, zero, suc, _+_, _-_, _<_, _≤_}
 use native.Mathlib.Omega.{arith}
 use borrow.Author.Tests.{eq-eqb, not-true, not-false}
 use borrow.Author.Needs.{needs}
@@ -15,10 +15,10 @@ use Rattle.tables.proofs.Cases.{by-cases, by-equal, clash, and-left, and-right,
 use Rattle.names.specs.Names.{named, name-in, apart, apart-after, names-differ}
 use Rattle.names.specs.Standing.{Tidy}
 use Rattle.names.proofs.Runs.{upto}
-use Rattle.distinct.specs.Numbers.{name-words, places, number, Noted, Tells}
+use Rattle.distinct.specs.Numbers.{name-words, number-range, places, place, number, Noted, Tells}
 use Rattle.distinct.proofs.Runs.{all-each, down-next, down-stop, down-end}
-use Rattle.distinct.proofs.Comparing.{differ-run}
-use Rattle.distinct.proofs.Numbering.{both-named, same-number}
+use Rattle.distinct.proofs.Comparing.{free-after, differ-run}
+use Rattle.distinct.proofs.Numbering.{number-small, both-named, same-number}
 
 not-any : (x : ℕ) (xs : List ℕ) → any (eqb x) xs ≡ false → (i : ℕ) → i < length xs → x ≡ getD xs i 0 → ⊥
 unfolding any
@@ -39,12 +39,11 @@ not-among x a b ns l h s p q e =
 module _ (ws ss ks ns : List ℕ) (ms : List Bool) (r : ℕ) (noted : Noted ws ss ks ns ms r) (low : 1 ≤ r) (high : r ≤ resources-in ws) where
   -- r is free: nothing is written
   pub tells-free : {n : ℕ} → n ≡ word-in ws (of-resource r 4) → n ≡ 0 → Tells ws ss ks ns ms r true
-  unfolding apart-after apart named
+  unfolding named
   tells-free e f =
-      let g : word-in ws (of-resource r 4) ≡ 0 = sym e ∙ f in
-      let free : named ws r ≡ false = rw (eq-eqb _ _ g) in
+      let free : named ws r ≡ false = rw (eq-eqb _ _ (sym e ∙ f)) in
       record {
-        answer = sym (all-each (apart ws ss r) (resources-in ws - r) (suc r) (λ s p q. rw (eq-eqb _ _ g)));
+        answer = free-after ws ss r e f;
         next = record {
           weights = noted .weights;
           numbers = noted .numbers;
@@ -56,7 +55,7 @@ module _ (ws ss ks ns : List ℕ) (ms : List Bool) (r : ℕ) (noted : Noted ws s
 
   module _ (tidy : Tidy ws ss) {x : ℕ} (own : x ≡ number ks ss r) where
     -- its number is written down, and its place is marked
-    note : (ms′ : List Bool) → length ms′ ≡ places → ((i : ℕ) → getD ms i false ≡ true → getD ms′ i false ≡ true) → getD ms′ (x % places) false ≡ true
+    note : (ms′ : List Bool) → length ms′ ≡ places → ((i : ℕ) → getD ms i false ≡ true → getD ms′ i false ≡ true) → getD ms′ (place x) false ≡ true
         → Noted ws ss ks (set ns r x) ms′ (r - 1)
     note ms′ l keep here =
         let few = tidy .named .slotted .sized .few-resources in
@@ -70,7 +69,7 @@ module _ (ws ss ks ns : List ℕ) (ms : List Bool) (r : ℕ) (noted : Noted ws s
               (λ e. getD-set-other ns r s x 0 e ∙ noted .noted s (omega arith) q u);
           marked = λ s p q u. by-equal s r
               (λ e. rw (e, ← own) here)
-              (λ e. keep (number ks ss s % places) (noted .marked s (omega arith) q u));
+              (λ e. keep (place (number ks ss s)) (noted .marked s (omega arith) q u));
         }
 
     -- no name after r is its own if none has its number
@@ -89,15 +88,15 @@ module _ (ws ss ks ns : List ℕ) (ms : List Bool) (r : ℕ) (noted : Noted ws s
         (λ e. rw e))
 
     -- a name of its number would have marked its place
-    new-apart : getD ms (x % places) false ≡ false → apart-after ws ss r ≡ true
-    new-apart h = apart-by-number (λ s p q u e. clash (getD ms (x % places) false) (rw e (noted .marked s p q u)) h)
+    new-apart : getD ms (place x) false ≡ false → apart-after ws ss r ≡ true
+    new-apart h = apart-by-number (λ s p q u e. clash (getD ms (place x) false) (rw e (noted .marked s p q u)) h)
 
-    new-noted : Noted ws ss ks (set ns r x) (set ms (x % places) true) (r - 1)
+    new-noted : Noted ws ss ks (set ns r x) (set ms (place x) true) (r - 1)
     new-noted =
-        let l : x % places < length ms = let m = noted .marks in omega arith in
-        note (set ms (x % places) true) (length-set ms (x % places) true ∙ noted .marks)
-        (λ i h. by-equal i (x % places) (λ e. rw e (getD-set-same ms (x % places) true false l)) (λ e. getD-set-other ms (x % places) i true false e ∙ h))
-        (getD-set-same ms (x % places) true false l)
+        let l : place x < length ms = let m = noted .marks in let h : x < number-range = rw own (number-small ks ss r) in omega arith in
+        note (set ms (place x) true) (length-set ms (place x) true ∙ noted .marks)
+        (λ i h. by-equal i (place x) (λ e. rw e (getD-set-same ms (place x) true false l)) (λ e. getD-set-other ms (place x) i true false e ∙ h))
+        (getD-set-same ms (place x) true false l)
 
     -- .. and would be among the numbers after r
     other-apart : any (eqb x) (take (resources-in ws + 1 - (r + 1)) (drop (r + 1) (set ns r x))) ≡ false → apart-after ws ss r ≡ true
@@ -110,12 +109,12 @@ module _ (ws ss ks ns : List ℕ) (ms : List Bool) (r : ℕ) (noted : Noted ws s
 
     module _ {w : ℕ} (widened : w ≡ x) where
       -- its place was not marked, and is now
-      pub tells-new : not (getD ms (w % places) false) ≡ true → Tells ws ss ks (set ns r x) (set ms (w % places) true) r true
-      tells-new h = rw widened (record { answer = sym (new-apart (rw widened at (not-true (getD ms (w % places) false) h))); next = new-noted })
+      pub tells-new : not (getD ms (place w) false) ≡ true → Tells ws ss ks (set ns r x) (set ms (place w) true) r true
+      tells-new h = rw widened (record { answer = sym (new-apart (rw widened at (not-true (getD ms (place w) false) h))); next = new-noted })
 
-      module _ (met : not (getD ms (w % places) false) ≡ false) where
+      module _ (met : not (getD ms (place w) false) ≡ false) where
         met-noted : Noted ws ss ks (set ns r x) ms (r - 1)
-        met-noted = note ms (noted .marks) (λ i h. h) (rw widened at (not-false (getD ms (w % places) false) met))
+        met-noted = note ms (noted .marks) (λ i h. h) (rw widened at (not-false (getD ms (place w) false) met))
 
         -- another number marked it
         pub tells-other : {n v : ℕ} {m : Bool} → n ≡ resources-in ws → v ≡ n → m ≡ any (eqb x) (take (v + 1 - (r + 1)) (drop (r + 1) (set ns r x))) → not m ≡ true

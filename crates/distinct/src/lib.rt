@@ -26,9 +26,6 @@ const FEW: u32 = 8;
 // The number of each name, at its resource's number.
 const NUMBERS: usize = MOST_RESOURCES + 1;
 
-// Marks for the numbers that were met, each at its remainder by this prime.
-const PLACES: usize = 1009;
-
 const NAME_WORDS: usize = NAME_BYTES / WORD_BYTES;
 
 // What the words of a name count for in its number: any do, and these tell names that are much alike. They are odd, so
@@ -55,6 +52,12 @@ const WEIGHTS: [u16; NAME_WORDS] = [
 // A number has 32 bits: the lower half of the sum.
 const NUMBER_RANGE: u64 = 4294967296;
 
+// Marks for the numbers that were met, each at its number's leading twelve bits: these depend on all bytes of a name. There
+// are more places than names, so that a place is seldom marked already if the numbers are spread evenly.
+const PLACES: usize = 4096;
+
+const PLACE_STEP: usize = NUMBER_RANGE as usize / PLACES;
+
 // Resources r and s are not two of one name.
 fn apart(words: &[u32], slots: &[u8], r: u32, s: u32) -> bool
     requires { ⌜ Named (now words) (now slots) ⌝ }
@@ -69,12 +72,15 @@ fn apart(words: &[u32], slots: &[u8], r: u32, s: u32) -> bool
     !((own != 0) & alike)
 }
 
-// No resource after r has its name: each is compared.
+// No resource after r has its name: each is compared, unless r has none.
 fn compare_after(words: &[u32], slots: &[u8], r: u32) -> bool
     requires { ⌜ Named (now words) (now slots) ⌝ }
     requires { ⌜ (1 ≤ r) × (r ≤ resources-in (now words)) ⌝ }
     ensures { λ x. ⌜ x ≡ apart-after (now (words .entry)) (now (slots .entry)) r ⌝ }
 {
+    if name_length(words, r) == 0 {
+        return true;
+    }
     let n = resource_count(words);
     let mut s = r + 1;
     while s <= n {
@@ -174,7 +180,7 @@ fn new_name(
     }
     let x = number(slots, weights, r);
     numbers[r as usize] = x;
-    let place = wide(x) % PLACES;
+    let place = wide(x) / PLACE_STEP;
     if !met[place] {
         met[place] = true;
         return true;

@@ -1,4 +1,4 @@
--- The ways out of image and load_by.
+-- The ways out of image and load_from.
 use mathlib.Core.Path.{_≡_, refl, sym, ap, ap₂, _∙_}
 use mathlib.Core.Bool.{Bool, true, false, _&&_, not}
 use mathlib.Core.List.{List, _++_, append-nil}
@@ -15,10 +15,10 @@ use Rattle.tables.proofs.Cases.{and-left, and-right}
 use Rattle.rules.specs.Calls.{unless}
 use Rattle.rules.specs.Images.{image-bytes, image-refusal, image-into, image-entry, image-size, image-words, image-slots, image-sound, load-refusal, load-into, load-entry}
 use Rattle.answers.specs.Answers.{accepted, refused, outcome}
-use Rattle.encoding.specs.Bytes.{encoded, decoded}
+use Rattle.encoding.specs.Bytes.{encoded}
 use Rattle.encoding.proofs.Loops.{length-encoded}
-use Rattle.image.specs.Contracts.{imaged, Unpacked}
-use Rattle.image.proofs.Measuring.{words-decoded, rest-slots, unpacked-not, unpacked-sound, unpacked-size}
+use Rattle.image.specs.Contracts.{imaged, Decoded}
+use Rattle.image.proofs.Measuring.{rest-slots, decoded-words, decoded-size}
 
 -- image
 module _ (ws ss area : List ℕ) (x : Bool) (ex : x ≡ sound ws ss) where
@@ -63,28 +63,25 @@ module _ (ws area : List ℕ) (m : ℕ) (long : length area ≡ 4 * length ws + 
 
 pub ruleset imaging = (needs, image-unsound, image-misfit, image-made, area-front, area-words)
 
--- load_by
+-- load_from
 pub both-fit : (a b : ℕ) (y : Bool) → not (eqb a b && y) ≡ false → a ≡ b
 both-fit a b y h = eqb-true a b (and-left _ _ (not-false (eqb a b && y) h))
 
-module _ (bs zs ws ss : List ℕ) (x : Bool) (u : Unpacked bs zs x) where
+module _ (bs zs ws ss : List ℕ) (x : Bool) (ex : x ≡ image-sound bs) where
   pub load-unsound : not x ≡ true → outcome (refused 1) ws ss ≡ load-entry bs ws ss
   unfolding load-entry load-refusal unless load-into
-  load-unsound h = rw (unpacked-not bs zs x u h)
+  load-unsound h = let s : image-sound bs ≡ false = sym ex ∙ not-true x h in rw s
 
-  module _ (right : not x ≡ false) where
+  module _ (right : not x ≡ false) (d : Decoded bs zs) where
     sound-here : image-sound bs ≡ true
-    sound-here = unpacked-sound bs zs x u right
-
-    size-here : length zs ≡ image-size bs
-    size-here = unpacked-size bs zs x u right
+    sound-here = sym ex ∙ not-false x right
 
     words-long : length (image-words bs) ≡ length zs
-    words-long = sym (ap length (u .there (not-false x right)))
+    words-long = sym (ap length (decoded-words bs zs d sound-here))
 
     slots-long : length (image-slots bs) ≡ length bs - 4 * length zs
     unfolding image-slots
-    slots-long = length-drop (4 * image-size bs) bs ∙ ap (λ (k : ℕ). length bs - 4 * k) (sym size-here)
+    slots-long = length-drop (4 * image-size bs) bs ∙ ap (λ (k : ℕ). length bs - 4 * k) (sym (decoded-size bs zs d sound-here))
 
     pub load-misfit : not (eqb (length ws) (length zs) && eqb (length ss) (length bs - 4 * length zs)) ≡ true → outcome (refused 14) ws ss ≡ load-entry bs ws ss
     unfolding load-entry load-refusal unless load-into
@@ -94,24 +91,20 @@ module _ (bs zs ws ss : List ℕ) (x : Bool) (u : Unpacked bs zs x) where
       both : (eqb (length ws) (length zs) && eqb (length ss) (length bs - 4 * length zs)) ≡ true
       both = not-false (eqb (length ws) (length zs) && eqb (length ss) (length bs - 4 * length zs)) fit
 
-      words-fit : length ws ≡ length zs
-      words-fit = both-fit (length ws) (length zs) _ fit
-
       slots-fit : length ss ≡ length bs - 4 * length zs
       slots-fit = eqb-true (length ss) (length bs - 4 * length zs) (and-right (eqb (length ws) (length zs)) _ both)
 
       part-is : take (length bs - 4 * length zs) (drop (4 * length zs) bs) ≡ image-slots bs
-      part-is = rest-slots bs (length zs) size-here
+      part-is = rest-slots bs (length zs) (decoded-size bs zs d sound-here)
 
       pub load-slots : length ss ≡ length (take (length bs - 4 * length zs) (drop (4 * length zs) bs))
       load-slots = slots-fit ∙ sym slots-long ∙ ap length (sym part-is)
 
-      pub load-done : (vs ts : List ℕ) → vs ≡ decoded bs (length ws) → ts ≡ take (length bs - 4 * length zs) (drop (4 * length zs) bs)
+      pub load-done : (vs ts : List ℕ) → vs ≡ zs → ts ≡ take (length bs - 4 * length zs) (drop (4 * length zs) bs)
           → outcome (accepted 0 0) vs ts ≡ load-entry bs ws ss
       unfolding load-entry load-refusal unless load-into
       load-done vs ts ev et =
-          let a : vs ≡ image-words bs = ev ∙ ap (decoded bs) (words-fit ∙ size-here) ∙ sym (words-decoded bs) in
-          let b : ts ≡ image-slots bs = et ∙ part-is in
-          rw (sound-here, words-long, slots-long, both) (ap₂ (outcome (accepted 0 0)) a b)
+          rw (sound-here, words-long, slots-long, both)
+          (ap₂ (outcome (accepted 0 0)) (ev ∙ decoded-words bs zs d sound-here) (et ∙ part-is))
 
 pub ruleset loading = (needs, load-unsound, load-misfit, load-slots, load-done)

@@ -1,14 +1,14 @@
 -- What the bytes of an image say: how many words it has, which they are, and whether they are those of sound tables.
 use mathlib.Core.Path.{_≡_, refl, sym, ap, ap₂, _∙_}
 use mathlib.Core.Bool.{Bool, true, false, _&&_, not}
-use mathlib.Core.List.{List}
+use mathlib.Core.List.{List, _++_}
 use Prim.Native.Nat.{ℕ, _+_, _*_, _-_, _<_, _≤_, _^_}
 use native.Mathlib.Omega.{arith}
 use borrow.Author.Needs.{needs}
 use borrow.Author.Tests.{leb-true, le-leb, eqb-true, eq-eqb, not-true, not-false}
 use lib.Dec.{leb}
-use lib.ListN.{length, take, drop, replicate, length-drop, length-replicate}
-use lib.Seq.{take-all, length-take-le}
+use lib.ListN.{length, take, drop, replicate, length-drop, length-append, length-replicate}
+use lib.Seq.{take-all, take-at, length-take-le}
 use Rattle.tables.specs.Layout.{slot-width, resources-in, locks-in}
 use Rattle.tables.specs.Sound.{sound}
 use Rattle.tables.proofs.Blocks.{getD-map-from}
@@ -17,7 +17,7 @@ use Rattle.tables.proofs.Conditions.{resources-low, resources-high, locks-low, 
 use Rattle.rules.specs.Images.{word-from, image-size, image-words, image-slots, image-sound}
 use Rattle.encoding.specs.Bytes.{decoded}
 use Rattle.encoding.proofs.Loops.{length-decoded}
-use Rattle.image.specs.Contracts.{measures, Measured, Unpacked}
+use Rattle.image.specs.Contracts.{measures, Measured, Decoded}
 
 module _ (bs : List ℕ) where
   -- the first two words
@@ -137,57 +137,67 @@ module _ (bs : List ℕ) where
 
 pub ruleset measuring = (needs, words-short, words-beyond, words-misfit, words-fit)
 
--- unpack: an image that has no words is none of sound tables
-module _ (bs buffer zs : List ℕ) (m : Measured bs (length buffer)) (ez : zs ≡ decoded bs (length buffer))
-    (x : Bool) (ex : x ≡ sound zs (take (length bs - 4 * length zs) (drop (4 * length zs) bs))) where
-  read-long : length zs ≡ length buffer
-  read-long = ap length ez ∙ length-decoded bs (length buffer)
-
-  unsized : measures bs ≡ false → x ≡ image-sound bs
-  unsized h =
-      let none : length zs ≡ 0 = read-long ∙ rw h at (m .many) in
-      by-cases x
-      (λ s. absurd (omega (arith, words-sized zs _ (sym ex ∙ s))))
-      (λ s. s ∙ sym (not-sound bs h))
-
+-- is_sound: an image that has no words is none of sound tables
+module _ (bs zs : List ℕ) (d : Decoded bs zs) where
   module _ (h : measures bs ≡ true) where
-    buffer-is : length buffer ≡ image-size bs
-    buffer-is = rw h at (m .many)
+    size-there : length zs ≡ image-size bs
+    size-there = rw h at (d .measured .many)
 
-    read-all : zs ≡ image-words bs
-    read-all = ez ∙ ap (decoded bs) buffer-is ∙ sym (words-decoded bs)
+    words-there : zs ≡ image-words bs
+    words-there = d .read ∙ ap (decoded bs) size-there ∙ sym (words-decoded bs)
 
-    sized : x ≡ image-sound bs
-    sized = ex ∙ ap₂ sound read-all (rest-slots bs (length zs) (read-long ∙ buffer-is)) ∙ sym (sound-is bs h)
+  module _ (x : Bool) (ex : x ≡ sound zs (take (length bs - 4 * length zs) (drop (4 * length zs) bs))) where
+    unsized : measures bs ≡ false → x ≡ image-sound bs
+    unsized h =
+        let none : length zs ≡ 0 = rw h at (d .measured .many) in
+        by-cases x
+        (λ s. absurd (omega (arith, words-sized zs _ (sym ex ∙ s))))
+        (λ s. s ∙ sym (not-sound bs h))
 
-  told : x ≡ image-sound bs
-  told = by-cases (measures bs) sized unsized
+    sized : measures bs ≡ true → x ≡ image-sound bs
+    sized h = ex ∙ ap₂ sound (words-there h) (rest-slots bs (length zs) (size-there h)) ∙ sym (sound-is bs h)
 
-  pub unpacked : Unpacked bs zs x
-  unpacked = record { tells = told; there = λ s. read-all (measured bs (sound-measure bs (sym told ∙ s))) }
+    pub sound-told : x ≡ image-sound bs
+    sound-told = by-cases (measures bs) sized unsized
 
-pub ruleset unpacking = (needs, unpacked)
+  -- where it is sound, these are its words, and they end where its slots start
+  module _ (s : image-sound bs ≡ true) where
+    pub decoded-words : zs ≡ image-words bs
+    decoded-words = words-there (measured bs (sound-measure bs s))
 
--- what an unpacked image is
-module _ (bs zs : List ℕ) (x : Bool) (u : Unpacked bs zs x) where
-  pub unpacked-not : not x ≡ true → image-sound bs ≡ false
-  unpacked-not h = sym (u .tells) ∙ not-true x h
+    pub decoded-size : length zs ≡ image-size bs
+    decoded-size = size-there (measured bs (sound-measure bs s))
 
-  module _ (right : not x ≡ false) where
-    pub unpacked-sound : image-sound bs ≡ true
-    unpacked-sound = sym (u .tells) ∙ not-false x right
+pub ruleset judging = (needs, sound-told)
 
-    pub unpacked-size : length zs ≡ image-size bs
-    unpacked-size = ap length (u .there (not-false x right) ∙ words-decoded bs) ∙ length-decoded bs (image-size bs)
+-- load and holder: the front of a buffer has room for just the words, and then holds them
+module _ (n size : ℕ) (h : n ≤ size) where
+  front-long : length (take n (replicate {A = ℕ} size 0)) ≡ n
+  front-long = length-take-le n (replicate {A = ℕ} size 0) (rw length-replicate h)
 
--- load and holder: the front of a buffer has room for just the words
-front-long : (n size : ℕ) → n ≤ size → length (take n (replicate {A = ℕ} size 0)) ≡ n
-front-long n size h = length-take-le n (replicate {A = ℕ} size 0) (rw length-replicate h)
+  pub front-room : n ≡ length (take n (replicate {A = ℕ} size 0))
+  front-room = sym front-long
 
-pub front-room : (n size : ℕ) → n ≤ size → n ≡ length (take n (replicate {A = ℕ} size 0))
-front-room n size h = sym (front-long n size h)
+  pub front-inside : (bs : List ℕ) → Measured bs n → 4 * length (take n (replicate {A = ℕ} size 0)) ≤ length bs
+  front-inside bs m = rw front-long (m .inside)
 
-pub front-measured : (bs : List ℕ) (n size : ℕ) → Measured bs n → n ≤ size → Measured bs (length (take n (replicate {A = ℕ} size 0)))
-front-measured bs n size m h = rw (front-long n size h) m
+  module _ (bs zs : List ℕ) (e : zs ≡ decoded bs (length (take n (replicate {A = ℕ} size 0)))) where
+    front-is : zs ≡ decoded bs n
+    front-is = e ∙ ap (decoded bs) front-long
 
-pub ruleset lending = (needs, front-room, front-measured)
+    zs-long : length zs ≡ n
+    zs-long = ap length front-is ∙ length-decoded bs n
+
+    front-again : take n (zs ++ drop n (replicate {A = ℕ} size 0)) ≡ zs
+    front-again = take-at zs (drop n (replicate {A = ℕ} size 0)) n zs-long
+
+    pub front-there : n ≤ length (zs ++ drop n (replicate {A = ℕ} size 0))
+    front-there = rw length-append (omega (arith, zs-long))
+
+    pub front-whole : n ≡ length (take n (zs ++ drop n (replicate {A = ℕ} size 0)))
+    front-whole = sym zs-long ∙ ap length (sym front-again)
+
+    pub front-decoded : Measured bs n → Decoded bs (take n (zs ++ drop n (replicate {A = ℕ} size 0)))
+    front-decoded m = rw front-again (record { measured = rw zs-long m; read = rw zs-long front-is })
+
+pub ruleset lending = (needs, front-room, front-inside, front-there, front-whole, front-decoded)

@@ -1,13 +1,14 @@
 -- What the functions on images stand on, and what they say.
 use mathlib.Core.Path.{_≡_}
-use mathlib.Core.Bool.{Bool, true, cond, _&&_}
+use mathlib.Core.Bool.{Bool, cond, _&&_}
 use mathlib.Core.List.{List}
 use Prim.Native.Nat.{ℕ, _*_, _≤_}
 use lib.ListN.{length}
 use lib.Dec.{eqb, leb}
 use Rattle.tables.specs.Layout.{size, slot-width}
-use Rattle.rules.specs.Images.{Imaged, image-length, word-from, image-size, image-words, image-sound}
+use Rattle.rules.specs.Images.{Imaged, image-length, word-from, image-size}
 use Rattle.answers.specs.Answers.{Numbers}
+use Rattle.encoding.specs.Bytes.{decoded}
 
 -- the answer, and what the lent area then holds
 abbrev pub imaged : Numbers → List ℕ → Imaged
@@ -29,7 +30,7 @@ pub record Measured (bs : List ℕ) (n : ℕ) : Type 0 where
   pub inside : 4 * n ≤ length bs
   pub few : n ≤ most-words
 
--- x tells whether it is an image of sound tables; if so, these are its words
-pub record Unpacked (bs ws : List ℕ) (x : Bool) : Type 0 where
-  pub tells : x ≡ image-sound bs
-  pub there : x ≡ true → ws ≡ image-words bs
+-- ws are the words that it has
+pub record Decoded (bs ws : List ℕ) : Type 0 where
+  pub measured : Measured bs (length ws)
+  pub read : ws ≡ decoded bs (length ws)

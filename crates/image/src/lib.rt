@@ -10,17 +10,17 @@ use refusals::UNSOUND;
 use soundness::sound;
 ghost use mathlib.Core.Path.{_≡_};
 ghost use lib.ListN.{length};
-ghost use Rattle.rules.specs.Images.{«image-entry», «load-entry»};
+ghost use Rattle.rules.specs.Images.{«image-sound», «image-entry», «load-entry»};
 ghost use Rattle.answers.specs.Answers.{done, outcome};
-ghost use Rattle.image.specs.Contracts.{imaged, Measured, Unpacked};
+ghost use Rattle.image.specs.Contracts.{imaged, Measured, Decoded};
 
 // The words of the largest tables.
 pub const MOST_WORDS: usize = fields::HEADER_WORDS
     + fields::RESOURCE_WORDS * fields::MOST_RESOURCES
     + fields::LOCK_WORDS * fields::MOST_LOCKS;
 
-// The smaller buffers. A buffer is cleared each time, so an image's words go to the smallest that has room for them.
-pub const SMALL_WORDS: usize = 256;
+// The smaller buffers. What decoding leaves over is cleared, so an image's words go to the smallest that has room for them.
+pub const SMALL_WORDS: usize = 128;
 
 pub const MIDDLE_WORDS: usize = 3072;
 
@@ -62,48 +62,62 @@ pub fn words_in(image: &[u8]) -> usize
     n
 }
 
-// The buffer, as long as words_in says, becomes the image's words. Tells whether it is an image of sound tables: an image
-// with no words isn't.
-pub fn unpack(image: &[u8], buffer: &mut [u32]) -> bool
-    requires { ⌜ Measured (now image) (length (now buffer)) ⌝ }
-    ensures { λ x. ⌜ Unpacked (now (image .entry)) (now (buffer .exit)) x ⌝ }
+// Whether it is an image of sound tables. `decoded` holds its words: an image with no words isn't one.
+pub fn is_sound(image: &[u8], decoded: &[u32]) -> bool
+    requires { ⌜ Decoded (now image) (now decoded) ⌝ }
+    ensures { λ x. ⌜ x ≡ image-sound (now (image .entry)) ⌝ }
 {
-    decode(image, buffer);
-    let start = WORD_BYTES * buffer.len();
-    sound(buffer, &image[start..])
+    let start = WORD_BYTES * decoded.len();
+    sound(decoded, &image[start..])
 }
 
-// The tables, which may hold anything before, become those of the image. Nothing lent changes where it is refused, so
-// the image's words are first looked at in a buffer, which is as long as words_in says.
-fn load_by(image: &[u8], buffer: &mut [u32], words: &mut [u32], slots: &mut [u8]) -> Done
-    requires { ⌜ Measured (now image) (length (now buffer)) ⌝ }
+// The words d become the words s, which are as many.
+fn copy_words(d: &mut [u32], s: &[u32])
+    requires { ⌜ length (now d) ≡ length (now s) ⌝ }
+    ensures { λ _. ⌜ now (d .exit) ≡ now (s .entry) ⌝ }
+{
+    let mut i = 0;
+    while i < s.len() {
+        d[i] = s[i];
+        i += 1;
+    }
+}
+
+// The tables, which may hold anything before, become those of the image, whose words `decoded` holds. Nothing lent changes
+// where it is refused.
+fn load_from(image: &[u8], decoded: &[u32], words: &mut [u32], slots: &mut [u8]) -> Done
+    requires { ⌜ Decoded (now image) (now decoded) ⌝ }
     ensures { λ r. ⌜ outcome (done r) (now (words .exit)) (now (slots .exit)) ≡ load-entry (now (image .entry)) (now (words .entry)) (now (slots .entry)) ⌝ }
 {
-    if !unpack(image, buffer) {
+    if !is_sound(image, decoded) {
         return Done::Refused(NO_IMAGE);
     }
-    let start = WORD_BYTES * buffer.len();
-    if !((words.len() == buffer.len()) & (slots.len() == image.len() - start)) {
+    let start = WORD_BYTES * decoded.len();
+    if !((words.len() == decoded.len()) & (slots.len() == image.len() - start)) {
         return Done::Refused(LENGTHS);
     }
-    decode(image, words);
+    copy_words(words, decoded);
     names::copy(slots, &image[start..]);
     Done::Accepted
 }
 
-// The same by a buffer for these words.
+// The same, the image's words in a buffer. They are decoded where the buffer is made: so it is known to be no one else's,
+// and to need no clearing where words go.
 pub fn load(image: &[u8], words: &mut [u32], slots: &mut [u8]) -> Done
     ensures { λ r. ⌜ outcome (done r) (now (words .exit)) (now (slots .exit)) ≡ load-entry (now (image .entry)) (now (words .entry)) (now (slots .entry)) ⌝ }
 {
     let n = words_in(image);
     if n <= SMALL_WORDS {
         let mut buffer = [0; SMALL_WORDS];
-        return load_by(image, &mut buffer[..n], words, slots);
+        decode(image, &mut buffer[..n]);
+        return load_from(image, &buffer[..n], words, slots);
     }
     if n <= MIDDLE_WORDS {
         let mut buffer = [0; MIDDLE_WORDS];
-        return load_by(image, &mut buffer[..n], words, slots);
+        decode(image, &mut buffer[..n]);
+        return load_from(image, &buffer[..n], words, slots);
     }
     let mut buffer = [0; MOST_WORDS];
-    load_by(image, &mut buffer[..n], words, slots)
+    decode(image, &mut buffer[..n]);
+    load_from(image, &buffer[..n], words, slots)
 }

@@ -15,8 +15,11 @@ use Rattle.rules.specs.Entries.{if-sound, entry, Call, step-of, to-request, to-
 use Rattle.rules.proofs.Lists.{out-of, outcome-is}
 use Rattle.rules.proofs.Passing.{Requestable, Releasable, Convertible, Cancellable, Purgeable, request-passed, convert-passed, release-passed, cancel-passed, purge-passed}
 use Rattle.access.specs.Contracts.{Some, Tells}
+use Rattle.names.specs.Names.{find-in}
+use Rattle.names.specs.Standing.{Named}
+use Rattle.names.proofs.States.{core-named, find-is}
 use Rattle.queues.specs.Contracts.{Lent}
-use Rattle.refusals.specs.Contracts.{TellsBoth}
+use Rattle.refusals.specs.Contracts.{Finds}
 use Rattle.answers.specs.Answers.{Numbers, refused, outcome}
 use Rattle.answers.specs.Contracts.{Makes, MakesWords}
 
@@ -58,6 +61,14 @@ unfolding refused-or
 refused-step zero s t z = absurd (z refl)
 refused-step (suc n) s t z = refl
 
+-- the names in a state's words and slots can be read, and what is found there is what the state has
+module _ (t : Tables) (core : Core t) (ws ss : List ℕ) (words-are : ws ≡ words t) (slots-are : ss ≡ slots t) where
+  named-at : Named ws ss
+  named-at = rw (words-are, slots-are) (core-named t core)
+
+  finds-at : (n : List ℕ) (r : ℕ) → r ≡ find-in ws ss n → Finds n r t
+  finds-at n r e = record { core = core; found = e ∙ (rw (words-are, slots-are) (find-is t core n)) }
+
 module _ (ws ss : List ℕ) (b : Bool) (checked : b ≡ sound ws ss) where
   pub entry-unsound : (call : Call) → not b ≡ true → outcome (refused 1) ws ss ≡ call-entry call ws ss
   unfolding call-entry entry if-sound
@@ -82,8 +93,8 @@ module _ (ws ss : List ℕ) (b : Bool) (checked : b ≡ sound ws ss) where
     pub entry-core : Some Core ws
     entry-core = record { state = t; good = val .core; is = words-are }
 
-    pub entry-lent : Lent Core ws ss
-    entry-lent = record { state = t; good = val .core; is = words-are; slots-are = slots-are }
+    pub entry-named : Named ws ss
+    entry-named = named-at t (val .core) ws ss words-are slots-are
 
     pub entry-valid : Some Valid ws
     entry-valid = record { state = t; good = val; is = words-are }
@@ -125,19 +136,26 @@ module _ (ws ss : List ℕ) (b : Bool) (checked : b ≡ sound ws ss) where
     told-by n en = en .then t (val .core) words-are
 
     -- REQUEST
-    module _ (c m f : ℕ) (name : List ℕ) (n : ℕ) (en : TellsBoth Core (request-refusal c m f name) ws ss n) where
-      request-number : n ≡ request-refusal c m f name t
-      request-number = en .then t (val .core) words-are slots-are
+    module _ (name : List ℕ) (r : ℕ) (er : r ≡ find-in ws ss name) where
+      finds : Finds name r t
+      finds = finds-at t (val .core) ws ss words-are slots-are name r er
 
-      pub request-refused : (n ≡ 0 → ⊥) → outcome (refused n) ws ss ≡ request-entry ws ss c m f name
-      request-refused = refused-by (request-ruled c m f name) n request-number
+      pub request-finds : Some (Finds name r) ws
+      request-finds = record { state = t; good = finds; is = words-are }
 
-      pub request-lent : n ≡ 0 → Lent (Requestable c m name) ws ss
-      request-lent = lent-for (request-ruled c m f name) n request-number
+      module _ (c m f n : ℕ) (en : Tells (Finds name r) (request-refusal c m f name) ws n) where
+        request-number : n ≡ request-refusal c m f name t
+        request-number = en .then t finds words-are
 
-      pub request-made : n ≡ 0 → (ds es : List ℕ) (x : Numbers) → Makes (Requestable c m name) (request-change c m name) ws ss ds es x
-          → outcome x ds es ≡ request-entry ws ss c m f name
-      request-made = made-by (request-ruled c m f name) n request-number
+        pub request-refused : (n ≡ 0 → ⊥) → outcome (refused n) ws ss ≡ request-entry ws ss c m f name
+        request-refused = refused-by (request-ruled c m f name) n request-number
+
+        pub request-lent : n ≡ 0 → Lent (Requestable c m name) ws ss
+        request-lent = lent-for (request-ruled c m f name) n request-number
+
+        pub request-made : n ≡ 0 → (ds es : List ℕ) (x : Numbers) → Makes (Requestable c m name) (request-change c m name) ws ss ds es x
+            → outcome x ds es ≡ request-entry ws ss c m f name
+        request-made = made-by (request-ruled c m f name) n request-number
 
     -- RELEASE
     module _ (c k f : ℕ) (v : List ℕ) (n : ℕ) (en : Tells Core (release-refusal c k f v) ws n) where
@@ -205,8 +223,9 @@ pub ruleset entering = (
   needs,
   entry-unsound,
   entry-core,
-  entry-lent,
+  entry-named,
   entry-valid,
+  request-finds,
   request-refused,
   request-lent,
   request-made,

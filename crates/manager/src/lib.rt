@@ -7,18 +7,12 @@ use answers::Done;
 use answers::Polled;
 use answers::Purged;
 use answers::Requested;
-use fields::lock_word;
-use fields::resource_word;
-use names::VALUE_BYTES;
 use refusals::SIZES;
 use refusals::UNSOUND;
 use soundness::sound;
 ghost use mathlib.Core.Path.{_≡_};
-ghost use Rattle.rules.specs.Entries.{«start-entry», «read-entry», «request-entry», «convert-entry», «release-entry», «cancel-entry», «purge-entry», «break-entry», «poll-entry»};
-ghost use Rattle.queues.specs.Contracts.{Lent};
-ghost use Rattle.refusals.specs.Contracts.{TellsBoth};
+ghost use Rattle.rules.specs.Entries.{«start-entry», «request-entry», «convert-entry», «release-entry», «cancel-entry», «purge-entry», «break-entry», «poll-entry»};
 ghost use Rattle.answers.specs.Answers.{requested, converted, done, cancelled, purged, broken, polled, outcome};
-ghost use Rattle.manager.specs.Reads.{reading, unread, Placed, «value-beside»};
 
 // The lent tables become fresh ones: all records free, chained upward. They may hold anything before.
 pub fn start(words: &mut [u32], slots: &mut [u8], resources: u32, locks: u32) -> Done
@@ -32,7 +26,7 @@ pub fn start(words: &mut [u32], slots: &mut [u8], resources: u32, locks: u32) ->
     Done::Accepted
 }
 
-// A lock of a mode on a name: granted at once, or it waits.
+// A lock of a mode on a name: granted at once, or it waits. The name is looked up once, for its refusals and its change.
 pub fn request(
     words: &mut [u32],
     slots: &mut [u8],
@@ -46,11 +40,12 @@ pub fn request(
     if !sound(words, slots) {
         return Requested::Refused(UNSOUND);
     }
-    let refusal = refusals::request_refusal(words, slots, client, mode, flags, name);
+    let found = names::find(words, slots, name);
+    let refusal = refusals::request_refusal(words, found, client, mode, flags, name);
     if refusal != 0 {
         return Requested::Refused(refusal);
     }
-    requests::request_change(words, slots, client, mode, name)
+    requests::request_change(words, slots, found, client, mode, name)
 }
 
 // A granted lock goes to another mode: in place, or it joins the convert queue.
@@ -147,48 +142,4 @@ pub fn poll(words: &mut [u32], slots: &[u8], client: u32) -> Polled
         return Polled::Refused(refusal);
     }
     notices::poll_change(words, client)
-}
-
-// What a read gives: a refusal or 0, and the value block with its validity, zeros where refused.
-pub struct ValueRead {
-    pub refusal: u32,
-    pub value: [u8; VALUE_BYTES],
-    pub valid: u32,
-}
-
-fn not_read(refusal: u32) -> ValueRead
-    ensures { λ r. ⌜ reading r ≡ unread refusal ⌝ }
-{
-    ValueRead {
-        refusal: refusal,
-        value: [0; VALUE_BYTES],
-        valid: 0,
-    }
-}
-
-// The value of the resource on which the lock k stands.
-fn value_of(words: &[u32], slots: &[u8], k: u32) -> ValueRead
-    requires { ⌜ Lent (Placed k) (now words) (now slots) ⌝ }
-    ensures { λ r. ⌜ TellsBoth (Placed k) (value-beside k) (now (words .entry)) (now (slots .entry)) (reading r) ⌝ }
-{
-    let r = lock_word(words, k, fields::LOCK_RESOURCE);
-    ValueRead {
-        refusal: 0,
-        value: names::value_at(slots, r),
-        valid: resource_word(words, r, fields::RESOURCE_VALID),
-    }
-}
-
-// The value block of a lock's resource.
-pub fn read(words: &[u32], slots: &[u8], client: u32, lock: u32) -> ValueRead
-    ensures { λ r. ⌜ reading r ≡ read-entry (now (words .entry)) (now (slots .entry)) client lock ⌝ }
-{
-    if !sound(words, slots) {
-        return not_read(UNSOUND);
-    }
-    let refusal = refusals::look_refusal(words, client, lock);
-    if refusal != 0 {
-        return not_read(refusal);
-    }
-    value_of(words, slots, lock)
 }

@@ -1,21 +1,17 @@
--- Laws of modes, of down conversions, of sets of modes, and of the mode that a number makes. Assumes nothing.
+-- Laws of modes, of down conversions, of sets of modes, and of the rows of the table. Assumes nothing.
 use mathlib.Core.Path.{_≡_, _∙_, refl, sym, ap}
 use mathlib.Core.Bool.{Bool, true, false, _&&_, _||_, not}
 use mathlib.Core.List.{List, []}
-use Prim.Native.Nat.{ℕ, zero, suc, _-_, _*_, _%_, _^_, _≤_, _<_}
+use Prim.Native.Nat.{ℕ, zero, suc, _-_, _*_, _/_, _%_, _^_, _≤_, _<_}
 use native.Mathlib.Omega.{arith}
 use lib.Bits.{bitAnd, bitOr}
 use lib.Dec.{eqb, leb, ltb}
 use lib.ListN.{getD, length, List·getD-eq-default}
 use borrow.Author.Needs.{needs}
-use borrow.Author.Tests.{ltb-true, leb-true, eqb-true, le-leb, lt-ltb, lt-leb}
-use Rattle.modes.specs.declared.Made.{Made}
-use Rattle.modes.specs.declared.Made.the-variants.{Mode, Refused}
-use Rattle.modes.specs.declared.Mode as declared
+use borrow.Author.Tests.{ltb-true, leb-true, eqb-true, le-leb, lt-ltb}
 use Rattle.modes.specs.Modes.{rows, compatible, all-modes, down}
-use Rattle.modes.specs.Sets.{in-set, set-of, against, fits-set, with-mode}
-use Rattle.modes.specs.Made.{Numbers, numbers, made}
-use Rattle.modes.proofs.Table.{parts, by-range, below, below2, agree2, agree3}
+use Rattle.modes.specs.Sets.{in-set, set-of, against, fits-set, Row, with-mode}
+use Rattle.modes.proofs.Table.{parts, by-range, same, same-true, upto, below, below2, agree2, agree3}
 
 -- a number above 5 goes with none, held or asked
 pub none-held : (a b : ℕ) → 6 ≤ a → compatible a b ≡ false
@@ -58,11 +54,6 @@ pub down-use : (a b : ℕ) → down a b ≡ true → (x : ℕ) → x ≤ 5 → c
 unfolding down
 down-use a b h x l c = rw c at (all-modes-at (λ m. not (compatible a m) || compatible b m) h x l)
 
--- the same mode is down
-pub down-same : (m : ℕ) → m ≤ 5 → down m m ≡ true
-unfolding down all-modes compatible rows
-down-same m h = below (λ m. down m m) 6 refl m (omega arith)
-
 -- from PW or EX every conversion to a smaller number is down
 pub down-from-strong : (m n : ℕ) → 4 ≤ m → m ≤ 5 → n < m → down m n ≡ true
 unfolding down all-modes compatible rows
@@ -78,10 +69,6 @@ pub with-mode-small : (s m : ℕ) → s < 64 → m < 6 → with-mode s m < 64
 unfolding with-mode in-set
 with-mode-small s m hs hm = ltb-true (with-mode s m) 64 (below2 (λ s m. ltb (with-mode s m) 64) 64 6 refl s m hs hm)
 
-pub in-with : (s m n : ℕ) → s < 64 → m < 6 → n < 6 → in-set (with-mode s m) n ≡ (in-set s n || eqb n m)
-unfolding with-mode in-set
-in-with = agree3 (λ s m n. in-set (with-mode s m) n) (λ s m n. in-set s n || eqb n m) 64 6 6 refl
-
 pub fits-with : (s m a : ℕ) → s < 64 → m < 6 → a < 6 → fits-set (with-mode s m) a ≡ (fits-set s a && compatible m a)
 unfolding fits-set with-mode in-set all-modes compatible rows
 fits-with = agree3 (λ s m a. fits-set (with-mode s m) a) (λ s m a. fits-set s a && compatible m a) 64 6 6 refl
@@ -93,42 +80,19 @@ or-mode s m hs hm =
     eqb-true (bitOr s (1 * 2 ^ m % 4294967296)) (with-mode s m)
     (below2 (λ s m. eqb (bitOr s (1 * 2 ^ m % 4294967296)) (with-mode s m)) 64 6 refl s m hs hm)
 
--- no mode of the set is against the asked one
-pub and-fits : (s a r : ℕ) → s < 64 → a < 6 → r ≡ against a → eqb (bitAnd s r) 0 ≡ fits-set s a
-unfolding against set-of fits-set in-set all-modes compatible rows
-and-fits s a r hs ha e = rw e (agree2 (λ s a. eqb (bitAnd s (against a)) 0) fits-set 64 6 refl s a hs ha)
+-- a number is the row of mode m if its 64 digits pass one computed test
+pub is-row : (asked number m : ℕ) → asked ≡ m → upto 64 (λ s. same (eqb (bitAnd (number / 2 ^ s) 1) 1) (fits-set s m)) ≡ true → Row asked number
+is-row asked number m e t =
+    rw e
+    record {
+      digit = λ s h. same-true (eqb (bitAnd (number / 2 ^ s) 1) 1) (fits-set s m)
+          (below (λ s. same (eqb (bitAnd (number / 2 ^ s) 1) 1) (fits-set s m)) 64 t s h);
+    }
 
 -- no mode is against the new one and not against the old
 pub and-down : (a b x y : ℕ) → a < 6 → b < 6 → x ≡ against b → y ≡ against a → eqb (bitAnd x (4294967295 - y)) 0 ≡ down a b
 unfolding against set-of down all-modes compatible rows
 and-down a b x y ha hb e f = rw (e, f) (agree2 (λ a b. eqb (bitAnd (against b) (4294967295 - against a)) 0) down 6 6 refl a b ha hb)
 
--- what the returns of `fits` and `down` need
-pub ruleset bits = (needs, and-fits, and-down)
-
--- what a number makes: the mode of that number up to 5, and a refusal above
-made-low : (n : ℕ) → n < 6 → made n ≡ record { refusal = 0; mode = n }
-unfolding made
-made-low n h = let l : n ≤ 5 = omega arith in rw (le-leb n 5 l)
-
-made-high : (n : ℕ) → 6 ≤ n → made n ≡ record { refusal = 4; mode = 0 }
-unfolding made
-made-high n h = let l : 5 < n = omega arith in rw (lt-leb n 5 l)
-
-module _ (n : ℕ) (r : Made) where
-  pub mode-small : (m : declared.Mode) → r ≡ Mode m → numbers r ≡ made n → n < 6
-  unfolding numbers
-  mode-small m e h =
-      by-range n 6 (λ l. l)
-      (λ p. let z : 0 ≡ 4 = ap (λ (x : Numbers). x .refusal) (sym (ap numbers e) ∙ h ∙ made-high n p) in absurd (omega arith))
-
-  pub mode-number : (m : declared.Mode) → r ≡ Mode m → numbers r ≡ made n → m .0 ≡ n
-  unfolding numbers
-  mode-number m e h = ap (λ (x : Numbers). x .mode) (sym (ap numbers e) ∙ h ∙ made-low n (mode-small m e h))
-
-  pub refused-above : r ≡ Refused → numbers r ≡ made n → 5 < n
-  unfolding numbers
-  refused-above e h =
-      by-range n 6
-      (λ l. let z : 4 ≡ 0 = ap (λ (x : Numbers). x .refusal) (sym (ap numbers e) ∙ h ∙ made-low n l) in absurd (omega arith))
-      (λ p. p)
+-- what the return of `down` needs
+pub ruleset bits = (needs, and-down)

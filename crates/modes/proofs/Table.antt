@@ -2,13 +2,10 @@
 -- Assumes nothing.
 use mathlib.Core.Path.{_≡_, refl, subst, sym}
 use mathlib.Core.Bool.{Bool, true, false, _&&_}
-use mathlib.Core.List.{List}
 use mathlib.Core.Logic.{⊎-elim}
-use Prim.Native.Nat.{ℕ, zero, suc, _/_, _^_, _≤_, _<_}
+use Prim.Native.Nat.{ℕ, zero, suc, _≤_, _<_}
 use native.Mathlib.Nat.{eq-or-lt-of-le, le-of-suc-le-suc, not-suc-le-zero}
-use lib.Bits.{bitAnd}
-use lib.Dec.{eqb, ltb}
-use lib.ListN.{getD}
+use lib.Dec.{ltb}
 use borrow.Author.Tests.{ltb-true, ltb-false}
 
 pub and-left : (a b : Bool) → (a && b) ≡ true → a ≡ true
@@ -70,11 +67,3 @@ agree2 f g n m t a b ha hb = same-true (f a b) (g a b) (below2 (λ a b. same (f 
 pub agree3 : (f g : ℕ → ℕ → ℕ → Bool) (n m l : ℕ) → upto n (λ a. upto m (λ b. upto l (λ d. same (f a b d) (g a b d)))) ≡ true → (a b d : ℕ)
     → a < n → b < m → d < l → f a b d ≡ g a b d
 agree3 f g n m l t a b d ha hb hd = same-true (f a b d) (g a b d) (below3 (λ a b d. same (f a b d) (g a b d)) n m l t a b d ha hb hd)
-
--- a table whose rows are numbers, an entry in each bit, agrees with a rule at each entry
-abbrev pub entry-in : List ℕ → ℕ → ℕ → Bool
-entry-in rows a b = eqb (bitAnd (getD rows a 0 / 2 ^ b) 1) 1
-
-pub entry : (rule : ℕ → ℕ → Bool) (n m : ℕ) (rows : List ℕ) → upto n (λ a. upto m (λ b. same (entry-in rows a b) (rule a b))) ≡ true → (a b : ℕ) → a < n → b < m
-    → entry-in rows a b ≡ rule a b
-entry rule n m rows = agree2 (entry-in rows) rule n m

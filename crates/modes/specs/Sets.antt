@@ -1,6 +1,8 @@
 -- A set of modes is a number below 64: bit m says whether mode m is in it.
+use mathlib.Core.Path.{_≡_}
 use mathlib.Core.Bool.{Bool, cond, _||_, not}
-use Prim.Native.Nat.{ℕ, _+_, _/_, _%_, _^_}
+use Prim.Native.Nat.{ℕ, _+_, _/_, _%_, _^_, _<_}
+use lib.Bits.{bitAnd}
 use lib.Dec.{eqb}
 use Rattle.modes.specs.Modes.{all-modes, compatible}
 
@@ -22,6 +24,10 @@ against mode = set-of (λ m. not (compatible m mode))
 -- the asked mode is compatible with every mode of the set
 unfoldable pub fits-set : ℕ → ℕ → Bool
 fits-set set asked = all-modes (λ m. not (in-set set m) || compatible m asked)
+
+-- the number is the row of the asked mode in the table: its digit s tells whether the asked mode fits the set s
+pub record Row (asked number : ℕ) : Type 0 where
+  pub digit : (s : ℕ) → s < 64 → eqb (bitAnd (number / 2 ^ s) 1) 1 ≡ fits-set s asked
 
 -- the set with one mode more, or the same set if the mode is in it
 unfoldable pub with-mode : ℕ → ℕ → ℕ

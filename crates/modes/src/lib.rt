@@ -3,7 +3,7 @@
 ghost use mathlib.Core.Path.{_≡_};
 ghost use Prim.Native.Nat.{_<_};
 ghost use Rattle.modes.specs.Modes.{compatible, down};
-ghost use Rattle.modes.specs.Sets.{against, «fits-set», «with-mode»};
+ghost use Rattle.modes.specs.Sets.{against, «fits-set», Row, «with-mode»};
 ghost use Rattle.modes.specs.Made.{numbers, made};
 
 // A lock mode.
@@ -75,82 +75,41 @@ pub fn goes_with(held: u32, asked: u32) -> bool
     COMPATIBLE[held as usize][asked as usize]
 }
 
-// A row for each set of modes, a digit for each asked mode, EX to NL: whether it is compatible with every mode of the
-// set. Rows are numbers, since a constant is built in a local at each use.
-const FITS: [u8; 64] = [
-    0b11_1111, // 0: none
-    0b11_1111, // 1: NL
-    0b01_1111, // 2: CR
-    0b01_1111, // 3: NL CR
-    0b00_0111, // 4: CW
-    0b00_0111, // 5: NL CW
-    0b00_0111, // 6: CR CW
-    0b00_0111, // 7: NL CR CW
-    0b00_1011, // 8: PR
-    0b00_1011, // 9: NL PR
-    0b00_1011, // 10: CR PR
-    0b00_1011, // 11: NL CR PR
-    0b00_0011, // 12: CW PR
-    0b00_0011, // 13: NL CW PR
-    0b00_0011, // 14: CR CW PR
-    0b00_0011, // 15: NL CR CW PR
-    0b00_0011, // 16: PW
-    0b00_0011, // 17: NL PW
-    0b00_0011, // 18: CR PW
-    0b00_0011, // 19: NL CR PW
-    0b00_0011, // 20: CW PW
-    0b00_0011, // 21: NL CW PW
-    0b00_0011, // 22: CR CW PW
-    0b00_0011, // 23: NL CR CW PW
-    0b00_0011, // 24: PR PW
-    0b00_0011, // 25: NL PR PW
-    0b00_0011, // 26: CR PR PW
-    0b00_0011, // 27: NL CR PR PW
-    0b00_0011, // 28: CW PR PW
-    0b00_0011, // 29: NL CW PR PW
-    0b00_0011, // 30: CR CW PR PW
-    0b00_0011, // 31: NL CR CW PR PW
-    0b00_0001, // 32: EX
-    0b00_0001, // 33: NL EX
-    0b00_0001, // 34: CR EX
-    0b00_0001, // 35: NL CR EX
-    0b00_0001, // 36: CW EX
-    0b00_0001, // 37: NL CW EX
-    0b00_0001, // 38: CR CW EX
-    0b00_0001, // 39: NL CR CW EX
-    0b00_0001, // 40: PR EX
-    0b00_0001, // 41: NL PR EX
-    0b00_0001, // 42: CR PR EX
-    0b00_0001, // 43: NL CR PR EX
-    0b00_0001, // 44: CW PR EX
-    0b00_0001, // 45: NL CW PR EX
-    0b00_0001, // 46: CR CW PR EX
-    0b00_0001, // 47: NL CR CW PR EX
-    0b00_0001, // 48: PW EX
-    0b00_0001, // 49: NL PW EX
-    0b00_0001, // 50: CR PW EX
-    0b00_0001, // 51: NL CR PW EX
-    0b00_0001, // 52: CW PW EX
-    0b00_0001, // 53: NL CW PW EX
-    0b00_0001, // 54: CR CW PW EX
-    0b00_0001, // 55: NL CR CW PW EX
-    0b00_0001, // 56: PR PW EX
-    0b00_0001, // 57: NL PR PW EX
-    0b00_0001, // 58: CR PR PW EX
-    0b00_0001, // 59: NL CR PR PW EX
-    0b00_0001, // 60: CW PR PW EX
-    0b00_0001, // 61: NL CW PR PW EX
-    0b00_0001, // 62: CR CW PR PW EX
-    0b00_0001, // 63: NL CR CW PR PW EX
+// A row for each asked mode, a digit for each set of modes: whether the asked mode is compatible with every mode of the
+// set. Digit s, from the right, is for the set s: the eight sets of a group differ in NL, CR and CW only.
+const FITS: [u64; 6] = [
+    0b11111111_11111111_11111111_11111111_11111111_11111111_11111111_11111111, // NL
+    0b00000000_00000000_00000000_00000000_11111111_11111111_11111111_11111111, // CR
+    0b00000000_00000000_00000000_00000000_00000000_00000000_00000000_11111111, // CW
+    0b00000000_00000000_00000000_00000000_00000000_00000000_00001111_00001111, // PR
+    0b00000000_00000000_00000000_00000000_00000000_00000000_00000000_00001111, // PW
+    0b00000000_00000000_00000000_00000000_00000000_00000000_00000000_00000011, // EX
 ];
 
-// Whether the asked mode is compatible with every mode of the set, by the table.
-pub fn in_table(set: u32, asked: u32) -> bool
+// The row of an asked mode. Each row is named by a constant index, so that the compiler has it as a number: an array
+// constant would be built in memory at each use.
+fn row(asked: u32) -> u64
+    requires { ⌜ asked < 6 ⌝ }
+    ensures { λ r. ⌜ Row asked r ⌝ }
+{
+    match asked {
+        0 => FITS[0],
+        1 => FITS[1],
+        2 => FITS[2],
+        3 => FITS[3],
+        4 => FITS[4],
+        5 => FITS[5],
+        _ => 0,
+    }
+}
+
+// Whether the asked mode is compatible with every mode of the set.
+pub fn fits(set: u32, asked: u32) -> bool
     requires { ⌜ set < 64 ⌝ }
     requires { ⌜ asked < 6 ⌝ }
     ensures { λ r. ⌜ r ≡ fits-set set asked ⌝ }
 {
-    FITS[set as usize] >> asked & 1 == 1
+    row(asked) >> set & 1 == 1
 }
 
 // The modes that are not compatible with this one, as a set. Its digits, from the left, are EX PW PR CW CR NL.
@@ -175,15 +134,6 @@ pub fn with_mode(set: u32, mode: u32) -> u32
     ensures { λ r. ⌜ (r ≡ with-mode set mode) × (r < 64) ⌝ }
 {
     set | (1 << mode)
-}
-
-// The same without the table: the soundness check asks it of each lock.
-pub fn fits(set: u32, asked: u32) -> bool
-    requires { ⌜ set < 64 ⌝ }
-    requires { ⌜ asked < 6 ⌝ }
-    ensures { λ r. ⌜ r ≡ fits-set set asked ⌝ }
-{
-    set & against(asked) == 0
 }
 
 // Whether a conversion is down: every mode compatible with the old mode is compatible with the new.

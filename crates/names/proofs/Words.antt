@@ -1,10 +1,11 @@
 -- Four bytes at once: two words are equal exactly if their bytes are, and a word is zero exactly if its bytes are.
 use mathlib.Core.Path.{_≡_, refl, sym, ap, _∙_}
-use mathlib.Core.Bool.{Bool, true, false, _&&_}
+use mathlib.Core.Bool.{Bool, true, false, _&&_, not, and-comm, and-assoc}
 use mathlib.Core.List.{List, [], _∷_, _++_}
 use Prim.Native.Nat.{ℕ, suc, _+_, _-_, _≤_}
 use native.Mathlib.Omega.{arith}
 use native.Mathlib.Numerals.{add-one, add-two, add-three}
+use borrow.Author.Tests.{eq-eqb, ne-eqb, not-true, not-false}
 use borrow.Author.Needs.{needs}
 use mir.Syntax.{w8}
 use mir.Val.{Fits}
@@ -13,7 +14,7 @@ use lib.ListN.{length, getD, take, replicate, getD-replicate}
 use lib.Seq.{take-add, take-length, length-take-le, getD-take, drop-cons}
 use Rattle.tables.specs.Lists.{all, same}
 use Rattle.tables.specs.Sound.{all-zero}
-use Rattle.tables.proofs.Cases.{by-cases}
+use Rattle.tables.proofs.Cases.{by-cases, by-equal}
 use Rattle.tables.proofs.Counts.{same-eq, same-refl}
 use Rattle.tables.proofs.Reading.{zeros-are}
 use Rattle.rules.specs.Images.{word-bytes, word-from}
@@ -97,24 +98,44 @@ unfolding all-zero all
 zero-front [] u h = h
 zero-front (x ∷ p) u h = ap (λ (z : Bool). eqb 0 x && z) (zero-front p u h)
 
--- `while 4 <= n { n -= 4; if word_at(a, n) != 0 { return false; } } zero_bytes(&a[..n])`
+-- the last word of the first n bytes, and the last two
+module _ (a : List ℕ) (n : ℕ) (inside : n ≤ length a) where
+  last-zero : 4 ≤ n → all-zero (take n a) ≡ (all-zero (take (n - 4) a) && eqb (word-from a (n - 4)) 0)
+  unfolding all-zero all
+  last-zero more =
+      let i : ℕ = n - 4 in
+      let z : word-from (replicate n 0) i ≡ 0 =
+      rw (getD-replicate {A = ℕ} n i 0 0 (omega arith), getD-replicate {A = ℕ} n (i + 1) 0 0 (omega arith), getD-replicate {A = ℕ} n (i + 2) 0 0 (omega arith), getD-replicate {A = ℕ} n (i + 3) 0 0 (omega arith)) in
+      by-equal (word-from a i) 0
+      (λ e.
+      rw (last-bytes a n more inside, zero-word a i e) (zero-front (take i a) (0 ∷ 0 ∷ 0 ∷ 0 ∷ []) refl) ∙ sym (ap (λ (b : Bool). all-zero (take i a) && b) (eq-eqb _ _ e) ∙ and-comm (all-zero (take i a)) true))
+      (λ f.
+      by-cases (all-zero (take n a))
+      (λ t. absurd (f (sym (last-word a n more) ∙ ap (λ (l : List ℕ). word-from l i) (zeros-are (take n a) n t (length-take-le n a inside)) ∙ z)))
+      (λ t. t ∙ sym (ap (λ (b : Bool). all-zero (take i a) && b) (ne-eqb _ _ f) ∙ and-comm (all-zero (take i a)) false)))
+
+last-zeros : (a : List ℕ) (n : ℕ) → n ≤ length a → 8 ≤ n → all-zero (take n a) ≡ (all-zero (take (n - 8) a) && (eqb (word-from a (n - 8)) 0 && eqb (word-from a (n - 8 + 4)) 0))
+last-zeros a n inside more =
+    let i : ℕ = n - 8 in
+    let p : n - 4 ≡ i + 4 = omega arith in
+    let q : i + 4 - 4 ≡ i = omega arith in
+    let h : all-zero (take (i + 4) a) ≡ (all-zero (take i a) && eqb (word-from a i) 0) = last-zero a (i + 4) (omega arith) (omega arith) ∙ rw q in
+    last-zero a n inside (omega arith) ∙ rw (p, h) (and-assoc (all-zero (take i a)) (eqb (word-from a i) 0) (eqb (word-from a (i + 4)) 0))
+
+-- `while 8 <= n { n -= 8; if !((word_at(a, n) == 0) & (word_at(a, n + 4) == 0)) { return false; } } zero_bytes(&a[..n])`
 pub rest-first : (a : List ℕ) → all-zero a ≡ all-zero (take (length a) a)
 rest-first a = rw (take-length a)
 
 module _ (a : List ℕ) (n : ℕ) (left : all-zero a ≡ all-zero (take n a)) where
-  module _ {x : ℕ} (more : 4 ≤ n) (inside : n ≤ length a) (read : x ≡ word-from a (n - 4)) where
-    pub rest-next : x ≡ 0 → all-zero a ≡ all-zero (take (n - 4) a)
-    unfolding all-zero all
-    rest-next e = left ∙ rw (last-bytes a n more inside, zero-word a (n - 4) (sym read ∙ e)) (zero-front (take (n - 4) a) (0 ∷ 0 ∷ 0 ∷ 0 ∷ []) refl)
+  module _ {x y : ℕ} (more : 8 ≤ n) (inside : n ≤ length a) (read : x ≡ word-from a (n - 8)) (read′ : y ≡ word-from a (n - 8 + 4)) where
+    rest-last : all-zero a ≡ (all-zero (take (n - 8) a) && (eqb x 0 && eqb y 0))
+    rest-last = left ∙ rw (read, read′) (last-zeros a n inside more)
 
-    pub rest-stop : (x ≡ 0 → ⊥) → false ≡ all-zero a
-    rest-stop f =
-        let i : ℕ = n - 4 in
-        let z : word-from (replicate n 0) i ≡ 0 =
-        rw (getD-replicate {A = ℕ} n i 0 0 (omega arith), getD-replicate {A = ℕ} n (i + 1) 0 0 (omega arith), getD-replicate {A = ℕ} n (i + 2) 0 0 (omega arith), getD-replicate {A = ℕ} n (i + 3) 0 0 (omega arith)) in
-        by-cases (all-zero (take n a))
-        (λ t. absurd (f (read ∙ sym (last-word a n more) ∙ ap (λ (l : List ℕ). word-from l i) (zeros-are (take n a) n t (length-take-le n a inside)) ∙ z)))
-        (λ t. sym (left ∙ t))
+    pub rest-next : not (eqb x 0 && eqb y 0) ≡ false → all-zero a ≡ all-zero (take (n - 8) a)
+    rest-next h = rest-last ∙ rw (not-false (eqb x 0 && eqb y 0) h) (and-comm (all-zero (take (n - 8) a)) true)
+
+    pub rest-stop : not (eqb x 0 && eqb y 0) ≡ true → false ≡ all-zero a
+    rest-stop h = sym (rest-last ∙ rw (not-true (eqb x 0 && eqb y 0) h) (and-comm (all-zero (take (n - 8) a)) false))
 
   pub rest-end : {r : Bool} → r ≡ all-zero (take n a) → r ≡ all-zero a
   rest-end e = e ∙ sym left

@@ -24,6 +24,9 @@ pub const VALUE_BYTES: usize = 32;
 
 pub const SLOT_BYTES: usize = NAME_BYTES + VALUE_BYTES;
 
+// Two words that stand side by side: one test for both.
+const PAIR_BYTES: usize = 2 * WORD_BYTES;
+
 // Two runs of bytes of one length are equal.
 fn same_bytes(a: &[u8], b: &[u8]) -> bool
     requires { ⌜ length (now a) ≡ length (now b) ⌝ }
@@ -84,14 +87,14 @@ fn zero_bytes(a: &[u8]) -> bool
     true
 }
 
-// The same of the bytes after a name, which are few: four at once.
+// The same of the bytes after a name, which are few: eight at once.
 fn zero_rest(a: &[u8]) -> bool
     ensures { λ x. ⌜ x ≡ all-zero (now (a .entry)) ⌝ }
 {
     let mut at = a.len();
-    while WORD_BYTES <= at {
-        at -= WORD_BYTES;
-        if word_at(a, at) != 0 {
+    while PAIR_BYTES <= at {
+        at -= PAIR_BYTES;
+        if !((word_at(a, at) == 0) & (word_at(a, at + WORD_BYTES) == 0)) {
             return false;
         }
     }

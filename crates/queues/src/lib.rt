@@ -57,7 +57,7 @@ pub fn fits(words: &[u32], r: u32, k: u32, mode: u32) -> bool
     requires { ⌜ mode < 6 ⌝ }
     ensures { λ x. ⌜ Tells (Resourced r) (λ t. fits t r k mode) (now (words .entry)) x ⌝ }
 {
-    modes::in_table(others(words, r, k), mode)
+    modes::fits(others(words, r, k), mode)
 }
 
 // A new request of the mode can be granted on r: no conversion waits there, and the mode is compatible with every held mode.

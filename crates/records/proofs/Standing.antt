@@ -1,22 +1,22 @@
 -- What records that passed give to what comes after.
-use mathlib.Core.Path.{_≡_, refl, sym, _∙_}
-use mathlib.Core.Bool.{Bool, true, false, not, cond}
+use mathlib.Core.Path.{_≡_, sym, _∙_}
+use mathlib.Core.Bool.{Bool, true, false, not}
 use mathlib.Core.List.{List}
-use Prim.Native.Nat.{ℕ, _+_, _*_, _≤_}
+use Prim.Native.Nat.{ℕ, _*_, _≤_}
 use native.Mathlib.Omega.{arith}
 use lib.Dec.{eqb, leb}
 use lib.ListN.{length}
 use borrow.Author.Tests.{not-false, leb-true, eqb-true}
-use Rattle.tables.specs.Lists.{all, from, keep}
+use Rattle.tables.specs.Lists.{all, from}
 use Rattle.tables.specs.State.{name-width}
 use Rattle.tables.specs.Layout.{of-resource, size, slot-width, resources-in, locks-in, word-in}
 use Rattle.tables.specs.Sound.{sizes-right}
-use Rattle.tables.proofs.Cases.{by-cases, clash, and-left, and-right, parts}
+use Rattle.tables.proofs.Cases.{by-cases, and-left, and-right, parts}
 use Rattle.fields.specs.Sizes.{Sized}
-use Rattle.names.specs.Names.{named, slot-fine}
+use Rattle.names.specs.Names.{slot-fine}
 use Rattle.names.specs.Standing.{Slotted, Tidy}
 use Rattle.checking.specs.Check.{row-in, used-row, row-fine, resource-fine}
-use Rattle.records.specs.Passes.{ResourceCounts, free-count, resources-on, resources-pass, Fine}
+use Rattle.records.specs.Passes.{Fine}
 use Rattle.records.proofs.Runs.{all-from}
 
 -- SIZES
@@ -52,7 +52,7 @@ module _ (ws ss : List ℕ) {a : Bool} (e : a ≡ sizes-right ws ss) (f : not a 
     fine-at : (r : ℕ) → 1 ≤ r → r ≤ resources-in ws → resource-fine ws ss r ≡ true
     fine-at r l h = all-from (resource-fine ws ss) (resources-in ws) 1 r g l (omega arith)
 
-    pub rows : (r : ℕ) → 1 ≤ r → r ≤ resources-in ws → row-fine (row-in ws r) ≡ true
+    rows : (r : ℕ) → 1 ≤ r → r ≤ resources-in ws → row-fine (row-in ws r) ≡ true
     unfolding resource-fine
     rows r l h = and-left (row-fine (row-in ws r)) (slot-fine ws ss r) (fine-at r l h)
 
@@ -75,19 +75,3 @@ module _ (ws ss : List ℕ) {a : Bool} (e : a ≡ sizes-right ws ss) (f : not a 
           named = record { slotted = slotted; lengths = record { sized = sized; short = short-at } };
           fine = λ r l h. and-right (row-fine (row-in ws r)) (slot-fine ws ss r) (fine-at r l h);
         }
-
--- what the pass found
-module _ (ws ss : List ℕ) {x : ResourceCounts} (e : x ≡ resources-pass ws ss) where
-  resources-tested : (a : Bool) (n : ℕ) (y : ResourceCounts) → y ≡ cond a (record { fine = true; free = 0 + n }) (record { fine = false; free = 0 }) → (y .fine ≡ a) × (y .fine ≡ true → y .free ≡ n)
-  resources-tested true n y q = rw q (refl, λ t. omega arith)
-  resources-tested false n y q = rw q (refl, λ t. clash false t refl)
-
-  resources-said : (x .fine ≡ all (resource-fine ws ss) (from 1 (resources-in ws))) × (x .fine ≡ true → x .free ≡ free-count ws)
-  unfolding resources-pass resources-on free-count
-  resources-said = resources-tested (all (resource-fine ws ss) (from 1 (resources-in ws))) (length (keep (λ r. not (named ws r)) (from 1 (resources-in ws)))) x e
-
-  pub resources-fine : x .fine ≡ all (resource-fine ws ss) (from 1 (resources-in ws))
-  resources-fine = resources-said .0
-
-  pub resources-free : x .fine ≡ true → x .free ≡ free-count ws
-  resources-free = resources-said .1

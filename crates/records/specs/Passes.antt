@@ -1,15 +1,13 @@
--- What the pass over the resources finds, how many records belong on a chain, and what the walks stand on.
-use mathlib.Core.Bool.{true, false, not, cond}
+-- How many records belong on a chain, and what the walks stand on.
+use mathlib.Core.Bool.{not}
 use mathlib.Core.List.{List}
 use Prim.Native.Nat.{ℕ, _+_, _-_, _≤_}
 use lib.ListN.{length}
-use Rattle.tables.specs.Lists.{all, from, keep}
+use Rattle.tables.specs.Lists.{from, keep}
 use Rattle.tables.specs.State.{blocked-lock, told}
 use Rattle.tables.specs.Layout.{resources-in, locks-in, read-lock}
 use Rattle.fields.specs.Sizes.{Sized}
 use Rattle.names.specs.Names.{named}
-use Rattle.checking.specs.Check.{resource-fine}
-pub use Rattle.records.specs.declared.ResourceCounts.{ResourceCounts}
 
 -- the numbers from a to b
 unfoldable pub upto : ℕ → ℕ → List ℕ
@@ -24,14 +22,6 @@ blocked-count ws = length (keep (λ k. blocked-lock (read-lock ws k)) (from 1 (l
 
 unfoldable pub noticed-count : List ℕ → ℕ
 noticed-count ws = length (keep (λ k. told (read-lock ws k)) (from 1 (locks-in ws)))
-
--- the resources rs, after some of which so many were free: each is fine, and so many are free; or one is not
-unfoldable pub resources-on : List ℕ → List ℕ → ℕ → List ℕ → ResourceCounts
-resources-on ws ss free rs =
-    cond (all (resource-fine ws ss) rs) (record { fine = true; free = free + length (keep (λ r. not (named ws r)) rs) }) (record { fine = false; free = 0 })
-
-unfoldable pub resources-pass : List ℕ → List ℕ → ResourceCounts
-resources-pass ws ss = resources-on ws ss 0 (from 1 (resources-in ws))
 
 -- words whose sizes are right
 pub record Fine (ws : List ℕ) : Type 0 where

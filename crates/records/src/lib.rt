@@ -1,5 +1,4 @@
-// The header, the sizes and the resources of whatever tables are lent: what each is to be. The resources are looked at in
-// one pass, which counts the free ones.
+// The header, the sizes and the resources of whatever tables are lent: what each is to be.
 use checking::Row;
 use fields::HEADER_WORDS;
 use fields::HEADER_ZERO;
@@ -32,13 +31,6 @@ ghost use Rattle.fields.specs.Sizes.{Sized};
 ghost use Rattle.names.specs.Names.{named};
 ghost use Rattle.names.specs.Standing.{Slotted};
 ghost use Rattle.checking.specs.Check.{«row-in», «free-row», «used-row», «row-fine», «resource-fine»};
-ghost use Rattle.records.specs.Passes.{«resources-pass»};
-
-// What the pass over the resources finds: each is fine, and so many are free; or one is not.
-pub struct ResourceCounts {
-    pub fine: bool,
-    pub free: u32,
-}
 
 // The tables have 1 to 256 resources and 1 to 1024 locks, and are as long as these say.
 pub fn sizes_right(words: &[u32], slots: &[u8]) -> bool
@@ -76,7 +68,7 @@ pub fn bit(b: bool) -> u32
 }
 
 // The words of resource r.
-fn row_at(words: &[u32], r: u32) -> Row
+pub fn row_at(words: &[u32], r: u32) -> Row
     requires { ⌜ Sized (now words) ⌝ }
     requires { ⌜ (1 ≤ r) × (r ≤ resources-in (now words)) ⌝ }
     ensures { λ x. ⌜ x ≡ row-in (now (words .entry)) r ⌝ }
@@ -123,7 +115,7 @@ fn row_fine(x: Row) -> bool
 }
 
 // A resource's words, which are x, and its slot.
-fn resource_fine(words: &[u32], slots: &[u8], r: u32, x: Row) -> bool
+pub fn resource_fine(words: &[u32], slots: &[u8], r: u32, x: Row) -> bool
     requires { ⌜ Slotted (now words) (now slots) ⌝ }
     requires { ⌜ (1 ≤ r) × (r ≤ resources-in (now words)) ⌝ }
     requires { ⌜ x ≡ row-in (now words) r ⌝ }
@@ -133,31 +125,6 @@ fn resource_fine(words: &[u32], slots: &[u8], r: u32, x: Row) -> bool
         return false;
     }
     names::slot_fine(words, slots, r)
-}
-
-// Each resource is looked at once.
-pub fn resources_pass(words: &[u32], slots: &[u8]) -> ResourceCounts
-    requires { ⌜ Slotted (now words) (now slots) ⌝ }
-    ensures { λ x. ⌜ x ≡ resources-pass (now (words .entry)) (now (slots .entry)) ⌝ }
-{
-    let n = words[RESOURCES];
-    let mut free = 0;
-    let mut r = 1;
-    while r <= n {
-        let x = row_at(words, r);
-        if !resource_fine(words, slots, r, x) {
-            return ResourceCounts {
-                fine: false,
-                free: 0,
-            };
-        }
-        free += bit(x.bytes == 0);
-        r += 1;
-    }
-    ResourceCounts {
-        fine: true,
-        free: free,
-    }
 }
 
 // Resource r has a name.

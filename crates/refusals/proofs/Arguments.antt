@@ -12,8 +12,9 @@ use Rattle.tables.proofs.Valid.{Core}
 use Rattle.rules.specs.Calls.{unless, own, no-queue, request-flags, convert-flags, release-flags, name-right, value-right, in-place, request-refusal, convert-refusal, release-refusal}
 use Rattle.rules.proofs.Passing.{passed, next-test}
 use Rattle.access.specs.Contracts.{Some, Tells}
-use Rattle.refusals.specs.Contracts.{Held, TellsBoth}
+use Rattle.refusals.specs.Contracts.{Held, ResourceOrNone, Finds}
 use Rattle.refusals.specs.Rests.{granted-refusal, conversion-refusal, room-refusal}
+use Rattle.refusals.proofs.Rooming.{finds-resource}
 
 module _ (c : ℕ) (p : Bool) (ep : p ≡ client-right c) where
   client-not : not p ≡ true → client-right c ≡ false
@@ -128,30 +129,35 @@ module _ (ws : List ℕ) (c k m f n : ℕ) (told-it : Tells Core (granted-refusa
 pub ruleset conversion-laws = (needs, conversion-refused, conversion-held, conversion-queues, conversion-placed, conversion-blocks)
 
 -- request
-module _ (ws ss : List ℕ) (c m f : ℕ) (v : List ℕ) (p : Bool) (ep : p ≡ client-right c) where
-  pub request-client : not p ≡ true → TellsBoth Core (request-refusal c m f v) ws ss 3
+module _ (ws : List ℕ) (r c m f : ℕ) (v : List ℕ) (p : Bool) (ep : p ≡ client-right c) where
+  pub request-client : not p ≡ true → Tells (Finds v r) (request-refusal c m f v) ws 3
   unfolding request-refusal unless
-  request-client h = record { then = λ t g is are. rw (client-not c p ep h) }
+  request-client h = record { then = λ t g is. rw (client-not c p ep h) }
 
   module _ (right : not p ≡ false) where
-    pub request-mode : 5 < m → TellsBoth Core (request-refusal c m f v) ws ss 4
+    pub request-mode : 5 < m → Tells (Finds v r) (request-refusal c m f v) ws 4
     unfolding request-refusal unless
-    request-mode h = record { then = λ t g is are. rw (client-is c p ep right, lt-leb m 5 h) }
+    request-mode h = record { then = λ t g is. rw (client-is c p ep right, lt-leb m 5 h) }
 
     module _ (low : m ≤ 5) (a : Bool) (ea : a ≡ request-flags f) where
-      pub request-flagged : not a ≡ true → TellsBoth Core (request-refusal c m f v) ws ss 5
+      pub request-flagged : not a ≡ true → Tells (Finds v r) (request-refusal c m f v) ws 5
       unfolding request-refusal unless
-      request-flagged h = record { then = λ t g is are. rw (client-is c p ep right, le-leb m 5 low, sym ea ∙ not-true a h) }
+      request-flagged h = record { then = λ t g is. rw (client-is c p ep right, le-leb m 5 low, sym ea ∙ not-true a h) }
 
       module _ (allowed : not a ≡ false) (b : Bool) (eb : b ≡ name-right v) where
-        pub request-named : not b ≡ true → TellsBoth Core (request-refusal c m f v) ws ss 6
+        pub request-named : not b ≡ true → Tells (Finds v r) (request-refusal c m f v) ws 6
         unfolding request-refusal unless
-        request-named h = record { then = λ t g is are. rw (client-is c p ep right, le-leb m 5 low, sym ea ∙ not-false a allowed, sym eb ∙ not-true b h) }
+        request-named h = record { then = λ t g is. rw (client-is c p ep right, le-leb m 5 low, sym ea ∙ not-false a allowed, sym eb ∙ not-true b h) }
 
-        pub request-rest : not b ≡ false → (n : ℕ) → TellsBoth Core (room-refusal m f v) ws ss n → TellsBoth Core (request-refusal c m f v) ws ss n
+        pub request-rest : not b ≡ false → (n : ℕ) → Tells (ResourceOrNone r) (room-refusal r m f) ws n → Tells (Finds v r) (request-refusal c m f v) ws n
         unfolding request-refusal room-refusal unless
         request-rest h n rest = record {
-          then = λ t g is are. rw (client-is c p ep right, le-leb m 5 low, sym ea ∙ not-false a allowed, sym eb ∙ not-false b h) (rest .then t g is are);
+          then = λ t g is.
+              rw (client-is c p ep right, le-leb m 5 low, sym ea ∙ not-false a allowed, sym eb ∙ not-false b h, ← (g .found)) (rest .then t (finds-resource v r t g) is);
         }
 
-pub ruleset request-laws = (needs, request-client, request-mode, request-flagged, request-named, request-rest)
+-- what is left of it stands on the resource alone
+pub request-room : (ws : List ℕ) (r : ℕ) (v : List ℕ) → Some (Finds v r) ws → Some (ResourceOrNone r) ws
+request-room ws r v s = record { state = s .state; good = finds-resource v r (s .state) (s .good); is = s .is }
+
+pub ruleset request-laws = (needs, request-client, request-mode, request-flagged, request-named, request-rest, request-room)

@@ -3,15 +3,23 @@ use mathlib.Core.Path.{_≡_}
 use mathlib.Core.Bool.{true}
 use mathlib.Core.List.{List}
 use Prim.Native.Nat.{ℕ}
+use lib.ListN.{length}
+use Rattle.tables.specs.Lists.{within}
 use Rattle.tables.specs.State.{Tables, lock, granted}
-use Rattle.tables.specs.Layout.{words, slots}
 use Rattle.tables.proofs.Valid.{Core}
+use Rattle.rules.specs.Queues.{find}
 
 -- the lock k is granted
 pub record Held (k : ℕ) (t : Tables) : Type 0 where
   pub core : Core t
   pub is-granted : granted (lock t k) ≡ true
 
--- x is what g says of the state whose words and slots these are
-pub record TellsBoth {ℓ} {A : Type ℓ} (P : Tables → Type 0) (g : Tables → A) (ws ss : List ℕ) (x : A) : Type ℓ where
-  pub then : (t : Tables) → P t → ws ≡ words t → ss ≡ slots t → x ≡ g t
+-- r is a resource that is there, or 0
+pub record ResourceOrNone (r : ℕ) (t : Tables) : Type 0 where
+  pub core : Core t
+  pub in-range : (r ≡ 0 → ⊥) → within (length (t .resources)) r ≡ true
+
+-- r is the resource that has the name n, or 0
+pub record Finds (n : List ℕ) (r : ℕ) (t : Tables) : Type 0 where
+  pub core : Core t
+  pub found : r ≡ find n t

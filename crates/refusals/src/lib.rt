@@ -9,8 +9,7 @@ ghost use Rattle.tables.proofs.Valid.{Core};
 ghost use Rattle.rules.specs.Calls.{«in-place», «request-refusal», «convert-refusal», «release-refusal», «cancel-refusal», «purge-refusal»};
 ghost use Rattle.rules.specs.Entries.{«look-refusal»};
 ghost use Rattle.access.specs.Contracts.{Some, Tells};
-ghost use Rattle.queues.specs.Contracts.{Lent};
-ghost use Rattle.refusals.specs.Contracts.{Held, TellsBoth};
+ghost use Rattle.refusals.specs.Contracts.{Held, ResourceOrNone, Finds};
 ghost use Rattle.refusals.specs.Rests.{«granted-refusal», «conversion-refusal», «room-refusal»};
 
 // The tables aren't sound (not start or load), or the image lent to load or holder isn't the image of sound tables.
@@ -199,38 +198,40 @@ pub fn convert_refusal(
     conversion_refusal(words, client, k, mode, flags)
 }
 
-// Request's, once its arguments are right. On a new name no lock is in the way.
-fn room_refusal(words: &[u32], slots: &[u8], mode: u32, flags: u32, name: &[u8]) -> u32
-    requires { ⌜ Lent Core (now words) (now slots) ⌝ }
+// Request's, once its arguments are right; `found` is the resource that has the name, or 0. On a new name no lock is in
+// the way.
+fn room_refusal(words: &[u32], found: u32, mode: u32, flags: u32) -> u32
+    requires { ⌜ Some (ResourceOrNone found) (now words) ⌝ }
     requires { ⌜ mode < 6 ⌝ }
-    ensures { λ r. ⌜ TellsBoth Core (room-refusal mode flags (now (name .entry))) (now (words .entry)) (now (slots .entry)) r ⌝ }
+    ensures { λ r. ⌜ Tells (ResourceOrNone found) (room-refusal found mode flags) (now (words .entry)) r ⌝ }
 {
-    let r = names::find(words, slots, name);
-    if (r == 0) & (words[fields::FREE_RESOURCES] == 0) {
+    if (found == 0) & (words[fields::FREE_RESOURCES] == 0) {
         return NO_RESOURCE;
     }
     if words[fields::FREE_LOCKS] == 0 {
         return NO_LOCK;
     }
-    if (r == 0) | !no_queue(flags) {
+    if (found == 0) | !no_queue(flags) {
         return 0;
     }
-    if queues::admits(words, r, mode) {
+    if queues::admits(words, found, mode) {
         return 0;
     }
     BLOCKS
 }
 
+// `found` is the resource that has the name, or 0: the caller looks it up, since the change of a request that is
+// accepted needs it too.
 pub fn request_refusal(
     words: &[u32],
-    slots: &[u8],
+    found: u32,
     client: u32,
     mode: u32,
     flags: u32,
     name: &[u8],
 ) -> u32
-    requires { ⌜ Lent Core (now words) (now slots) ⌝ }
-    ensures { λ r. ⌜ TellsBoth Core (request-refusal client mode flags (now (name .entry))) (now (words .entry)) (now (slots .entry)) r ⌝ }
+    requires { ⌜ Some (Finds (now name) found) (now words) ⌝ }
+    ensures { λ r. ⌜ Tells (Finds (now (name .entry)) found) (request-refusal client mode flags (now (name .entry))) (now (words .entry)) r ⌝ }
 {
     if !client_right(client) {
         return CLIENT;
@@ -244,5 +245,5 @@ pub fn request_refusal(
     if !arguments::name_right(name) {
         return NAME;
     }
-    room_refusal(words, slots, mode, flags, name)
+    room_refusal(words, found, mode, flags)
 }

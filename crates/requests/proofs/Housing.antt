@@ -17,9 +17,9 @@ use Rattle.rules.specs.Calls.{new-resource, resource-for, with-resource}
 use Rattle.rules.proofs.Requests.{first-member}
 use Rattle.fields.specs.Sizes.{Sized}
 use Rattle.access.specs.Contracts.{Changes}
+use Rattle.access.proofs.States.{sized-is}
 use Rattle.names.specs.Names.{find-in}
-use Rattle.names.specs.Standing.{Named}
-use Rattle.names.proofs.States.{core-named, find-is}
+use Rattle.names.proofs.States.{find-is}
 use Rattle.queues.specs.Contracts.{Lent, Takes}
 use Rattle.requests.specs.Contracts.{Nameable, Houses}
 
@@ -47,11 +47,8 @@ unfolding resource-for with-resource
 new-resource-is x n t e = rw e (refl, refl)
 
 module _ (n a sa : List ℕ) where
-  pub house-named : Lent (Nameable n) a sa → Named a sa
-  house-named s = rw (s .is, s .slots-are) (core-named (s .state) (s .good .core))
-
   pub house-sized : Lent (Nameable n) a sa → Sized a
-  house-sized s = house-named s .slotted .sized
+  house-sized s = sized-is (s .state) a (s .is) (s .good .core .resources-high) (s .good .core .locks-high)
 
   module _ (x : ℕ) (ex : x ≡ find-in a sa n) where
     found-at : (t : Tables) → Nameable n t → a ≡ words t → sa ≡ slots t → x ≡ find n t
@@ -82,4 +79,4 @@ module _ (n a sa : List ℕ) where
             (e ∙ sym (o .0), d .0 ∙ ap words same, d .1 ∙ ap slots same);
       }
 
-pub ruleset house-laws = (needs, house-named, house-sized, house-old, house-takes, house-new)
+pub ruleset house-laws = (needs, house-sized, house-old, house-takes, house-new)

@@ -6,17 +6,18 @@ ghost use mathlib.Core.Path.{_≡_};
 ghost use Rattle.rules.specs.Calls.{holding, queued, «request-on», «request-change»};
 ghost use Rattle.rules.proofs.Passing.{Requestable};
 ghost use Rattle.access.specs.Contracts.{Some};
+ghost use Rattle.names.specs.Names.{«find-in»};
 ghost use Rattle.queues.specs.Contracts.{Lent};
 ghost use Rattle.answers.specs.Answers.{requested};
 ghost use Rattle.answers.specs.Contracts.{Makes, MakesWords};
 ghost use Rattle.requests.specs.Contracts.{Nameable, Houses, Enters};
 
-// The resource of that name. Where no resource has it, the first free one takes it.
-fn resource_for(words: &mut [u32], slots: &mut [u8], name: &[u8]) -> u32
+// The resource of that name: `found`, which has it, or where that is 0 the first free one, which takes it.
+fn resource_for(words: &mut [u32], slots: &mut [u8], found: u32, name: &[u8]) -> u32
     requires { ⌜ Lent (Nameable (now name)) (now words) (now slots) ⌝ }
+    requires { ⌜ found ≡ find-in (now words) (now slots) (now name) ⌝ }
     ensures { λ r. ⌜ Houses (now (name .entry)) (now (words .entry)) (now (slots .entry)) (now (words .exit)) (now (slots .exit)) r ⌝ }
 {
-    let found = names::find(words, slots, name);
     if found != 0 {
         return found;
     }
@@ -65,18 +66,20 @@ fn enter(words: &mut [u32], r: u32, k: u32, client: u32, mode: u32) -> Requested
     Requested::Waiting(k)
 }
 
-// The client requests the mode on the name, and nothing refuses it.
+// The client requests the mode on the name, and nothing refuses it. `found` is the resource that has the name, or 0.
 pub fn request_change(
     words: &mut [u32],
     slots: &mut [u8],
+    found: u32,
     client: u32,
     mode: u32,
     name: &[u8],
 ) -> Requested
     requires { ⌜ Lent (Requestable client mode (now name)) (now words) (now slots) ⌝ }
+    requires { ⌜ found ≡ find-in (now words) (now slots) (now name) ⌝ }
     ensures { λ r. ⌜ Makes (Requestable client mode (now (name .entry))) (request-change client mode (now (name .entry))) (now (words .entry)) (now (slots .entry)) (now (words .exit)) (now (slots .exit)) (requested r) ⌝ }
 {
     let k = header_word(words, fields::FREE_LOCKS);
-    let r = resource_for(words, slots, name);
+    let r = resource_for(words, slots, found, name);
     enter(words, r, k, client, mode)
 }

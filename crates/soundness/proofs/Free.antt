@@ -1,21 +1,19 @@
--- A free resource has no queues.
-use mathlib.Core.Path.{_≡_, refl, sym, _∙_}
-use mathlib.Core.Bool.{Bool, true, false, not, _&&_, cond}
+-- A resource that passed is free, and has no queues, or it is in use.
+use mathlib.Core.Path.{_≡_, refl, sym}
+use mathlib.Core.Bool.{Bool, true, false, not, _&&_}
 use mathlib.Core.List.{List, []}
-use Prim.Native.Nat.{ℕ, zero, suc, _≤_}
+use Prim.Native.Nat.{ℕ, zero, suc}
 use native.Mathlib.Omega.{arith}
-use lib.Dec.{eqb, leb}
-use lib.ListN.{length}
-use borrow.Author.Tests.{not-true, not-false, eqb-true, le-leb}
+use lib.Dec.{eqb}
+use borrow.Author.Tests.{eqb-true, eq-eqb, ne-eqb, le-leb}
 use Rattle.tables.specs.Lists.{keep}
-use Rattle.tables.specs.State.{told}
-use Rattle.tables.specs.Layout.{of-resource, of-lock, resources-in, locks-in, word-in, follow, read-lock}
+use Rattle.tables.specs.Layout.{of-resource, of-lock, locks-in, word-in}
 use Rattle.tables.proofs.Cases.{and-left, and-right, parts}
-use Rattle.names.specs.Names.{named}
-use Rattle.checking.specs.Check.{row-in, free-row, row-fine, steps, home-on, home-steps, held-steps, grant-walk, convert-walk, heads-wait, wait-part, convert-part, resource-walk, queue-from, blocked-at, noticed-at}
+use Rattle.names.specs.Names.{named, slot-fine}
+use Rattle.checking.specs.declared.Row.{Row}
+use Rattle.checking.specs.Check.{row-in, free-row, row-fine, resource-fine, steps, home-on, home-steps, held-steps, grant-walk, convert-walk, heads-wait, wait-part, convert-part, resource-walk, queue-from, blocked-at, noticed-at}
 use Rattle.checking.proofs.Stepping.{follow-zero}
 use Rattle.holders.specs.Holding.{Counted}
-use Rattle.soundness.specs.Chains.{Rowed}
 
 no-steps : (link : ℕ → ℕ) (test : ℕ → Bool) (n : ℕ) → steps link test n 0 ≡ 0
 unfolding steps
@@ -27,21 +25,35 @@ unfolding held-steps
 no-holders ws s r zero set = refl
 no-holders ws s r (suc n) set = refl
 
-pub in-use : (ws : List ℕ) (r : ℕ) {b : Bool} → b ≡ named ws r → not b ≡ false → named ws r ≡ true
-in-use ws r {b} e n = sym e ∙ not-false b n
+-- by its words a resource has a name or not
+module _ (ws : List ℕ) (r : ℕ) {x : Row} (e : x ≡ row-in ws r) where
+  bytes : x .bytes ≡ word-in ws (of-resource r 4)
+  unfolding row-in
+  bytes = rw e
 
-module _ (ws : List ℕ) (r : ℕ) (rowed : Rowed ws) (low : 1 ≤ r) (high : r ≤ resources-in ws) {b : Bool} (e : b ≡ named ws r) (n : not b ≡ true) where
-  nameless : eqb (word-in ws (of-resource r 4)) 0 ≡ true
+  pub in-use : (x .bytes ≡ 0 → ⊥) → named ws r ≡ true
   unfolding named
-  nameless = go (eqb (word-in ws (of-resource r 4)) 0) (sym e ∙ not-true b n)
+  in-use n = rw (← bytes, ne-eqb (x .bytes) 0 n)
+
+  pub nameless : x .bytes ≡ 0 → named ws r ≡ false
+  unfolding named
+  nameless z = rw (← bytes, eq-eqb (x .bytes) 0 z)
+
+module _ (ws ss : List ℕ) (r : ℕ) (fine : resource-fine ws ss r ≡ true) (free : named ws r ≡ false) where
+  no-name : eqb (word-in ws (of-resource r 4)) 0 ≡ true
+  unfolding named
+  no-name = go (eqb (word-in ws (of-resource r 4)) 0) free
     where
-      go : (x : Bool) → not x ≡ false → x ≡ true
+      go : (b : Bool) → not b ≡ false → b ≡ true
       go true h = refl
       go false h = sym h
 
   row : free-row (row-in ws r) ≡ true
-  unfolding row-fine row-in
-  row = let z = rowed .rows r low high in let f = and-right (eqb (word-in ws (of-resource r 6)) 0 && eqb (word-in ws (of-resource r 7)) 0) _ z in rw nameless at f
+  unfolding resource-fine row-fine row-in
+  row =
+      let z = and-left (row-fine (row-in ws r)) (slot-fine ws ss r) fine in
+      let f = and-right (eqb (word-in ws (of-resource r 6)) 0 && eqb (word-in ws (of-resource r 7)) 0) _ z in
+      rw no-name at f
 
   no-grant : word-in ws (of-resource r 1) ≡ 0
   unfolding free-row row-in

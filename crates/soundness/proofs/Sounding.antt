@@ -1,27 +1,18 @@
 -- The passes in turn: each says no for the whole, or gives to those after it what they stand on.
-use mathlib.Core.Path.{_≡_, sym, _∙_}
-use mathlib.Core.Bool.{Bool, true, false, not}
+use mathlib.Core.Path.{_≡_, refl, sym, _∙_}
+use mathlib.Core.Bool.{Bool, true, false, not, _&&_}
 use mathlib.Core.List.{List}
 use Prim.Native.Nat.{ℕ}
 use lib.Dec.{eqb}
 use borrow.Author.Needs.{needs}
 use borrow.Author.Tests.{not-true, not-false}
-use Rattle.tables.specs.Lists.{all, from}
-use Rattle.tables.specs.Layout.{of-header, resources-in, word-in}
+use Rattle.tables.specs.Layout.{of-header, word-in}
 use Rattle.tables.specs.Sound.{sizes-right, sound}
-use Rattle.checking.specs.Check.{resource-fine, check}
+use Rattle.tables.proofs.Cases.{and-left, and-right}
+use Rattle.checking.specs.Check.{homes-fine, check}
 use Rattle.checking.proofs.Equal.{check-is-sound}
-use Rattle.records.specs.declared.ResourceCounts.{ResourceCounts}
-use Rattle.records.specs.Passes.{resources-pass}
-use Rattle.records.proofs.Standing.{slotted, sized, tidy, fine, rows, resources-fine, resources-free}
-use Rattle.soundness.specs.Chains.{chains-fine, Checked}
-
-module _ (ws ss : List ℕ) {rs : ResourceCounts} (er : rs ≡ resources-pass ws ss) where
-  resources-no : not (rs .fine) ≡ true → all (resource-fine ws ss) (from 1 (resources-in ws)) ≡ false
-  resources-no n = sym (resources-fine ws ss er) ∙ not-true (rs .fine) n
-
-  resources-yes : not (rs .fine) ≡ false → all (resource-fine ws ss) (from 1 (resources-in ws)) ≡ true
-  resources-yes n = sym (resources-fine ws ss er) ∙ not-false (rs .fine) n
+use Rattle.records.proofs.Standing.{slotted, sized, tidy, fine}
+use Rattle.soundness.specs.Chains.{HomeCounts, resources-fine, sides-fine, Homes, Checked}
 
 module _ (ws ss : List ℕ) {a : Bool} (ea : a ≡ sizes-right ws ss) where
   pub sound-sizes : not a ≡ true → false ≡ sound ws ss
@@ -33,21 +24,42 @@ module _ (ws ss : List ℕ) {a : Bool} (ea : a ≡ sizes-right ws ss) where
     unfolding check
     sound-header n = rw (← check-is-sound ws ss, ← ea, not-false a na, ← eb, not-true b n)
 
-    module _ {rs : ResourceCounts} (nb : not b ≡ false) (er : rs ≡ resources-pass ws ss) where
-      pub sound-resources : not (rs .fine) ≡ true → false ≡ sound ws ss
-      unfolding check
-      sound-resources n = rw (← check-is-sound ws ss, ← ea, not-false a na, ← eb, not-false b nb, resources-no ws ss er n)
+    module _ {x : HomeCounts} (nb : not b ≡ false) (eh : Homes ws ss x) where
+      pub sound-homes : not (x .fine) ≡ true → false ≡ sound ws ss
+      unfolding check resources-fine
+      sound-homes n =
+          rw (← check-is-sound ws ss, ← ea, not-false a na, ← eb, not-false b nb)
+          (no-more (resources-fine ws ss) (homes-fine ws) _ (sym (eh .fine) ∙ not-true (x .fine) n))
+        where
+          no-more : (p q r : Bool) → (p && q) ≡ false → false ≡ (p && (q && r))
+          no-more true q r e = rw e
+          no-more false q r e = refl
 
-      pub sound-chains : {x : Bool} → not (rs .fine) ≡ false → x ≡ chains-fine ws ss → x ≡ sound ws ss
-      unfolding check chains-fine
-      sound-chains n e = rw (← check-is-sound ws ss, ← ea, not-false a na, ← eb, not-false b nb, resources-yes ws ss er n) e
+      pub sound-sides : {y : Bool} → not (x .fine) ≡ false → y ≡ sides-fine ws ss → y ≡ sound ws ss
+      unfolding check resources-fine sides-fine
+      sound-sides n e =
+          let t = sym (eh .fine) ∙ not-false (x .fine) n in
+          rw (
+            ← check-is-sound ws ss,
+            ← ea,
+            not-false a na,
+            ← eb,
+            not-false b nb,
+            and-left (resources-fine ws ss) (homes-fine ws) t,
+            and-right (resources-fine ws ss) (homes-fine ws) t,
+          ) e
 
-pub checked : (ws ss : List ℕ) {a : Bool} {rs : ResourceCounts} → a ≡ sizes-right ws ss → not a ≡ false → rs ≡ resources-pass ws ss → not (rs .fine) ≡ false → Checked ws ss rs
-checked ws ss {rs = rs} ea na er nr =
+-- what is found of resources that passed, and on the home chains, is what the rest stands on
+pub checked : (ws ss : List ℕ) {a : Bool} {x : HomeCounts} → a ≡ sizes-right ws ss → not a ≡ false → Homes ws ss x → not (x .fine) ≡ false → Checked ws ss x
+unfolding resources-fine
+checked ws ss {x = x} ea na eh n =
+    let t = not-false (x .fine) n in
     record {
-      rowed = record { fine = fine ws ss ea na; rows = rows ws ss ea na (resources-yes ws ss er nr) };
-      tidy = tidy ws ss ea na (resources-yes ws ss er nr);
-      free = resources-free ws ss er (not-false (rs .fine) nr);
+      sized = sized ws ss ea na;
+      tidy = tidy ws ss ea na (and-left (resources-fine ws ss) (homes-fine ws) (sym (eh .fine) ∙ t));
+      free = eh .free t;
+      blocked = eh .blocked t;
+      noticed = eh .noticed t;
     }
 
-pub ruleset sounding = (needs, slotted, sized, sound-sizes, sound-header, sound-resources, sound-chains, checked)
+pub ruleset sounding = (needs, slotted, sized, fine, sound-sizes, sound-header, sound-homes, sound-sides, checked)

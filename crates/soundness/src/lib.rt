@@ -7,98 +7,100 @@ use chains::free_resources_fine;
 use chains::notices_fine;
 use fields::LOCKS;
 use fields::RESOURCES;
-use holders::Census;
 use holders::resource_walk;
-use records::ResourceCounts;
 use records::header_fine;
-use records::in_use;
-use records::resources_pass;
+use records::resource_fine;
+use records::row_at;
 use records::sizes_right;
 ghost use mathlib.Core.Path.{_≡_};
+ghost use mathlib.Core.Bool.{false};
 ghost use Prim.Native.Nat.{_+_, _*_, _≤_};
-ghost use Rattle.tables.specs.Layout.{«resources-in», «locks-in»};
+ghost use Rattle.tables.specs.Layout.{«locks-in»};
 ghost use Rattle.tables.specs.Sound.{sound};
-ghost use Rattle.holders.specs.Holding.{Counted};
-ghost use Rattle.soundness.specs.Chains.{«chains-fine», Rowed, Checked, Queues, Homes};
+ghost use Rattle.names.specs.Standing.{Slotted};
+ghost use Rattle.records.specs.Passes.{Fine};
+ghost use Rattle.soundness.specs.Chains.{«sides-fine», Checked, Queues, Homes};
 
-// What the walk along the home chains finds: each lock stands on one of them, and so many belong on the blocked and on
-// the notice chain; or some lock does not.
+// What the pass over the resources finds: each is fine, each lock stands on one home chain, so many resources are free,
+// and so many locks belong on the blocked and on the notice chain; or something is wrong.
 pub struct HomeCounts {
     pub fine: bool,
+    pub free: u32,
     pub blocked: u32,
     pub noticed: u32,
 }
 
-// The queues of resource r. One that is free has none.
-fn queues_at(words: &[u32], r: u32) -> Census
-    requires { ⌜ Rowed (now words) ⌝ }
-    requires { ⌜ (1 ≤ r) × (r ≤ resources-in (now words)) ⌝ }
-    ensures { λ x. ⌜ Counted (now (words .entry)) r x ⌝ }
+// Nothing is counted where something is wrong.
+fn wrong() -> HomeCounts
+    ensures { λ x. ⌜ x .fine ≡ false ⌝ }
 {
-    if !in_use(words, r) {
-        return Census {
-            met: 0,
-            blocked: 0,
-            noticed: 0,
-        };
+    HomeCounts {
+        fine: false,
+        free: 0,
+        blocked: 0,
+        noticed: 0,
     }
-    resource_walk(words, r)
 }
 
-// The queues of all resources. With so many locks on the other home chains, so many of them with an unread completion,
-// they are to make up the number of locks.
-fn queues(words: &[u32], others: u32, unread: u32) -> HomeCounts
-    requires { ⌜ Rowed (now words) ⌝ }
+// Each resource, and its queues if it is in use: a free one has none. With so many locks on the other home chains, so
+// many of them with an unread completion, the queues are to make up the number of locks.
+fn queues(words: &[u32], slots: &[u8], others: u32, unread: u32) -> HomeCounts
+    requires { ⌜ Fine (now words) ⌝ }
+    requires { ⌜ Slotted (now words) (now slots) ⌝ }
     requires { ⌜ (others ≤ 2 * locks-in (now words) + 2) × (unread ≤ locks-in (now words) + 1) ⌝ }
-    ensures { λ x. ⌜ Queues (now (words .entry)) others unread x ⌝ }
+    ensures { λ x. ⌜ Queues (now (words .entry)) (now (slots .entry)) others unread x ⌝ }
 {
     let n = words[LOCKS];
     let last = words[RESOURCES];
     let mut met = others;
     let mut blocked = 0;
     let mut noticed = unread;
+    let mut free = 0;
     let mut r = 1;
     while r <= last {
-        if n < met {
-            return HomeCounts {
-                fine: false,
-                blocked: 0,
-                noticed: 0,
-            };
+        let x = row_at(words, r);
+        if !resource_fine(words, slots, r, x) {
+            return wrong();
         }
-        let found = queues_at(words, r);
-        met += found.met;
-        blocked += found.blocked;
-        noticed += found.noticed;
+        if n < met {
+            return wrong();
+        }
+        if x.bytes == 0 {
+            free += 1;
+        } else {
+            let found = resource_walk(words, r);
+            met += found.met;
+            blocked += found.blocked;
+            noticed += found.noticed;
+        }
         r += 1;
     }
     HomeCounts {
         fine: met == n,
+        free: free,
         blocked: blocked,
         noticed: noticed,
     }
 }
 
 // Each lock stands on one home chain: free, denied, or a queue of a resource.
-fn homes(words: &[u32]) -> HomeCounts
-    requires { ⌜ Rowed (now words) ⌝ }
-    ensures { λ x. ⌜ Homes (now (words .entry)) x ⌝ }
+fn homes(words: &[u32], slots: &[u8]) -> HomeCounts
+    requires { ⌜ Fine (now words) ⌝ }
+    requires { ⌜ Slotted (now words) (now slots) ⌝ }
+    ensures { λ x. ⌜ Homes (now (words .entry)) (now (slots .entry)) x ⌝ }
 {
     let free = free_locks_met(words);
     let denied = denied_met(words);
-    queues(words, free + denied, denied)
+    queues(words, slots, free + denied, denied)
 }
 
-// The chains and the names, with as many free resources as were counted.
-fn chains_fine(words: &[u32], slots: &[u8], resources: ResourceCounts) -> bool
-    requires { ⌜ Checked (now words) (now slots) resources ⌝ }
-    ensures { λ x. ⌜ x ≡ chains-fine (now (words .entry)) (now (slots .entry)) ⌝ }
+// The chains of free resources, of blocked locks and of notices have as many as were counted, and the names differ. It
+// is a function of its own because `sound` compiles to faster code so.
+fn sides(words: &[u32], slots: &[u8], found: HomeCounts) -> bool
+    requires { ⌜ Checked (now words) (now slots) found ⌝ }
+    ensures { λ x. ⌜ x ≡ sides-fine (now (words .entry)) (now (slots .entry)) ⌝ }
 {
-    if !free_resources_fine(words, resources.free) {
-        return false;
-    }
-    let found = homes(words);
-    if !found.fine {
+    if !free_resources_fine(words, found.free) {
         return false;
     }
     if !blocked_fine(words, found.blocked) {
@@ -120,9 +122,9 @@ pub fn sound(words: &[u32], slots: &[u8]) -> bool
     if !header_fine(words) {
         return false;
     }
-    let resources = resources_pass(words, slots);
-    if !resources.fine {
+    let found = homes(words, slots);
+    if !found.fine {
         return false;
     }
-    chains_fine(words, slots, resources)
+    sides(words, slots, found)
 }

@@ -1,18 +1,18 @@
 // The takeover program's question: who holds a name EX in the tables of an image.
 use encoding::WORD_BYTES;
+use encoding::decode;
 use fields::lock_word;
 use fields::resource_word;
 use image::MIDDLE_WORDS;
 use image::MOST_WORDS;
 use image::NO_IMAGE;
 use image::SMALL_WORDS;
-use image::unpack;
+use image::is_sound;
 use image::words_in;
 use modes::Mode;
 use refusals::NAME;
 ghost use mathlib.Core.Path.{_≡_};
 ghost use mathlib.Core.Bool.{true};
-ghost use lib.ListN.{length};
 ghost use Rattle.tables.specs.Lists.{«first-that»};
 ghost use Rattle.tables.specs.Layout.{read};
 ghost use Rattle.tables.specs.Sound.{sound};
@@ -20,7 +20,7 @@ ghost use Rattle.rules.specs.Queues.{find};
 ghost use Rattle.rules.specs.Images.{«holder-of», «holder-entry»};
 ghost use Rattle.access.specs.Contracts.{Some, Tells, Resourced};
 ghost use Rattle.queues.specs.Holders.{«locks-from»};
-ghost use Rattle.image.specs.Contracts.{Measured};
+ghost use Rattle.image.specs.Contracts.{Decoded};
 ghost use Rattle.takeover.specs.Contracts.{Chained, «holds-ex», «ex-lock»};
 
 // To the takeover program a refusal is this plus its number.
@@ -71,35 +71,37 @@ fn ex_holder(words: &[u32], slots: &[u8], name: &[u8]) -> u32
     lock_word(words, k, fields::LOCK_CLIENT)
 }
 
-// The client that holds EX on that name in the tables of the image, or 0; or a refusal. The buffer is as long as
-// words_in says.
-fn holder_by(image: &[u8], buffer: &mut [u32], name: &[u8]) -> u32
-    requires { ⌜ Measured (now image) (length (now buffer)) ⌝ }
+// The client that holds EX on that name in the tables of the image, whose words `decoded` holds, or 0; or a refusal.
+fn holder_in(image: &[u8], decoded: &[u32], name: &[u8]) -> u32
+    requires { ⌜ Decoded (now image) (now decoded) ⌝ }
     ensures { λ r. ⌜ r ≡ holder-entry (now (image .entry)) (now (name .entry)) ⌝ }
 {
-    if !unpack(image, buffer) {
+    if !is_sound(image, decoded) {
         return REFUSED + NO_IMAGE;
     }
     if !arguments::name_right(name) {
         return REFUSED + NAME;
     }
-    let start = WORD_BYTES * buffer.len();
-    ex_holder(buffer, &image[start..], name)
+    let start = WORD_BYTES * decoded.len();
+    ex_holder(decoded, &image[start..], name)
 }
 
-// The same by a buffer for the image's words.
+// The same, the image's words in a buffer, decoded where it is made as in `image::load`.
 pub fn holder(image: &[u8], name: &[u8]) -> u32
     ensures { λ r. ⌜ r ≡ holder-entry (now (image .entry)) (now (name .entry)) ⌝ }
 {
     let n = words_in(image);
     if n <= SMALL_WORDS {
         let mut buffer = [0; SMALL_WORDS];
-        return holder_by(image, &mut buffer[..n], name);
+        decode(image, &mut buffer[..n]);
+        return holder_in(image, &buffer[..n], name);
     }
     if n <= MIDDLE_WORDS {
         let mut buffer = [0; MIDDLE_WORDS];
-        return holder_by(image, &mut buffer[..n], name);
+        decode(image, &mut buffer[..n]);
+        return holder_in(image, &buffer[..n], name);
     }
     let mut buffer = [0; MOST_WORDS];
-    holder_by(image, &mut buffer[..n], name)
+    decode(image, &mut buffer[..n]);
+    holder_in(image, &buffer[..n], name)
 }

@@ -18,7 +18,7 @@ use std::time::Duration;
 const USAGE: &str = "usage: bench [--quick] [--out FOLDER]   (FOLDER is the repository's docs unless given)";
 
 /// Enough for steady medians, and for a look.
-const THOROUGH: Effort = Effort { time: Duration::from_millis(150), most_turns: 201 };
+const THOROUGH: Effort = Effort { time: Duration::from_millis(150), most_turns: 5001 };
 const QUICK: Effort = Effort { time: Duration::from_millis(10), most_turns: 25 };
 
 fn main() -> ExitCode {

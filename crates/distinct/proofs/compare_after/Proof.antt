@@ -22,6 +22,8 @@ compare-after-spec =
     μ-loop
     (λ c κs. search compare-loop)
     (λ c. search compare-loop)
+    (λ c κs. search compare-loop)
+    (λ c. search compare-loop)
     (λ c. search compare-loop)
     (λ c κs. search compare-loop)
     (λ c. search compare-loop)

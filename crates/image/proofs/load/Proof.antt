@@ -9,11 +9,20 @@ words-in-requires c κs = search needs
 array-borrow-prefix-buffer : tie.Need-array-borrow-prefix-buffer
 array-borrow-prefix-buffer c = search needs
 
-slice-aggregate-load-by : tie.Need-slice-aggregate-load-by
-slice-aggregate-load-by c = search lending
+slice-aggregate-decode : tie.Need-slice-aggregate-decode
+slice-aggregate-decode c = search lending
 
-load-by-requires : tie.Need-load-by-requires
-load-by-requires c κs = search lending
+decode-requires : tie.Need-decode-requires
+decode-requires c κs = search lending
+
+array-share-prefix-buffer : tie.Need-array-share-prefix-buffer
+array-share-prefix-buffer c = search lending
+
+slice-aggregate-load-from : tie.Need-slice-aggregate-load-from
+slice-aggregate-load-from c = search lending
+
+load-from-requires : tie.Need-load-from-requires
+load-from-requires c κs = search lending
 
 same-length : tie.Need-same-length
 same-length c = search needs
@@ -27,11 +36,20 @@ returns c = search needs
 array-borrow-prefix-buffer-2 : tie.Need-array-borrow-prefix-buffer-2
 array-borrow-prefix-buffer-2 c = search needs
 
-slice-aggregate-load-by-2 : tie.Need-slice-aggregate-load-by-2
-slice-aggregate-load-by-2 c = search lending
+slice-aggregate-decode-2 : tie.Need-slice-aggregate-decode-2
+slice-aggregate-decode-2 c = search lending
 
-load-by-requires-2 : tie.Need-load-by-requires-2
-load-by-requires-2 c κs = search lending
+decode-requires-2 : tie.Need-decode-requires-2
+decode-requires-2 c κs = search lending
+
+array-share-prefix-buffer-2 : tie.Need-array-share-prefix-buffer-2
+array-share-prefix-buffer-2 c = search lending
+
+slice-aggregate-load-from-2 : tie.Need-slice-aggregate-load-from-2
+slice-aggregate-load-from-2 c = search lending
+
+load-from-requires-2 : tie.Need-load-from-requires-2
+load-from-requires-2 c κs = search lending
 
 same-length-3 : tie.Need-same-length-3
 same-length-3 c = search needs
@@ -45,11 +63,20 @@ returns-2 c = search needs
 array-borrow-prefix-buffer-3 : tie.Need-array-borrow-prefix-buffer-3
 array-borrow-prefix-buffer-3 c = search needs
 
-slice-aggregate-load-by-3 : tie.Need-slice-aggregate-load-by-3
-slice-aggregate-load-by-3 c = search lending
+slice-aggregate-decode-3 : tie.Need-slice-aggregate-decode-3
+slice-aggregate-decode-3 c = search lending
 
-load-by-requires-3 : tie.Need-load-by-requires-3
-load-by-requires-3 c κs = search lending
+decode-requires-3 : tie.Need-decode-requires-3
+decode-requires-3 c κs = search lending
+
+array-share-prefix-buffer-3 : tie.Need-array-share-prefix-buffer-3
+array-share-prefix-buffer-3 c = search lending
+
+slice-aggregate-load-from-3 : tie.Need-slice-aggregate-load-from-3
+slice-aggregate-load-from-3 c = search lending
+
+load-from-requires-3 : tie.Need-load-from-requires-3
+load-from-requires-3 c κs = search lending
 
 same-length-5 : tie.Need-same-length-5
 same-length-5 c = search needs
@@ -66,20 +93,29 @@ load-spec =
     (tie.spec
     words-in-requires
     array-borrow-prefix-buffer
-    slice-aggregate-load-by
-    load-by-requires
+    slice-aggregate-decode
+    decode-requires
+    array-share-prefix-buffer
+    slice-aggregate-load-from
+    load-from-requires
     same-length
     same-length-2
     returns
     array-borrow-prefix-buffer-2
-    slice-aggregate-load-by-2
-    load-by-requires-2
+    slice-aggregate-decode-2
+    decode-requires-2
+    array-share-prefix-buffer-2
+    slice-aggregate-load-from-2
+    load-from-requires-2
     same-length-3
     same-length-4
     returns-2
     array-borrow-prefix-buffer-3
-    slice-aggregate-load-by-3
-    load-by-requires-3
+    slice-aggregate-decode-3
+    decode-requires-3
+    array-share-prefix-buffer-3
+    slice-aggregate-load-from-3
+    load-from-requires-3
     same-length-5
     same-length-6
     returns-3)

@@ -1,14 +1,16 @@
--- `modes::fits` meets its contract: no mode of the set is against the asked one. Assumes nothing.
+-- `modes::fits` meets its contract: it reads the digit of the set in the asked mode's row. Assumes nothing.
 use borrow.Author.Needs.{needs}
-use Rattle.modes.proofs.Laws.{bits}
 use Rattle.modes.proofs.fits.Statement.{statement}
 use Rattle.modes.proofs.fits.Tie as tie
 
-against-requires : tie.Need-against-requires
-against-requires c κs = search needs
+row-requires : tie.Need-row-requires
+row-requires c κs = search needs
+
+shr-result : tie.Need-shr-result
+shr-result c = search needs
 
 returns : tie.Need-returns
-returns c = search bits
+returns c = c .row .ensures .digit _ (search needs)
 
 pub fits-spec : {M : Type 1} → statement M
-fits-spec = tie.close (tie.spec against-requires returns)
+fits-spec = tie.close (tie.spec row-requires shr-result returns)

@@ -22,6 +22,8 @@ zero-rest-spec =
     (λ c. search rest-loop)
     (λ c κs. search rest-loop)
     (λ c. search rest-loop)
+    (λ c κs. search rest-loop)
+    (λ c. search rest-loop)
     (λ c. search rest-loop)
     (λ c. search rest-loop)
     (λ c. search rest-loop)

@@ -9,39 +9,39 @@ use Rattle.arguments.proofs.name_right.Reads as name-right-reads
 use Rattle.arguments.proofs.request_flags.Reads as request-flags-reads
 use Rattle.refusals.proofs.room_refusal.Reads as room-refusal-reads
 
--- src/lib.rt:235:9
+-- src/lib.rt:236:9
 client-right-requires : tie.Need-client-right-requires
 client-right-requires c κs = search needs
 
--- src/lib.rt:236:9
+-- src/lib.rt:237:9
 returns : tie.Need-returns
 returns c = search request-laws
 
--- src/lib.rt:239:9
+-- src/lib.rt:240:9
 returns-2 : tie.Need-returns-2
 returns-2 c = search request-laws
 
--- src/lib.rt:241:9
+-- src/lib.rt:242:9
 request-flags-requires : tie.Need-request-flags-requires
 request-flags-requires c κs = search needs
 
--- src/lib.rt:242:9
+-- src/lib.rt:243:9
 returns-3 : tie.Need-returns-3
 returns-3 c = search request-laws
 
--- src/lib.rt:244:9
+-- src/lib.rt:245:9
 name-right-requires : tie.Need-name-right-requires
 name-right-requires c κs = search needs
 
--- src/lib.rt:245:9
+-- src/lib.rt:246:9
 returns-4 : tie.Need-returns-4
 returns-4 c = search request-laws
 
--- src/lib.rt:247:5
+-- src/lib.rt:248:5
 room-refusal-requires : tie.Need-room-refusal-requires
-room-refusal-requires c κs = search needs
+room-refusal-requires c κs = search request-laws
 
--- src/lib.rt:224:1
+-- src/lib.rt:225:1
 returns-5 : tie.Need-returns-5
 returns-5 c = search request-laws
 

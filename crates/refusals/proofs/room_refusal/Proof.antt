@@ -5,42 +5,37 @@ use Rattle.refusals.proofs.room_refusal.Tie as tie
 use Rattle.refusals.proofs.room_refusal.Reads as reads
 use Rattle.refusals.proofs.room_refusal.Lts as lts
 use Rattle.arguments.proofs.no_queue.Reads as no-queue-reads
-use Rattle.names.proofs.find.Reads as find-reads
 use Rattle.queues.proofs.admits.Reads as admits-reads
 
--- src/lib.rt:208:9
-find-requires : tie.Need-find-requires
-find-requires c κs = search room-laws
-
--- src/lib.rt:209:20
+-- src/lib.rt:208:24
 shared-slice-read-if1 : tie.Need-shared-slice-read-if1
 shared-slice-read-if1 c = search room-laws
 
--- src/lib.rt:210:9
+-- src/lib.rt:209:9
 returns : tie.Need-returns
 returns c = search room-laws
 
--- src/lib.rt:212:8
+-- src/lib.rt:211:8
 shared-slice-read-if2 : tie.Need-shared-slice-read-if2
 shared-slice-read-if2 c = search room-laws
 
--- src/lib.rt:213:9
+-- src/lib.rt:212:9
 returns-2 : tie.Need-returns-2
 returns-2 c = search room-laws
 
--- src/lib.rt:215:20
+-- src/lib.rt:214:24
 no-queue-requires : tie.Need-no-queue-requires
 no-queue-requires c κs = search needs
 
--- src/lib.rt:216:9
+-- src/lib.rt:215:9
 returns-3 : tie.Need-returns-3
 returns-3 c = search room-laws
 
--- src/lib.rt:218:8
+-- src/lib.rt:217:8
 admits-requires : tie.Need-admits-requires
 admits-requires c κs = search room-laws
 
--- src/lib.rt:219:9
+-- src/lib.rt:218:9
 returns-4 : tie.Need-returns-4
 returns-4 c = search room-laws
 
@@ -52,7 +47,6 @@ pub room-refusal-spec : {M : Type 1} → statement M
 room-refusal-spec =
     tie.close
     (tie.spec
-    find-requires
     shared-slice-read-if1
     returns
     shared-slice-read-if2

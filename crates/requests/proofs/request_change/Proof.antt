@@ -8,27 +8,27 @@ use Rattle.fields.proofs.header_word.Reads as header-word-reads
 use Rattle.requests.proofs.enter.Reads as enter-reads
 use Rattle.requests.proofs.resource_for.Reads as resource-for-reads
 
--- src/lib.rt:79:9
+-- src/lib.rt:82:9
 header-word-requires : tie.Need-header-word-requires
 header-word-requires c κs = search request-laws
 
--- src/lib.rt:80:9
+-- src/lib.rt:83:9
 resource-for-requires : tie.Need-resource-for-requires
 resource-for-requires c κs = search request-laws
 
--- src/lib.rt:81:5
+-- src/lib.rt:84:5
 enter-requires : tie.Need-enter-requires
 enter-requires c κs = search request-laws
 
--- src/lib.rt:69:1
+-- src/lib.rt:70:1
 same-length : tie.Need-same-length
 same-length c = search needs
 
--- src/lib.rt:69:1
+-- src/lib.rt:70:1
 same-length-2 : tie.Need-same-length-2
 same-length-2 c = search needs
 
--- src/lib.rt:69:1
+-- src/lib.rt:70:1
 returns : tie.Need-returns
 returns c = search request-laws
 

@@ -5,42 +5,29 @@ use Rattle.requests.proofs.resource_for.Tie as tie
 use Rattle.requests.proofs.resource_for.Reads as reads
 use Rattle.requests.proofs.resource_for.Lts as lts
 use Rattle.fields.proofs.header_word.Reads as header-word-reads
-use Rattle.names.proofs.find.Reads as find-reads
 use Rattle.queues.proofs.take_resource.Reads as take-resource-reads
 
--- src/lib.rt:19:9
-find-requires : tie.Need-find-requires
-find-requires c κs = search house-laws
-
--- src/lib.rt:21:9
-same-length : tie.Need-same-length
-same-length c = search needs
-
--- src/lib.rt:21:9
-same-length-2 : tie.Need-same-length-2
-same-length-2 c = search needs
-
--- src/lib.rt:21:9
+-- src/lib.rt:22:9
 returns : tie.Need-returns
 returns c = search house-laws
 
--- src/lib.rt:23:9
+-- src/lib.rt:24:9
 header-word-requires : tie.Need-header-word-requires
 header-word-requires c κs = search house-laws
 
--- src/lib.rt:24:5
+-- src/lib.rt:25:5
 take-resource-requires : tie.Need-take-resource-requires
 take-resource-requires c κs = search house-laws
 
--- src/lib.rt:15:1
-same-length-3 : tie.Need-same-length-3
-same-length-3 c = search needs
+-- src/lib.rt:16:1
+same-length : tie.Need-same-length
+same-length c = search needs
 
--- src/lib.rt:15:1
-same-length-4 : tie.Need-same-length-4
-same-length-4 c = search needs
+-- src/lib.rt:16:1
+same-length-2 : tie.Need-same-length-2
+same-length-2 c = search needs
 
--- src/lib.rt:15:1
+-- src/lib.rt:16:1
 returns-2 : tie.Need-returns-2
 returns-2 c = search house-laws
 
@@ -48,12 +35,9 @@ pub resource-for-spec : {M : Type 1} → statement M
 resource-for-spec =
     tie.close
     (tie.spec
-    find-requires
-    same-length
-    same-length-2
     returns
     header-word-requires
     take-resource-requires
-    same-length-3
-    same-length-4
+    same-length
+    same-length-2
     returns-2)

@@ -1,38 +1,48 @@
--- what is met so far, and what the resources from r on have, is the whole; so too what belongs on the side chains, unless there are too many
-use Prim.Native.Nat.{_≤_, _+_, _*_, _-_}
-use mathlib.Core.Path.{_≡_}
-use Rattle.tables.specs.Lists.{from}
-use Rattle.tables.specs.Layout.{resources-in}
-use Rattle.checking.specs.Check.{queues-walk, blocked-at, noticed-at, sum-over}
-use Rattle.records.specs.Passes.{upto}
-use Rattle.soundness.proofs.Adding.{queues-start, queues-next, sums-none, sums-start, sums-next, too-many, all-met}
-use borrow.Author.Needs.{needs}
+-- what was found so far, and what the resources from r on have, is the whole
+use Prim.Native.Nat.{_+_, _-_}
+use mathlib.Core.Logic.{⊎-elim}
 use native.Mathlib.Omega.{arith}
+use borrow.Author.Needs.{needs}
+use Rattle.soundness.proofs.Free.{in-use}
+use Rattle.soundness.proofs.Adding.{Left, left-free, left-used, pass}
 use Rattle.soundness.proofs.queues.Statement.{statement}
 use Rattle.soundness.proofs.queues.Tie as tie
 
 abbrev Inv-loop : tie.InvT-loop
-Inv-loop words others unread n last met₀ blocked₀ noticed₀ r₀ met blocked noticed r =
-    (1 ≤ r) × ((met ≤ 4 * n + 2) × ((blocked ≤ 3073 * r) × ((noticed ≤ 3073 * r + 1024) × ((others + queues-walk words (from 1 (resources-in words)) ≡ met + queues-walk words (upto r last))
-    × ((met ≤ n → sum-over (blocked-at words) (from 1 (resources-in words)) ≡ blocked + sum-over (blocked-at words) (upto r last))
-    × (met ≤ n → unread + sum-over (noticed-at words) (from 1 (resources-in words)) ≡ noticed + sum-over (noticed-at words) (upto r last)))))))
+Inv-loop words slots others unread n last met₀ blocked₀ noticed₀ free₀ r₀ met blocked noticed free r = Left words slots others unread met blocked noticed free r
 
 abbrev μ-loop : tie.MeasureT-loop
-μ-loop words others unread n last met₀ blocked₀ noticed₀ r₀ met blocked noticed r = last + 1 - r
+μ-loop words slots others unread n last met₀ blocked₀ noticed₀ free₀ r₀ met blocked noticed free r = last + 1 - r
 
-loop-holds : tie.Need-loop-holds Inv-loop μ-loop
-loop-holds c = (omega arith, (omega arith, (omega arith, (omega arith, (search queues-start, (λ h. search sums-none, λ h. search sums-start))))))
+resource-walk-requires : tie.Need-resource-walk-requires Inv-loop μ-loop
+resource-walk-requires c κs = (search needs, ((omega arith, omega arith), in-use _ _ (c .before .before .before .before .before .row-at .ensures) (c .if3 .left)))
 
-returns : tie.Need-returns Inv-loop μ-loop
-returns c = search too-many
+-- the counts fit: those of the loop and of the walk
+add-blocked : tie.Need-add-blocked Inv-loop μ-loop
+add-blocked c =
+    let found = c .before .before .resource-walk .ensures .few in
+    let loop = c .before .before .before .before .before .before .before .before .before .before in
+    search needs
 
+add-noticed : tie.Need-add-noticed Inv-loop μ-loop
+add-noticed c =
+    let found = c .before .before .before .resource-walk .ensures .few in
+    let loop = c .before .before .before .before .before .before .before .before .before .before .before in
+    search needs
+
+-- the arms meet
 loop-again : tie.Need-loop-again Inv-loop μ-loop
 loop-again c =
-    let found = c .before .before .before .queues-at .ensures in
-    (omega arith, (omega (arith, found .short), (omega (arith, found .few), (omega (arith, found .few), (search (queues-next, found .met), (λ t. search (sums-next, found .blocked), λ t. search (sums-next, found .noticed)))))))
-
-returns-2 : tie.Need-returns-2 Inv-loop μ-loop
-returns-2 c = search all-met
+    let few = c .before .before in
+    let row = few .before .before .before in
+    let loop = row .before .before in
+    let start = loop .before .before .before .before .before in
+    ⊎-elim
+    (λ w. left-free _ _ _ _ (loop .loop .inv) (start .pre .0) (row .before .loop-test .taken) (few .before .before .resource-fine .ensures) (few .before .if1 .left) (few .if2 .left)
+    (row .row-at .ensures) (w .0 .taken) (w .1) (w .2) (w .3) (w .4))
+    (λ w. left-used _ _ _ _ (loop .loop .inv) (start .pre .0) (row .before .loop-test .taken) (few .before .before .resource-fine .ensures) (few .before .if1 .left) (few .if2 .left)
+    (row .row-at .ensures) (w .0 .left) (w .1 .ensures) (w .5) (w .6) (w .7) (w .8))
+    (c .if3 .came)
 
 pub queues-spec : {M : Type 1} → statement M
 queues-spec =
@@ -42,13 +52,19 @@ queues-spec =
     μ-loop
     (λ c. search needs)
     (λ c. search needs)
-    loop-holds
-    returns
+    (λ c. search pass)
     (λ c κs. search needs)
+    (λ c κs. search needs)
+    (λ c κs. search needs)
+    (λ c. search pass)
+    (λ c κs. search needs)
+    (λ c. search pass)
     (λ c. search needs)
+    resource-walk-requires
     (λ c. search needs)
-    (λ c. search needs)
+    add-blocked
+    add-noticed
     (λ c. search needs)
     (λ c. search needs)
     loop-again
-    returns-2)
+    (λ c. search pass))

@@ -26,8 +26,7 @@ use Rattle.access.specs.Contracts.{Some, Tells}
 use Rattle.access.proofs.States.{locks-is, resources-is, sized-is}
 use Rattle.names.proofs.States.{slot-there, value-is}
 use Rattle.queues.specs.Contracts.{Lent}
-use Rattle.refusals.specs.Contracts.{TellsBoth}
-use Rattle.manager.specs.Reads.{unread, Placed, value-beside}
+use Rattle.value_read.specs.Reads.{unread, Placed, TellsBoth, value-beside}
 
 -- a lock that holds a mode is one of the locks, and its resource is one of the resources
 module _ (k : ℕ) (t : Tables) (p : Placed k t) where
@@ -109,6 +108,9 @@ module _ (ws ss : List ℕ) (b : Bool) (checked : b ≡ sound ws ss) (c k : ℕ)
     core : Core t
     core = sound-valid ws ss is-sound .core
 
+    pub read-core : Some Core ws
+    read-core = record { state = t; good = core; is = sound-words ws ss is-sound }
+
     entry-is : read-value (look-refusal c k t) (lock t k .resource) t ≡ read-entry ws ss c k
     unfolding read-entry read-if
     entry-is = rw is-sound
@@ -135,4 +137,4 @@ module _ (ws ss : List ℕ) (b : Bool) (checked : b ≡ sound ws ss) (c k : ℕ)
 
 pub ruleset placing = (needs, placed-sized, placed-lock, placed-resource, placed-slot, value-told)
 
-pub ruleset reads = (needs, read-unsound, read-refused, read-lent, read-done)
+pub ruleset reads = (needs, read-unsound, read-core, read-refused, read-lent, read-done)

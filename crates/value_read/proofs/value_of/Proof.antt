@@ -1,8 +1,8 @@
-use Rattle.manager.proofs.Reading.{placed-resource, placed-slot, placing}
-use Rattle.manager.proofs.value_of.Statement.{statement}
-use Rattle.manager.proofs.value_of.Tie as tie
-use Rattle.manager.proofs.value_of.Reads as reads
-use Rattle.manager.proofs.value_of.Lts as lts
+use Rattle.value_read.proofs.Reading.{placed-resource, placed-slot, placing}
+use Rattle.value_read.proofs.value_of.Statement.{statement}
+use Rattle.value_read.proofs.value_of.Tie as tie
+use Rattle.value_read.proofs.value_of.Reads as reads
+use Rattle.value_read.proofs.value_of.Lts as lts
 use Rattle.fields.proofs.lock_word.Reads as lock-word-reads
 use Rattle.fields.proofs.resource_word.Reads as resource-word-reads
 use Rattle.names.proofs.value_at.Reads as value-at-reads

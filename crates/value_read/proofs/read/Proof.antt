@@ -1,12 +1,11 @@
-use Rattle.manager.proofs.Entering.{entry-core}
-use Rattle.manager.proofs.Reading.{reads}
+use Rattle.value_read.proofs.Reading.{reads}
 use borrow.Author.Needs.{needs}
-use Rattle.manager.proofs.read.Statement.{statement}
-use Rattle.manager.proofs.read.Tie as tie
-use Rattle.manager.proofs.read.Reads as reads
-use Rattle.manager.proofs.read.Lts as lts
-use Rattle.manager.proofs.not_read.Reads as not-read-reads
-use Rattle.manager.proofs.value_of.Reads as value-of-reads
+use Rattle.value_read.proofs.read.Statement.{statement}
+use Rattle.value_read.proofs.read.Tie as tie
+use Rattle.value_read.proofs.read.Reads as reads
+use Rattle.value_read.proofs.read.Lts as lts
+use Rattle.value_read.proofs.not_read.Reads as not-read-reads
+use Rattle.value_read.proofs.value_of.Reads as value-of-reads
 use Rattle.refusals.proofs.look_refusal.Reads as look-refusal-reads
 use Rattle.soundness.proofs.sound.Reads as sound-reads
 
@@ -24,7 +23,7 @@ returns c = search reads
 
 -- src/lib.rt:97:9
 look-refusal-requires : tie.Need-look-refusal-requires
-look-refusal-requires c κs = search (reads, entry-core)
+look-refusal-requires c κs = search reads
 
 -- src/lib.rt:99:9
 not-read-requires-2 : tie.Need-not-read-requires-2

@@ -1,9 +1,9 @@
 use borrow.Author.Needs.{needs}
 use Rattle.tables.specs.State.{no-value}
-use Rattle.manager.proofs.not_read.Statement.{statement}
-use Rattle.manager.proofs.not_read.Tie as tie
-use Rattle.manager.proofs.not_read.Reads as reads
-use Rattle.manager.proofs.not_read.Lts as lts
+use Rattle.value_read.proofs.not_read.Statement.{statement}
+use Rattle.value_read.proofs.not_read.Tie as tie
+use Rattle.value_read.proofs.not_read.Reads as reads
+use Rattle.value_read.proofs.not_read.Lts as lts
 
 -- src/lib.rt:67:1
 returns : tie.Need-returns

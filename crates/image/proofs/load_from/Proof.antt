@@ -1,14 +1,11 @@
 use native.Mathlib.Omega.{arith}
 use Rattle.image.proofs.Entries.{both-fit, loading}
 use borrow.Author.Needs.{needs}
-use Rattle.image.proofs.load_by.Statement.{statement}
-use Rattle.image.proofs.load_by.Tie as tie
+use Rattle.image.proofs.load_from.Statement.{statement}
+use Rattle.image.proofs.load_from.Tie as tie
 
-unpack-requires : tie.Need-unpack-requires
-unpack-requires c κs = search needs
-
-same-length : tie.Need-same-length
-same-length c = search needs
+is-sound-requires : tie.Need-is-sound-requires
+is-sound-requires c κs = search needs
 
 returns : tie.Need-returns
 returns c = search loading
@@ -19,14 +16,11 @@ mul-start c = search needs
 sub-if2 : tie.Need-sub-if2
 sub-if2 c = search needs
 
-same-length-2 : tie.Need-same-length-2
-same-length-2 c = search needs
-
 returns-2 : tie.Need-returns-2
 returns-2 c = search loading
 
-decode-requires : tie.Need-decode-requires
-decode-requires c κs = omega (arith, both-fit)
+copy-words-requires : tie.Need-copy-words-requires
+copy-words-requires c κs = omega (arith, both-fit)
 
 sub-copy : tie.Need-sub-copy
 sub-copy c = search needs
@@ -40,35 +34,29 @@ part-copy-end c = search needs
 copy-requires : tie.Need-copy-requires
 copy-requires c κs = search loading
 
-same-length-3 : tie.Need-same-length-3
-same-length-3 c = search needs
+same-length : tie.Need-same-length
+same-length c = search needs
 
-same-length-4 : tie.Need-same-length-4
-same-length-4 c = search needs
-
-same-length-5 : tie.Need-same-length-5
-same-length-5 c = search needs
+same-length-2 : tie.Need-same-length-2
+same-length-2 c = search needs
 
 returns-3 : tie.Need-returns-3
 returns-3 c = search loading
 
-pub load-by-spec : {M : Type 1} → statement M
-load-by-spec =
+pub load-from-spec : {M : Type 1} → statement M
+load-from-spec =
     tie.close
     (tie.spec
-    unpack-requires
-    same-length
+    is-sound-requires
     returns
     mul-start
     sub-if2
-    same-length-2
     returns-2
-    decode-requires
+    copy-words-requires
     sub-copy
     part-copy-start
     part-copy-end
     copy-requires
-    same-length-3
-    same-length-4
-    same-length-5
+    same-length
+    same-length-2
     returns-3)

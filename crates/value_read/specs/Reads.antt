@@ -1,11 +1,13 @@
 -- What `read` answers, and what its parts stand on and say.
 use mathlib.Core.Path.{_≡_}
 use mathlib.Core.Bool.{true}
+use mathlib.Core.List.{List}
 use Prim.Native.Nat.{ℕ}
 use Rattle.tables.specs.State.{Tables, no-value, lock, resource, holds}
+use Rattle.tables.specs.Layout.{words, slots}
 use Rattle.tables.proofs.Valid.{Core}
 use Rattle.rules.specs.Entries.{Reading}
-use Rattle.manager.specs.declared.ValueRead.{ValueRead}
+use Rattle.value_read.specs.declared.ValueRead.{ValueRead}
 
 -- document 01's values for the struct: "the 32 bytes and validity"
 abbrev pub reading : ValueRead → Reading
@@ -19,6 +21,10 @@ unread n = record { refusal = n; value = no-value; valid = 0 }
 pub record Placed (k : ℕ) (t : Tables) : Type 0 where
   pub core : Core t
   pub is-holder : holds (lock t k) ≡ true
+
+-- x is what g says of the state whose words and slots these are
+pub record TellsBoth {ℓ} {A : Type ℓ} (P : Tables → Type 0) (g : Tables → A) (ws ss : List ℕ) (x : A) : Type ℓ where
+  pub then : (t : Tables) → P t → ws ≡ words t → ss ≡ slots t → x ≡ g t
 
 -- the value and the validity where k stands
 unfoldable pub value-beside : ℕ → Tables → Reading
