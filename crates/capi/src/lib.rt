@@ -81,28 +81,28 @@ pub extern "C" fn zamgyorud_release(
 pub extern "C" fn zamgyorud_cancel(words: &mut [u32], slots: &[u8], client: u32, lock: u32) -> u64
     ensures { λ r. ⌜ outcome (unpacked r) (now (words .exit)) (now (slots .entry)) ≡ cancel-entry (now (words .entry)) (now (slots .entry)) client lock ⌝ }
 {
-    packing::cancelled(manager::cancel(words, slots, client, lock))
+    packing::cancelled(recovery::cancel(words, slots, client, lock))
 }
 
 #[no_mangle]
 pub extern "C" fn zamgyorud_purge(words: &mut [u32], slots: &mut [u8], client: u32) -> u64
     ensures { λ r. ⌜ outcome (unpacked r) (now (words .exit)) (now (slots .exit)) ≡ purge-entry (now (words .entry)) (now (slots .entry)) client ⌝ }
 {
-    packing::purged(manager::purge(words, slots, client))
+    packing::purged(recovery::purge(words, slots, client))
 }
 
 #[no_mangle]
 pub extern "C" fn zamgyorud_break(words: &mut [u32], slots: &[u8]) -> u64
     ensures { λ r. ⌜ outcome (unpacked r) (now (words .exit)) (now (slots .entry)) ≡ break-entry (now (words .entry)) (now (slots .entry)) ⌝ }
 {
-    packing::broken(manager::break_deadlock(words, slots))
+    packing::broken(recovery::break_deadlock(words, slots))
 }
 
 #[no_mangle]
 pub extern "C" fn zamgyorud_poll(words: &mut [u32], slots: &[u8], client: u32) -> u64
     ensures { λ r. ⌜ outcome (unpacked-with-lock r) (now (words .exit)) (now (slots .entry)) ≡ poll-entry (now (words .entry)) (now (slots .entry)) client ⌝ }
 {
-    packing::polled(manager::poll(words, slots, client))
+    packing::polled(recovery::poll(words, slots, client))
 }
 
 // The value block goes to the front of the lent value, as much as fits: zeros where the call is refused.

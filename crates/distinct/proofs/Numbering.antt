@@ -3,7 +3,7 @@ use mathlib.Core.Path.{_≡_, refl, sym, ap, ap₂, _∙_}
 use mathlib.Core.Bool.{Bool, true, false, _||_}
 use mathlib.Core.List.{List, _++_}
 use Prim.Native.Nat.{ℕ, _+_, _-_, _*_, _%_, _<_, _≤_, _^_}
-use native.Mathlib.Nat.{le-trans, mod-lt, mul-le-mul-left, mul-le-mul-right}
+use native.Mathlib.Nat.{le-trans, mul-le-mul-left, mul-le-mul-right}
 use native.Mathlib.Numerals.{add-one}
 use native.Mathlib.Omega.{arith}
 use borrow.Author.Needs.{needs}
@@ -64,10 +64,6 @@ number-read ks ss r start {x} e h =
     let q : start + name-width - start ≡ name-width = omega arith in
     let f : take (start + name-width - start) (drop start ss) ≡ take name-width (slot-in ss r) = rw (q, e) (slot-head ss r name-width (omega arith)) in
     rw (h, f)
-
-pub number-small : (ks ss : List ℕ) (r : ℕ) → number ks ss r < number-range
-unfolding number
-number-small ks ss r = mod-lt _ (omega arith)
 
 pub ruleset number-laws = (needs, number-read)
 

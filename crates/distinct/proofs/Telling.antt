@@ -15,10 +15,10 @@ use Rattle.tables.proofs.Cases.{by-cases, by-equal, clash, and-left, and-right,
 use Rattle.names.specs.Names.{named, name-in, apart, apart-after, names-differ}
 use Rattle.names.specs.Standing.{Tidy}
 use Rattle.names.proofs.Runs.{upto}
-use Rattle.distinct.specs.Numbers.{name-words, number-range, places, place, number, Noted, Tells}
+use Rattle.distinct.specs.Numbers.{name-words, places, place, number, Noted, Tells}
 use Rattle.distinct.proofs.Runs.{all-each, down-next, down-stop, down-end}
 use Rattle.distinct.proofs.Comparing.{free-after, differ-run}
-use Rattle.distinct.proofs.Numbering.{number-small, both-named, same-number}
+use Rattle.distinct.proofs.Numbering.{both-named, same-number}
 
 not-any : (x : ℕ) (xs : List ℕ) → any (eqb x) xs ≡ false → (i : ℕ) → i < length xs → x ≡ getD xs i 0 → ⊥
 unfolding any
@@ -93,7 +93,7 @@ module _ (ws ss ks ns : List ℕ) (ms : List Bool) (r : ℕ) (noted : Noted ws s
 
     new-noted : Noted ws ss ks (set ns r x) (set ms (place x) true) (r - 1)
     new-noted =
-        let l : place x < length ms = let m = noted .marks in let h : x < number-range = rw own (number-small ks ss r) in omega arith in
+        let l : place x < length ms = let m = noted .marks in omega arith in
         note (set ms (place x) true) (length-set ms (place x) true ∙ noted .marks)
         (λ i h. by-equal i (place x) (λ e. rw e (getD-set-same ms (place x) true false l)) (λ e. getD-set-other ms (place x) i true false e ∙ h))
         (getD-set-same ms (place x) true false l)

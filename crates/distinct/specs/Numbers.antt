@@ -21,9 +21,9 @@ number-range = 2 ^ 32
 abbrev pub places : ℕ
 places = 4096
 
--- the place of a number among the marks: its leading twelve binary digits
+-- the place of a number among the marks: the sum of its leading and last twelve binary digits, and of that the last twelve
 abbrev pub place : ℕ → ℕ
-place x = x / (number-range / places)
+place x = (x + x / (number-range / places)) % places
 
 -- the first n words of bs, each times its weight, summed up
 unfoldable pub weighed : List ℕ → List ℕ → ℕ → ℕ

@@ -52,8 +52,8 @@ const WEIGHTS: [u16; NAME_WORDS] = [
 // A number has 32 bits: the lower half of the sum.
 const NUMBER_RANGE: u64 = 4294967296;
 
-// Marks for the numbers that were met, each at its number's leading twelve bits: these depend on all bytes of a name. There
-// are more places than names, so that a place is seldom marked already if the numbers are spread evenly.
+// Marks for the numbers that were met, each at the sum of its number's leading and last twelve bits: either alone is equal
+// for many names that count up. There are more places than names, so that a place is seldom marked already.
 const PLACES: usize = 4096;
 
 const PLACE_STEP: usize = NUMBER_RANGE as usize / PLACES;
@@ -180,7 +180,8 @@ fn new_name(
     }
     let x = number(slots, weights, r);
     numbers[r as usize] = x;
-    let place = wide(x) / PLACE_STEP;
+    let digits = wide(x);
+    let place = (digits + digits / PLACE_STEP) % PLACES;
     if !met[place] {
         met[place] = true;
         return true;

@@ -67,12 +67,12 @@ pub ruleset imaging = (needs, image-unsound, image-misfit, image-made, area-fron
 pub both-fit : (a b : ℕ) (y : Bool) → not (eqb a b && y) ≡ false → a ≡ b
 both-fit a b y h = eqb-true a b (and-left _ _ (not-false (eqb a b && y) h))
 
-module _ (bs zs ws ss : List ℕ) (x : Bool) (ex : x ≡ image-sound bs) where
+module _ (bs ws ss : List ℕ) (x : Bool) (ex : x ≡ image-sound bs) where
   pub load-unsound : not x ≡ true → outcome (refused 1) ws ss ≡ load-entry bs ws ss
   unfolding load-entry load-refusal unless load-into
   load-unsound h = let s : image-sound bs ≡ false = sym ex ∙ not-true x h in rw s
 
-  module _ (right : not x ≡ false) (d : Decoded bs zs) where
+  module _ (right : not x ≡ false) (zs : List ℕ) (d : Decoded bs zs) where
     sound-here : image-sound bs ≡ true
     sound-here = sym ex ∙ not-false x right
 

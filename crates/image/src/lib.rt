@@ -62,7 +62,7 @@ pub fn words_in(image: &[u8]) -> usize
     n
 }
 
-// Whether it is an image of sound tables. `decoded` holds its words: an image with no words isn't one.
+// Whether it is an image of sound tables. `decoded` holds its words; an image with none isn't.
 pub fn is_sound(image: &[u8], decoded: &[u32]) -> bool
     requires { ⌜ Decoded (now image) (now decoded) ⌝ }
     ensures { λ x. ⌜ x ≡ image-sound (now (image .entry)) ⌝ }
@@ -101,8 +101,8 @@ fn load_from(image: &[u8], decoded: &[u32], words: &mut [u32], slots: &mut [u8])
     Done::Accepted
 }
 
-// The same, the image's words in a buffer. They are decoded where the buffer is made: so it is known to be no one else's,
-// and to need no clearing where words go.
+// The same, the image's words in a buffer. They are decoded where it is made: the optimizer then sees that nobody else has
+// it, clears only what they leave over, and copies by the C library.
 pub fn load(image: &[u8], words: &mut [u32], slots: &mut [u8]) -> Done
     ensures { λ r. ⌜ outcome (done r) (now (words .exit)) (now (slots .exit)) ≡ load-entry (now (image .entry)) (now (words .entry)) (now (slots .entry)) ⌝ }
 {

@@ -173,28 +173,28 @@ fn release_line(words: &mut [u32], slots: &mut [u8], client: u32, lock: u32, fla
 fn cancel_line(words: &mut [u32], slots: &[u8], client: u32, lock: u32) -> Outcome
     ensures { λ r. ⌜ gives r (now (words .exit)) (now (slots .entry)) ≡ plays 120 (to-cancel client lock) (lent (now (words .entry)) (now (slots .entry))) ⌝ }
 {
-    let r = manager::cancel(words, slots, client, lock);
+    let r = recovery::cancel(words, slots, client, lock);
     answered(b'x', cancelled_numbers(r))
 }
 
 fn purge_line(words: &mut [u32], slots: &mut [u8], client: u32) -> Outcome
     ensures { λ r. ⌜ gives r (now (words .exit)) (now (slots .exit)) ≡ plays 112 (to-purge client) (lent (now (words .entry)) (now (slots .entry))) ⌝ }
 {
-    let r = manager::purge(words, slots, client);
+    let r = recovery::purge(words, slots, client);
     answered(b'p', purged_numbers(r))
 }
 
 fn break_line(words: &mut [u32], slots: &[u8]) -> Outcome
     ensures { λ r. ⌜ gives r (now (words .exit)) (now (slots .entry)) ≡ plays 100 to-break (lent (now (words .entry)) (now (slots .entry))) ⌝ }
 {
-    let r = manager::break_deadlock(words, slots);
+    let r = recovery::break_deadlock(words, slots);
     answered(b'd', broken_numbers(r))
 }
 
 fn poll_line(words: &mut [u32], slots: &[u8], client: u32) -> Outcome
     ensures { λ r. ⌜ gives r (now (words .exit)) (now (slots .entry)) ≡ plays-with-lock 110 (to-poll client) (lent (now (words .entry)) (now (slots .entry))) ⌝ }
 {
-    let r = manager::poll(words, slots, client);
+    let r = recovery::poll(words, slots, client);
     answered_with_lock(b'n', polled_numbers(r))
 }
 

@@ -18,6 +18,7 @@ new-name-spec =
     (λ c. search telling)
     (λ c. search telling)
     (λ c. search telling)
+    (λ c. search telling)
     (λ c κs. search telling)
     (λ c κs. search telling)
     (λ c. search telling)

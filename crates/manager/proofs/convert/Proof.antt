@@ -1,4 +1,4 @@
-use Rattle.manager.proofs.Entering.{entering, convert-lent}
+use Rattle.entering.proofs.Entering.{entering, convert-lent}
 use borrow.Author.Needs.{needs}
 use Rattle.manager.proofs.convert.Statement.{statement}
 use Rattle.manager.proofs.convert.Tie as tie

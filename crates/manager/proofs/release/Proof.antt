@@ -1,4 +1,4 @@
-use Rattle.manager.proofs.Entering.{entering, release-lent}
+use Rattle.entering.proofs.Entering.{entering, release-lent}
 use borrow.Author.Needs.{needs}
 use Rattle.manager.proofs.release.Statement.{statement}
 use Rattle.manager.proofs.release.Tie as tie

@@ -1,4 +1,4 @@
-use Rattle.manager.proofs.Entering.{entering, request-refused, request-lent}
+use Rattle.entering.proofs.Entering.{entering, request-refused, request-lent}
 use borrow.Author.Needs.{needs}
 use Rattle.manager.proofs.request.Statement.{statement}
 use Rattle.manager.proofs.request.Tie as tie

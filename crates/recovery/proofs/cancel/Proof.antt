@@ -1,9 +1,9 @@
-use Rattle.manager.proofs.Entering.{entering}
+use Rattle.entering.proofs.Entering.{entering}
 use borrow.Author.Needs.{needs}
-use Rattle.manager.proofs.cancel.Statement.{statement}
-use Rattle.manager.proofs.cancel.Tie as tie
-use Rattle.manager.proofs.cancel.Reads as reads
-use Rattle.manager.proofs.cancel.Lts as lts
+use Rattle.recovery.proofs.cancel.Statement.{statement}
+use Rattle.recovery.proofs.cancel.Tie as tie
+use Rattle.recovery.proofs.cancel.Reads as reads
+use Rattle.recovery.proofs.cancel.Lts as lts
 use Rattle.refusals.proofs.cancel_refusal.Reads as cancel-refusal-reads
 use Rattle.releases.proofs.cancel_change.Reads as cancel-change-reads
 use Rattle.soundness.proofs.sound.Reads as sound-reads

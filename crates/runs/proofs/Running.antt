@@ -8,7 +8,7 @@ use Rattle.rules.specs.Theorem.{Lent, left, after, sum-of, in-use, requests, re
 use Rattle.rules.proofs.Lists.{queue-theorem}
 use Rattle.answers.specs.declared.Done.{Done}
 use Rattle.answers.specs.Answers.{done, outcome}
-use Rattle.manager.specs.Runs.{Turn, said, Keeps, Run, last, calls, sum-over, RunHolds}
+use Rattle.runs.specs.Runs.{Turn, said, Keeps, Run, last, calls, sum-over, RunHolds}
 
 -- what a turn left is what the definition of its call leaves
 left-is : (t : Lent) (u : Turn) → Keeps t u → u .left ≡ left (theorem.outcome (u .call) t)

@@ -1,9 +1,9 @@
-use Rattle.manager.proofs.Entering.{entering}
+use Rattle.entering.proofs.Entering.{entering}
 use borrow.Author.Needs.{needs}
-use Rattle.manager.proofs.purge.Statement.{statement}
-use Rattle.manager.proofs.purge.Tie as tie
-use Rattle.manager.proofs.purge.Reads as reads
-use Rattle.manager.proofs.purge.Lts as lts
+use Rattle.recovery.proofs.purge.Statement.{statement}
+use Rattle.recovery.proofs.purge.Tie as tie
+use Rattle.recovery.proofs.purge.Reads as reads
+use Rattle.recovery.proofs.purge.Lts as lts
 use Rattle.purges.proofs.purge_change.Reads as purge-change-reads
 use Rattle.refusals.proofs.client_refusal.Reads as client-refusal-reads
 use Rattle.soundness.proofs.sound.Reads as sound-reads

@@ -1,9 +1,9 @@
-use Rattle.manager.proofs.Entering.{entering}
+use Rattle.entering.proofs.Entering.{entering}
 use borrow.Author.Needs.{needs}
-use Rattle.manager.proofs.break_deadlock.Statement.{statement}
-use Rattle.manager.proofs.break_deadlock.Tie as tie
-use Rattle.manager.proofs.break_deadlock.Reads as reads
-use Rattle.manager.proofs.break_deadlock.Lts as lts
+use Rattle.recovery.proofs.break_deadlock.Statement.{statement}
+use Rattle.recovery.proofs.break_deadlock.Tie as tie
+use Rattle.recovery.proofs.break_deadlock.Reads as reads
+use Rattle.recovery.proofs.break_deadlock.Lts as lts
 use Rattle.notices.proofs.break_change.Reads as break-change-reads
 use Rattle.soundness.proofs.sound.Reads as sound-reads
 

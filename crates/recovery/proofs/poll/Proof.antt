@@ -1,9 +1,9 @@
-use Rattle.manager.proofs.Entering.{entering}
+use Rattle.entering.proofs.Entering.{entering}
 use borrow.Author.Needs.{needs}
-use Rattle.manager.proofs.poll.Statement.{statement}
-use Rattle.manager.proofs.poll.Tie as tie
-use Rattle.manager.proofs.poll.Reads as reads
-use Rattle.manager.proofs.poll.Lts as lts
+use Rattle.recovery.proofs.poll.Statement.{statement}
+use Rattle.recovery.proofs.poll.Tie as tie
+use Rattle.recovery.proofs.poll.Reads as reads
+use Rattle.recovery.proofs.poll.Lts as lts
 use Rattle.notices.proofs.poll_change.Reads as poll-change-reads
 use Rattle.refusals.proofs.client_refusal.Reads as client-refusal-reads
 use Rattle.soundness.proofs.sound.Reads as sound-reads

@@ -1,0 +1,1 @@
+// Runs of the program: every list of calls of its entries. Nothing of it is code.
