@@ -9,13 +9,13 @@ use borrow.Author.Tests.{not-true, not-false, le-leb, lt-leb}
 use Rattle.checking.specs.Check.{steps}
 use Rattle.chains.specs.Walks.{guarded, left}
 
+pub steps-zero : (link : ℕ → ℕ) (t : ℕ → Bool) (n : ℕ) → steps link t n 0 ≡ 0
+unfolding steps
+steps-zero link t zero = refl
+steps-zero link t (suc n) = refl
+
 -- it ends; it is too long; it leaves the table; it meets what doesn't pass; it goes on
 module _ (link : ℕ → ℕ) (q : ℕ → Bool) where
-  steps-zero : (t : ℕ → Bool) (n : ℕ) → steps link t n 0 ≡ 0
-  unfolding steps
-  steps-zero t zero = refl
-  steps-zero t (suc n) = refl
-
   steps-none : (t : ℕ → Bool) (k : ℕ) → (k ≡ 0 → ⊥) → steps link t 0 k ≡ 1
   unfolding steps
   steps-none t zero e = absurd (e refl)
@@ -28,7 +28,7 @@ module _ (link : ℕ → ℕ) (q : ℕ → Bool) where
 
   pub walk-end : (n : ℕ) {m k whole : ℕ} → whole ≡ left link q n m k → k ≡ 0 → m ≡ whole
   unfolding left
-  walk-end n {m} {k} {whole} i e = let w : whole ≡ m + 0 = i ∙ rw (e, steps-zero (guarded n q) (n - m)) in omega arith
+  walk-end n {m} {k} {whole} i e = let w : whole ≡ m + 0 = i ∙ rw (e, steps-zero link (guarded n q) (n - m)) in omega arith
 
   pub walk-long : {n m k whole : ℕ} → whole ≡ left link q n m k → m ≤ n → (k ≡ 0 → ⊥) → n ≤ m → n + 1 ≡ whole
   unfolding left

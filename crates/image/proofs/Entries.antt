@@ -1,8 +1,8 @@
 -- The ways out of image and load_from.
 use mathlib.Core.Path.{_≡_, refl, sym, ap, ap₂, _∙_}
 use mathlib.Core.Bool.{Bool, true, false, _&&_, not}
-use mathlib.Core.List.{List, _++_, append-nil}
-use Prim.Native.Nat.{ℕ, _+_, _*_, _-_, _≤_}
+use mathlib.Core.List.{List, [], _++_, append-nil}
+use Prim.Native.Nat.{ℕ, zero, suc, _+_, _*_, _-_, _≤_}
 use native.Mathlib.Omega.{arith}
 use borrow.Author.Needs.{needs}
 use borrow.Author.Tests.{eqb-true, eq-eqb, ne-eqb, not-true, not-false}
@@ -11,14 +11,18 @@ use lib.Dec.{eqb}
 use lib.ListN.{length, take, drop, length-drop, drop-of-length-le}
 use lib.Seq.{take-at, length-take-le}
 use Rattle.tables.specs.Sound.{sound}
-use Rattle.tables.proofs.Cases.{and-left, and-right}
+use Rattle.tables.proofs.Cases.{by-cases, and-left, and-right}
+use Rattle.tables.proofs.Conditions.{words-sized}
 use Rattle.rules.specs.Calls.{unless}
+use Rattle.rules.specs.Entries.{Outcome}
 use Rattle.rules.specs.Images.{image-bytes, image-refusal, image-into, image-entry, image-size, image-words, image-slots, image-sound, load-refusal, load-into, load-entry}
-use Rattle.answers.specs.Answers.{accepted, refused, outcome}
+use Rattle.answers.specs.declared.Done.{Done}
+use Rattle.answers.specs.declared.Done.the-variants.{Accepted, Refused}
+use Rattle.answers.specs.Answers.{accepted, refused, done, outcome}
 use Rattle.encoding.specs.Bytes.{encoded}
 use Rattle.encoding.proofs.Loops.{length-encoded}
 use Rattle.image.specs.Contracts.{imaged, Decoded}
-use Rattle.image.proofs.Measuring.{rest-slots, decoded-words, decoded-size}
+use Rattle.image.proofs.Measuring.{sound-inside, rest-slots, decoded-words, decoded-size}
 
 -- image
 module _ (ws ss area : List ℕ) (x : Bool) (ex : x ≡ sound ws ss) where
@@ -108,3 +112,42 @@ module _ (bs ws ss : List ℕ) (x : Bool) (ex : x ≡ image-sound bs) where
           (ap₂ (outcome (accepted 0 0)) (ev ∙ decoded-words bs zs d sound-here) (et ∙ part-is))
 
 pub ruleset loading = (needs, load-unsound, load-misfit, load-slots, load-done)
+
+-- sound_image: a large image that is loaded into nothing is refused for the lengths where it is sound
+refusal-kept : (bs ws ss : List ℕ) (n : ℕ) → load-into n bs ws ss .refusal ≡ n
+unfolding load-into
+refusal-kept bs ws ss zero = refl
+refusal-kept bs ws ss (suc n) = refl
+
+module _ (bs ws ss : List ℕ) (d : Done) (told : outcome (done d) ws ss ≡ load-entry bs [] []) where
+  refusal-told : done d .refusal ≡ load-refusal bs [] []
+  unfolding load-entry
+  refusal-told = ap (λ (o : Outcome). o .refusal) told ∙ refusal-kept bs [] [] (load-refusal bs [] [])
+
+  nothing-fits : image-sound bs ≡ true → load-refusal bs [] [] ≡ 14
+  unfolding load-refusal unless
+  nothing-fits s =
+      let long : length (image-words bs) ≡ 0 → ⊥ = λ e. omega (arith, words-sized (image-words bs) (image-slots bs) (sound-inside bs s)) in
+      rw (s, ne-eqb 0 (length (image-words bs)) (λ e. long (sym e)))
+
+  nothing-sound : image-sound bs ≡ false → load-refusal bs [] [] ≡ 1
+  unfolding load-refusal unless
+  nothing-sound s = rw s
+
+  pub nothing-refused : (x : ℕ) → d ≡ Refused x → eqb x 14 ≡ image-sound bs
+  nothing-refused x e =
+      by-cases (image-sound bs)
+      (λ s. eq-eqb x 14 (number x (sym (ap (λ (y : Done). done y .refusal) e) ∙ refusal-told ∙ nothing-fits s)) ∙ sym s)
+      (λ s. ne-eqb x 14 (λ q. absurd (omega (arith, rw q at (sym (ap (λ (y : Done). done y .refusal) e) ∙ refusal-told ∙ nothing-sound s)))) ∙ sym s)
+    where
+      number : (x : ℕ) → done (Refused x) .refusal ≡ 14 → x ≡ 14
+      number zero h = absurd (omega (arith, h))
+      number (suc n) h = h
+
+  pub nothing-loaded : d ≡ Accepted → false ≡ image-sound bs
+  nothing-loaded e =
+      by-cases (image-sound bs)
+      (λ s. absurd (omega (arith, sym (ap (λ (y : Done). done y .refusal) e) ∙ refusal-told ∙ nothing-fits s)))
+      sym
+
+pub ruleset nothing = (needs, nothing-refused, nothing-loaded)

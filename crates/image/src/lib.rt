@@ -15,14 +15,14 @@ ghost use Rattle.answers.specs.Answers.{done, outcome};
 ghost use Rattle.image.specs.Contracts.{imaged, Measured, Decoded};
 
 // The words of the largest tables.
-pub const MOST_WORDS: usize = fields::HEADER_WORDS
+const MOST_WORDS: usize = fields::HEADER_WORDS
     + fields::RESOURCE_WORDS * fields::MOST_RESOURCES
     + fields::LOCK_WORDS * fields::MOST_LOCKS;
 
 // The smaller buffers. What decoding leaves over is cleared, so an image's words go to the smallest that has room for them.
-pub const SMALL_WORDS: usize = 128;
+const SMALL_WORDS: usize = 128;
 
-pub const MIDDLE_WORDS: usize = 3072;
+const MIDDLE_WORDS: usize = 3072;
 
 // The refusal of what isn't the image of sound tables.
 pub const NO_IMAGE: u32 = UNSOUND;
@@ -63,7 +63,7 @@ pub fn words_in(image: &[u8]) -> usize
 }
 
 // Whether it is an image of sound tables. `decoded` holds its words; an image with none isn't.
-pub fn is_sound(image: &[u8], decoded: &[u32]) -> bool
+fn is_sound(image: &[u8], decoded: &[u32]) -> bool
     requires { ⌜ Decoded (now image) (now decoded) ⌝ }
     ensures { λ x. ⌜ x ≡ image-sound (now (image .entry)) ⌝ }
 {
@@ -101,8 +101,26 @@ fn load_from(image: &[u8], decoded: &[u32], words: &mut [u32], slots: &mut [u8])
     Done::Accepted
 }
 
-// The same, the image's words in a buffer. They are decoded where it is made: the optimizer then sees that nobody else has
-// it, clears only what they leave over, and copies by the C library.
+// The same, the image's words in a large buffer. They are decoded where it is made: the optimizer then sees that nobody
+// else has it, clears only what they leave over, and copies by the C library. What is lent is lent on as wholes of itself,
+// as in `soundness::sound`. Two functions call this one, so that the compiler leaves it a function: these buffers are then
+// not on the stack where the image is small.
+fn load_large(image: &[u8], words: &mut [u32], slots: &mut [u8]) -> Done
+    ensures { λ r. ⌜ outcome (done r) (now (words .exit)) (now (slots .exit)) ≡ load-entry (now (image .entry)) (now (words .entry)) (now (slots .entry)) ⌝ }
+{
+    let bytes = &image[..];
+    let n = words_in(bytes);
+    if n <= MIDDLE_WORDS {
+        let mut buffer = [0; MIDDLE_WORDS];
+        decode(bytes, &mut buffer[..n]);
+        return load_from(bytes, &buffer[..n], &mut words[..], &mut slots[..]);
+    }
+    let mut buffer = [0; MOST_WORDS];
+    decode(bytes, &mut buffer[..n]);
+    load_from(bytes, &buffer[..n], &mut words[..], &mut slots[..])
+}
+
+// The same, any image.
 pub fn load(image: &[u8], words: &mut [u32], slots: &mut [u8]) -> Done
     ensures { λ r. ⌜ outcome (done r) (now (words .exit)) (now (slots .exit)) ≡ load-entry (now (image .entry)) (now (words .entry)) (now (slots .entry)) ⌝ }
 {
@@ -112,12 +130,24 @@ pub fn load(image: &[u8], words: &mut [u32], slots: &mut [u8]) -> Done
         decode(image, &mut buffer[..n]);
         return load_from(image, &buffer[..n], words, slots);
     }
-    if n <= MIDDLE_WORDS {
-        let mut buffer = [0; MIDDLE_WORDS];
+    load_large(image, words, slots)
+}
+
+// Whether it is an image of sound tables; n is how many words it has. A large one is loaded into nothing: lengths that are
+// wrong are refused only where it is sound.
+pub fn sound_image(image: &[u8], n: usize) -> bool
+    requires { ⌜ Measured (now image) n ⌝ }
+    ensures { λ x. ⌜ x ≡ image-sound (now (image .entry)) ⌝ }
+{
+    if n <= SMALL_WORDS {
+        let mut buffer = [0; SMALL_WORDS];
         decode(image, &mut buffer[..n]);
-        return load_from(image, &buffer[..n], words, slots);
+        return is_sound(image, &buffer[..n]);
     }
-    let mut buffer = [0; MOST_WORDS];
-    decode(image, &mut buffer[..n]);
-    load_from(image, &buffer[..n], words, slots)
+    let mut words: [u32; 0] = [];
+    let mut slots: [u8; 0] = [];
+    match load_large(image, &mut words, &mut slots) {
+        Done::Refused(x) => x == LENGTHS,
+        Done::Accepted => false,
+    }
 }

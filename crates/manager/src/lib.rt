@@ -1,5 +1,6 @@
-// The lock manager: the entries by which clients ask for locks, over the two lent tables. Each checks the tables, then gives the first refusal that fits,
-// then makes its change. Numbers, names and values may be any; nothing lent is changed where a call is refused.
+// The lock manager: the entries by which clients ask for locks, over the two lent tables. Each checks the tables, then
+// gives the first refusal that fits, then makes its change. Numbers, names and values may be any; nothing lent is changed
+// where a call is refused.
 use answers::Converted;
 use answers::Done;
 use answers::Requested;

@@ -1,6 +1,6 @@
 -- What the code tests of each record, and of the sizes.
 use mathlib.Core.Path.{_≡_, refl, sym}
-use mathlib.Core.Bool.{Bool, true, false, not, _&&_}
+use mathlib.Core.Bool.{Bool, true, false, not, _&&_, and-false}
 use mathlib.Core.List.{List}
 use Prim.Native.Nat.{ℕ, _+_, _-_, _*_, _<_}
 use native.Mathlib.Omega.{arith}
@@ -16,15 +16,10 @@ use Rattle.checking.specs.declared.Row.{Row}
 use Rattle.checking.specs.Check.{row-in, free-row, used-row, row-fine, resource-fine}
 
 -- SIZES. Words that lack a header are not as long as they say
-and-false : (a b : Bool) → (a && false) && b ≡ false
-and-false true b = refl
-and-false false b = refl
-
 pub short-words : (ws ss : List ℕ) → length ws < header-width → false ≡ sizes-right ws ss
 unfolding sizes-right
 short-words ws ss h =
-    sym (rw (ne-eqb (length ws) (size (resources-in ws) (locks-in ws)) (λ e. omega arith))
-    (and-false (leb 1 (resources-in ws) && leb (resources-in ws) 256 && leb 1 (locks-in ws) && leb (locks-in ws) 1024) (eqb (length ss) (slot-width * resources-in ws))))
+    sym (rw (ne-eqb (length ws) (size (resources-in ws) (locks-in ws)) (λ e. omega arith), and-false (leb 1 (resources-in ws) && leb (resources-in ws) 256 && leb 1 (locks-in ws) && leb (locks-in ws) 1024)))
 
 -- COUNTS
 pub bit-one : {b : Bool} → b ≡ true → 1 ≡ bit b

@@ -1,8 +1,9 @@
 -- What is found of the resources, added up.
 use mathlib.Core.Path.{_≡_, refl, sym, _∙_}
-use mathlib.Core.Bool.{Bool, true, false, not, _&&_}
+use mathlib.Core.Bool.{Bool, true, false, not, _&&_, and-false}
 use mathlib.Core.List.{List}
 use Prim.Native.Nat.{ℕ, _+_, _*_, _≤_, _<_}
+use native.Mathlib.Nat.{add-zero}
 use native.Mathlib.Omega.{arith}
 use lib.Dec.{eqb}
 use lib.ListN.{length}
@@ -48,13 +49,6 @@ module _ (f : ℕ → ℕ) (sum r n met l : ℕ) {whole : ℕ} (i : met ≤ l �
   sums-end : n < r → met ≤ l → sum ≡ whole
   unfolding sum-over
   sums-end h t = let q : whole ≡ sum + 0 = i t ∙ rw (upto-none h) in omega arith
-
-and-false : (b : Bool) → (b && false) ≡ false
-and-false true = refl
-and-false false = refl
-
-right-zero : (a : ℕ) → a + 0 ≡ a
-right-zero a = omega arith
 
 bit-few : (b : Bool) (free r : ℕ) → free < r → free + bit b < r + 1
 bit-few true free r h = omega arith
@@ -142,12 +136,12 @@ module _ (ws ss : List ℕ) (others unread : ℕ) where
         left-free z p q s u =
             let d = nameless ws r w z in
             let t = turn (no-queues ws ss r (sym e ∙ not-false f n) d) in
-            rw (p, q, s, u) (rw (d, right-zero met, right-zero blocked, right-zero noticed) at t)
+            rw (p, q, s, u) (rw (d, add-zero met, add-zero blocked, add-zero noticed) at t)
 
         pub left-used : {y : Census} → (x .bytes ≡ 0 → ⊥) → Counted ws r y → met' ≡ met + y .met → blocked' ≡ blocked + y .blocked → noticed' ≡ noticed + y .noticed → free' ≡ free → Left ws ss others unread met' blocked' noticed' free' (r + 1)
         left-used {y} z c p q s u =
             let t = turn c in
-            rw (p, q, s, u) (rw (in-use ws r w z, right-zero free) at t)
+            rw (p, q, s, u) (rw (in-use ws r w z, add-zero free) at t)
 
 pub ruleset pass = (needs, left-start, left-unfit, left-many, left-end)
 

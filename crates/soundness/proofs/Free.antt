@@ -13,12 +13,8 @@ use Rattle.names.specs.Names.{named, slot-fine}
 use Rattle.checking.specs.declared.Row.{Row}
 use Rattle.checking.specs.Check.{row-in, free-row, row-fine, resource-fine, steps, home-on, home-steps, held-steps, grant-walk, convert-walk, heads-wait, wait-part, convert-part, resource-walk, queue-from, blocked-at, noticed-at}
 use Rattle.checking.proofs.Stepping.{follow-zero}
+use Rattle.chains.proofs.Walking.{steps-zero}
 use Rattle.holders.specs.Holding.{Counted}
-
-no-steps : (link : ℕ → ℕ) (test : ℕ → Bool) (n : ℕ) → steps link test n 0 ≡ 0
-unfolding steps
-no-steps link test zero = refl
-no-steps link test (suc n) = refl
 
 no-holders : (ws : List ℕ) (s r n set : ℕ) → held-steps ws s r n 0 set ≡ record { met = 0; modes = set }
 unfolding held-steps
@@ -70,7 +66,7 @@ module _ (ws ss : List ℕ) (r : ℕ) (fine : resource-fine ws ss r ≡ true) (f
   no-walk : resource-walk ws r ≡ 0
   unfolding resource-walk convert-part wait-part convert-walk heads-wait grant-walk home-steps
   no-walk =
-      rw (no-grant, no-convert, no-wait, no-holders ws 1 r (locks-in ws) 0, no-steps (λ k. word-in ws (of-lock k 0)) (home-on ws 3 r) (locks-in ws), le-leb 0 (locks-in ws) (omega arith))
+      rw (no-grant, no-convert, no-wait, no-holders ws 1 r (locks-in ws) 0, steps-zero (λ k. word-in ws (of-lock k 0)) (home-on ws 3 r) (locks-in ws), le-leb 0 (locks-in ws) (omega arith))
 
   no-queue : (f : ℕ) → word-in ws (of-resource r f) ≡ 0 → queue-from ws f r ≡ []
   unfolding queue-from

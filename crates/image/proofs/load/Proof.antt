@@ -33,23 +33,8 @@ same-length-2 c = search needs
 returns : tie.Need-returns
 returns c = search needs
 
-array-borrow-prefix-buffer-2 : tie.Need-array-borrow-prefix-buffer-2
-array-borrow-prefix-buffer-2 c = search needs
-
-slice-aggregate-decode-2 : tie.Need-slice-aggregate-decode-2
-slice-aggregate-decode-2 c = search lending
-
-decode-requires-2 : tie.Need-decode-requires-2
-decode-requires-2 c κs = search lending
-
-array-share-prefix-buffer-2 : tie.Need-array-share-prefix-buffer-2
-array-share-prefix-buffer-2 c = search lending
-
-slice-aggregate-load-from-2 : tie.Need-slice-aggregate-load-from-2
-slice-aggregate-load-from-2 c = search lending
-
-load-from-requires-2 : tie.Need-load-from-requires-2
-load-from-requires-2 c κs = search lending
+load-large-requires : tie.Need-load-large-requires
+load-large-requires c κs = search needs
 
 same-length-3 : tie.Need-same-length-3
 same-length-3 c = search needs
@@ -59,33 +44,6 @@ same-length-4 c = search needs
 
 returns-2 : tie.Need-returns-2
 returns-2 c = search needs
-
-array-borrow-prefix-buffer-3 : tie.Need-array-borrow-prefix-buffer-3
-array-borrow-prefix-buffer-3 c = search needs
-
-slice-aggregate-decode-3 : tie.Need-slice-aggregate-decode-3
-slice-aggregate-decode-3 c = search lending
-
-decode-requires-3 : tie.Need-decode-requires-3
-decode-requires-3 c κs = search lending
-
-array-share-prefix-buffer-3 : tie.Need-array-share-prefix-buffer-3
-array-share-prefix-buffer-3 c = search lending
-
-slice-aggregate-load-from-3 : tie.Need-slice-aggregate-load-from-3
-slice-aggregate-load-from-3 c = search lending
-
-load-from-requires-3 : tie.Need-load-from-requires-3
-load-from-requires-3 c κs = search lending
-
-same-length-5 : tie.Need-same-length-5
-same-length-5 c = search needs
-
-same-length-6 : tie.Need-same-length-6
-same-length-6 c = search needs
-
-returns-3 : tie.Need-returns-3
-returns-3 c = search needs
 
 pub load-spec : {M : Type 1} → statement M
 load-spec =
@@ -101,21 +59,7 @@ load-spec =
     same-length
     same-length-2
     returns
-    array-borrow-prefix-buffer-2
-    slice-aggregate-decode-2
-    decode-requires-2
-    array-share-prefix-buffer-2
-    slice-aggregate-load-from-2
-    load-from-requires-2
+    load-large-requires
     same-length-3
     same-length-4
-    returns-2
-    array-borrow-prefix-buffer-3
-    slice-aggregate-decode-3
-    decode-requires-3
-    array-share-prefix-buffer-3
-    slice-aggregate-load-from-3
-    load-from-requires-3
-    same-length-5
-    same-length-6
-    returns-3)
+    returns-2)

@@ -1,14 +1,15 @@
 use lib.ListN.{length}
+use Rattle.rules.specs.Images.{image-words}
 use Rattle.queues.specs.Holders.{locks-from}
 use Rattle.takeover.proofs.Holding.{Seeking, seeking}
 use Rattle.takeover.proofs.ex_from.Statement.{statement}
 use Rattle.takeover.proofs.ex_from.Tie as tie
 
 abbrev Inv-loop : tie.InvT-loop
-Inv-loop words first k₀ k = Seeking words first k
+Inv-loop image first k₀ k = Seeking (image-words image) first k
 
 abbrev μ-loop : tie.MeasureT-loop
-μ-loop words first k₀ k = length (locks-from words k)
+μ-loop image first k₀ k = length (locks-from (image-words image) k)
 
 loop-holds : tie.Need-loop-holds Inv-loop μ-loop
 loop-holds c = search seeking
