@@ -1,4 +1,4 @@
-use Rattle.refusals.proofs.Standing.{own-there, cancel-laws}
+use Rattle.refusals.proofs.Standing.{own-there, cancel-client, cancel-lock, cancel-unread, cancel-state, cancel-passes}
 use borrow.Author.Needs.{needs}
 use Rattle.refusals.proofs.cancel_refusal.Statement.{statement}
 use Rattle.refusals.proofs.cancel_refusal.Tie as tie
@@ -14,7 +14,7 @@ client-right-requires c κs = search needs
 
 -- src/lib.rt:90:9
 returns : tie.Need-returns
-returns c = search cancel-laws
+returns c = search cancel-client
 
 -- src/lib.rt:92:9
 own-requires : tie.Need-own-requires
@@ -22,7 +22,7 @@ own-requires c κs = search needs
 
 -- src/lib.rt:93:9
 returns-2 : tie.Need-returns-2
-returns-2 c = search cancel-laws
+returns-2 c = search cancel-lock
 
 -- src/lib.rt:95:9
 lock-at-requires : tie.Need-lock-at-requires
@@ -30,15 +30,15 @@ lock-at-requires c κs = own-there _ _ _ _ (c .before .own .ensures) (search nee
 
 -- src/lib.rt:97:9
 returns-3 : tie.Need-returns-3
-returns-3 c = search cancel-laws
+returns-3 c = search cancel-unread
 
 -- src/lib.rt:100:9
 returns-4 : tie.Need-returns-4
-returns-4 c = search cancel-laws
+returns-4 c = search cancel-state
 
 -- src/lib.rt:85:1
 returns-5 : tie.Need-returns-5
-returns-5 c = search cancel-laws
+returns-5 c = search cancel-passes
 
 pub cancel-refusal-spec : {M : Type 1} → statement M
 cancel-refusal-spec =

@@ -1,4 +1,4 @@
-use Rattle.refusals.proofs.Standing.{client-laws}
+use Rattle.refusals.proofs.Standing.{client-passes, client-wrong}
 use borrow.Author.Needs.{needs}
 use Rattle.refusals.proofs.client_refusal.Statement.{statement}
 use Rattle.refusals.proofs.client_refusal.Tie as tie
@@ -12,11 +12,11 @@ client-right-requires c κs = search needs
 
 -- src/lib.rt:80:9
 returns : tie.Need-returns
-returns c = search client-laws
+returns c = search client-passes
 
 -- src/lib.rt:76:1
 returns-2 : tie.Need-returns-2
-returns-2 c = search client-laws
+returns-2 c = search client-wrong
 
 pub client-refusal-spec : {M : Type 1} → statement M
 client-refusal-spec = tie.close (tie.spec client-right-requires returns returns-2)

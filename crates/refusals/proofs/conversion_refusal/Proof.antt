@@ -1,4 +1,4 @@
-use Rattle.refusals.proofs.Arguments.{conversion-laws}
+use Rattle.refusals.proofs.Arguments.{conversion-refused, conversion-queues, conversion-held, conversion-placed, conversion-blocks}
 use borrow.Author.Needs.{needs}
 use Rattle.refusals.proofs.conversion_refusal.Statement.{statement}
 use Rattle.refusals.proofs.conversion_refusal.Tie as tie
@@ -14,7 +14,7 @@ granted-refusal-requires c κs = search needs
 
 -- src/lib.rt:165:9
 returns : tie.Need-returns
-returns c = search conversion-laws
+returns c = search conversion-refused
 
 -- src/lib.rt:167:9
 no-queue-requires : tie.Need-no-queue-requires
@@ -22,19 +22,19 @@ no-queue-requires c κs = search needs
 
 -- src/lib.rt:168:9
 returns-2 : tie.Need-returns-2
-returns-2 c = search conversion-laws
+returns-2 c = search conversion-queues
 
 -- src/lib.rt:170:8
 in-place-requires : tie.Need-in-place-requires
-in-place-requires c κs = search conversion-laws
+in-place-requires c κs = search conversion-held
 
 -- src/lib.rt:171:9
 returns-3 : tie.Need-returns-3
-returns-3 c = search conversion-laws
+returns-3 c = search conversion-placed
 
 -- src/lib.rt:158:1
 returns-4 : tie.Need-returns-4
-returns-4 c = search conversion-laws
+returns-4 c = search conversion-blocks
 
 pub conversion-refusal-spec : {M : Type 1} → statement M
 conversion-refusal-spec =

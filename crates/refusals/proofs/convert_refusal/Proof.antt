@@ -1,4 +1,4 @@
-use Rattle.refusals.proofs.Arguments.{convert-laws}
+use Rattle.refusals.proofs.Arguments.{convert-client, convert-mode, convert-flagged, convert-valued, convert-rest}
 use borrow.Author.Needs.{needs}
 use Rattle.refusals.proofs.convert_refusal.Statement.{statement}
 use Rattle.refusals.proofs.convert_refusal.Tie as tie
@@ -15,11 +15,11 @@ client-right-requires c κs = search needs
 
 -- src/lib.rt:188:9
 returns : tie.Need-returns
-returns c = search convert-laws
+returns c = search convert-client
 
 -- src/lib.rt:191:9
 returns-2 : tie.Need-returns-2
-returns-2 c = search convert-laws
+returns-2 c = search convert-mode
 
 -- src/lib.rt:193:9
 convert-flags-requires : tie.Need-convert-flags-requires
@@ -27,7 +27,7 @@ convert-flags-requires c κs = search needs
 
 -- src/lib.rt:194:9
 returns-3 : tie.Need-returns-3
-returns-3 c = search convert-laws
+returns-3 c = search convert-flagged
 
 -- src/lib.rt:196:9
 value-right-requires : tie.Need-value-right-requires
@@ -35,7 +35,7 @@ value-right-requires c κs = search needs
 
 -- src/lib.rt:197:9
 returns-4 : tie.Need-returns-4
-returns-4 c = search convert-laws
+returns-4 c = search convert-valued
 
 -- src/lib.rt:199:5
 conversion-refusal-requires : tie.Need-conversion-refusal-requires
@@ -43,7 +43,7 @@ conversion-refusal-requires c κs = search needs
 
 -- src/lib.rt:176:1
 returns-5 : tie.Need-returns-5
-returns-5 c = search convert-laws
+returns-5 c = search convert-rest
 
 pub convert-refusal-spec : {M : Type 1} → statement M
 convert-refusal-spec =

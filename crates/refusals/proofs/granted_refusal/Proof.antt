@@ -1,4 +1,4 @@
-use Rattle.refusals.proofs.Standing.{own-there, granted-laws}
+use Rattle.refusals.proofs.Standing.{own-there, granted-lock, granted-unread, granted-state, granted-passes}
 use borrow.Author.Needs.{needs}
 use Rattle.refusals.proofs.granted_refusal.Statement.{statement}
 use Rattle.refusals.proofs.granted_refusal.Tie as tie
@@ -13,7 +13,7 @@ own-requires c κs = search needs
 
 -- src/lib.rt:129:9
 returns : tie.Need-returns
-returns c = search granted-laws
+returns c = search granted-lock
 
 -- src/lib.rt:131:9
 lock-at-requires : tie.Need-lock-at-requires
@@ -21,15 +21,15 @@ lock-at-requires c κs = own-there _ _ _ _ (c .before .own .ensures) (search nee
 
 -- src/lib.rt:133:9
 returns-2 : tie.Need-returns-2
-returns-2 c = search granted-laws
+returns-2 c = search granted-unread
 
 -- src/lib.rt:136:9
 returns-3 : tie.Need-returns-3
-returns-3 c = search granted-laws
+returns-3 c = search granted-state
 
 -- src/lib.rt:124:1
 returns-4 : tie.Need-returns-4
-returns-4 c = search granted-laws
+returns-4 c = search granted-passes
 
 pub granted-refusal-spec : {M : Type 1} → statement M
 granted-refusal-spec =

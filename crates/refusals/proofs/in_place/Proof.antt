@@ -1,4 +1,4 @@
-use Rattle.refusals.proofs.Placing.{placing}
+use Rattle.refusals.proofs.Placing.{placing, held-mode, place-down, place-behind, held-resourced, place-fits}
 use Rattle.refusals.proofs.in_place.Statement.{statement}
 use Rattle.refusals.proofs.in_place.Tie as tie
 use Rattle.refusals.proofs.in_place.Reads as reads
@@ -14,11 +14,11 @@ lock-at-requires c κs = search placing
 
 -- src/lib.rt:66:8
 down-requires : tie.Need-down-requires
-down-requires c κs = search placing
+down-requires c κs = search held-mode
 
 -- src/lib.rt:67:9
 returns : tie.Need-returns
-returns c = search placing
+returns c = search place-down
 
 -- src/lib.rt:69:8
 resource-word-requires : tie.Need-resource-word-requires
@@ -26,15 +26,15 @@ resource-word-requires c κs = search placing
 
 -- src/lib.rt:70:9
 returns-2 : tie.Need-returns-2
-returns-2 c = search placing
+returns-2 c = search place-behind
 
 -- src/lib.rt:72:5
 fits-requires : tie.Need-fits-requires
-fits-requires c κs = search placing
+fits-requires c κs = search held-resourced
 
 -- src/lib.rt:60:1
 returns-3 : tie.Need-returns-3
-returns-3 c = search placing
+returns-3 c = search place-fits
 
 pub in-place-spec : {M : Type 1} → statement M
 in-place-spec =

@@ -1,4 +1,4 @@
-use Rattle.refusals.proofs.Standing.{own-there, look-laws}
+use Rattle.refusals.proofs.Standing.{own-there, look-client, look-lock, look-state, look-passes}
 use borrow.Author.Needs.{needs}
 use Rattle.refusals.proofs.look_refusal.Statement.{statement}
 use Rattle.refusals.proofs.look_refusal.Tie as tie
@@ -14,7 +14,7 @@ client-right-requires c κs = search needs
 
 -- src/lib.rt:111:9
 returns : tie.Need-returns
-returns c = search look-laws
+returns c = search look-client
 
 -- src/lib.rt:113:9
 own-requires : tie.Need-own-requires
@@ -22,7 +22,7 @@ own-requires c κs = search needs
 
 -- src/lib.rt:114:9
 returns-2 : tie.Need-returns-2
-returns-2 c = search look-laws
+returns-2 c = search look-lock
 
 -- src/lib.rt:116:9
 lock-at-requires : tie.Need-lock-at-requires
@@ -30,11 +30,11 @@ lock-at-requires c κs = own-there _ _ _ _ (c .before .own .ensures) (search nee
 
 -- src/lib.rt:118:9
 returns-3 : tie.Need-returns-3
-returns-3 c = search look-laws
+returns-3 c = search look-state
 
 -- src/lib.rt:106:1
 returns-4 : tie.Need-returns-4
-returns-4 c = search look-laws
+returns-4 c = search look-passes
 
 pub look-refusal-spec : {M : Type 1} → statement M
 look-refusal-spec =

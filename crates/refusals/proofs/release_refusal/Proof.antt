@@ -1,4 +1,4 @@
-use Rattle.refusals.proofs.Arguments.{release-laws}
+use Rattle.refusals.proofs.Arguments.{release-client, release-flagged, release-valued, release-rest}
 use borrow.Author.Needs.{needs}
 use Rattle.refusals.proofs.release_refusal.Statement.{statement}
 use Rattle.refusals.proofs.release_refusal.Tie as tie
@@ -15,7 +15,7 @@ client-right-requires c κs = search needs
 
 -- src/lib.rt:146:9
 returns : tie.Need-returns
-returns c = search release-laws
+returns c = search release-client
 
 -- src/lib.rt:148:9
 release-flags-requires : tie.Need-release-flags-requires
@@ -23,7 +23,7 @@ release-flags-requires c κs = search needs
 
 -- src/lib.rt:149:9
 returns-2 : tie.Need-returns-2
-returns-2 c = search release-laws
+returns-2 c = search release-flagged
 
 -- src/lib.rt:151:9
 value-right-requires : tie.Need-value-right-requires
@@ -31,7 +31,7 @@ value-right-requires c κs = search needs
 
 -- src/lib.rt:152:9
 returns-3 : tie.Need-returns-3
-returns-3 c = search release-laws
+returns-3 c = search release-valued
 
 -- src/lib.rt:154:5
 granted-refusal-requires : tie.Need-granted-refusal-requires
@@ -39,7 +39,7 @@ granted-refusal-requires c κs = search needs
 
 -- src/lib.rt:141:1
 returns-4 : tie.Need-returns-4
-returns-4 c = search release-laws
+returns-4 c = search release-rest
 
 pub release-refusal-spec : {M : Type 1} → statement M
 release-refusal-spec =

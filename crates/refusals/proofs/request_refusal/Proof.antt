@@ -1,4 +1,4 @@
-use Rattle.refusals.proofs.Arguments.{request-laws}
+use Rattle.refusals.proofs.Arguments.{request-laws, request-client, request-mode, request-flagged, request-named, request-rest}
 use borrow.Author.Needs.{needs}
 use Rattle.refusals.proofs.request_refusal.Statement.{statement}
 use Rattle.refusals.proofs.request_refusal.Tie as tie
@@ -15,11 +15,11 @@ client-right-requires c κs = search needs
 
 -- src/lib.rt:237:9
 returns : tie.Need-returns
-returns c = search request-laws
+returns c = search request-client
 
 -- src/lib.rt:240:9
 returns-2 : tie.Need-returns-2
-returns-2 c = search request-laws
+returns-2 c = search request-mode
 
 -- src/lib.rt:242:9
 request-flags-requires : tie.Need-request-flags-requires
@@ -27,7 +27,7 @@ request-flags-requires c κs = search needs
 
 -- src/lib.rt:243:9
 returns-3 : tie.Need-returns-3
-returns-3 c = search request-laws
+returns-3 c = search request-flagged
 
 -- src/lib.rt:245:9
 name-right-requires : tie.Need-name-right-requires
@@ -35,7 +35,7 @@ name-right-requires c κs = search needs
 
 -- src/lib.rt:246:9
 returns-4 : tie.Need-returns-4
-returns-4 c = search request-laws
+returns-4 c = search request-named
 
 -- src/lib.rt:248:5
 room-refusal-requires : tie.Need-room-refusal-requires
@@ -43,7 +43,7 @@ room-refusal-requires c κs = search request-laws
 
 -- src/lib.rt:225:1
 returns-5 : tie.Need-returns-5
-returns-5 c = search request-laws
+returns-5 c = search request-rest
 
 pub request-refusal-spec : {M : Type 1} → statement M
 request-refusal-spec =
