@@ -43,8 +43,6 @@ module _ (ws : List ℕ) (c k f : ℕ) (v : List ℕ) (p : Bool) (ep : p ≡ cli
       unfolding release-refusal granted-refusal unless
       release-rest h n rest = record { then = λ t g is. rw (client-is c p ep right, sym ea ∙ not-false a allowed, sym eb ∙ not-false b h) (rest .then t g is) }
 
-pub ruleset release-laws = (needs, release-client, release-flagged, release-valued, release-rest)
-
 -- convert
 module _ (ws : List ℕ) (c k m f : ℕ) (v : List ℕ) (p : Bool) (ep : p ≡ client-right c) where
   pub convert-client : not p ≡ true → Tells Core (convert-refusal c k m f v) ws 3
@@ -71,8 +69,6 @@ module _ (ws : List ℕ) (c k m f : ℕ) (v : List ℕ) (p : Bool) (ep : p ≡ c
         convert-rest h n rest = record {
           then = λ t g is. rw (client-is c p ep right, le-leb m 5 low, sym ea ∙ not-false a allowed, sym eb ∙ not-false b h) (rest .then t g is);
         }
-
-pub ruleset convert-laws = (needs, convert-client, convert-mode, convert-flagged, convert-valued, convert-rest)
 
 -- .. of a lock that is granted
 refused-before : (a b d : Bool) (rest : ℕ) → (unless a 8 (unless b 9 (unless d 10 0)) ≡ 0 → ⊥) → unless a 8 (unless b 9 (unless d 10 0)) ≡ unless a 8 (unless b 9 (unless d 10 rest))
@@ -125,8 +121,6 @@ module _ (ws : List ℕ) (c k m f n : ℕ) (told-it : Tells Core (granted-refusa
         conversion-blocks h = record {
           then = λ t g is. rw (mine t g is, quiet t g is, grants t g is .is-granted, sym eq ∙ not-false q only, sym (eb .then t (grants t g is) is) ∙ h);
         }
-
-pub ruleset conversion-laws = (needs, conversion-refused, conversion-held, conversion-queues, conversion-placed, conversion-blocks)
 
 -- request
 module _ (ws : List ℕ) (r c m f : ℕ) (v : List ℕ) (p : Bool) (ep : p ≡ client-right c) where

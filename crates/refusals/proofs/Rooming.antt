@@ -6,7 +6,6 @@ use Prim.Native.Nat.{ℕ, zero, suc, _<_}
 use native.Mathlib.Omega.{arith}
 use lib.ListN.{getD, length}
 use lib.Dec.{eqb}
-use borrow.Author.Needs.{needs}
 use borrow.Author.Tests.{eqb-true, eqb-false, eq-eqb, ne-eqb, not-false}
 use Rattle.tables.specs.Lists.{within, all, null, from}
 use Rattle.tables.specs.State.{Tables, resource, free-locks}
@@ -111,5 +110,3 @@ module _ (ws : List ℕ) (r : ℕ) where
             pub room-blocks : b ≡ false → Tells (ResourceOrNone r) (room-refusal r m f) ws 13
             unfolding room-refusal unless
             room-blocks h = record { then = λ t g is. rw (room-is t (g .core) is, free-is t (g .core) is, admits-is t g is, h) }
-
-pub ruleset room-laws = (needs, room-long, room-longer, room-none, room-locks, room-queues, room-resourced, room-admits, room-blocks)

@@ -5,7 +5,6 @@ use mathlib.Core.List.{List}
 use Prim.Native.Nat.{ℕ, _≤_}
 use lib.ListN.{length}
 use lib.Dec.{eqb}
-use borrow.Author.Needs.{needs}
 use borrow.Author.Tests.{eq-eqb, ne-eqb, not-true, not-false}
 use Rattle.tables.specs.declared.Lock.{Lock}
 use Rattle.tables.specs.Lists.{within}
@@ -37,8 +36,6 @@ module _ (c : ℕ) (p : Bool) (ep : p ≡ client-right c) where
 pub poll-as-purge : (c : ℕ) → poll-refusal c ≡ purge-refusal c
 unfolding poll-refusal purge-refusal
 poll-as-purge c = refl
-
-pub ruleset client-laws = (needs, client-passes, client-wrong)
 
 own-within : (t : Tables) (c k : ℕ) → own c k t ≡ true → within (length (t .locks)) k ≡ true
 unfolding own
@@ -146,9 +143,3 @@ module _ (ws : List ℕ) (c k : ℕ) where
         pub look-passes : (not (eqb (l .state) 1) && not (eqb (l .state) 2)) ≡ false → Tells Core (look-refusal c k) ws 0
         unfolding look-refusal unless
         look-passes h = record { then = λ t g is. rw (client-is, own-is o eo mine t g is, says o eo mine l el holds true (either (eqb (l .state) 1) (eqb (l .state) 2) h) t g is) }
-
-pub ruleset granted-laws = (needs, granted-lock, granted-unread, granted-state, granted-passes)
-
-pub ruleset cancel-laws = (needs, cancel-client, cancel-lock, cancel-unread, cancel-state, cancel-passes)
-
-pub ruleset look-laws = (needs, look-client, look-lock, look-state, look-passes)
