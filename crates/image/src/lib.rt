@@ -120,7 +120,7 @@ fn load_large(image: &[u8], words: &mut [u32], slots: &mut [u8]) -> Done
     load_from(bytes, &buffer[..n], &mut words[..], &mut slots[..])
 }
 
-// The same, any image.
+// The tables become those of the image, whatever they held before: an entry. A small image's words are decoded here.
 pub fn load(image: &[u8], words: &mut [u32], slots: &mut [u8]) -> Done
     ensures { λ r. ⌜ outcome (done r) (now (words .exit)) (now (slots .exit)) ≡ load-entry (now (image .entry)) (now (words .entry)) (now (slots .entry)) ⌝ }
 {

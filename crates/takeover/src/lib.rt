@@ -25,7 +25,7 @@ ghost use Rattle.takeover.specs.Contracts.{Whole, Chained, «holds-ex»,
 // To the takeover program a refusal is this plus its number.
 const REFUSED: u32 = 256;
 
-// The words of the image's tables.
+// The words of the image's tables, as `fields` gives those of tables.
 fn resource_count(image: &[u8]) -> u32
     requires { ⌜ Whole (now image) ⌝ }
     ensures { λ x. ⌜ x ≡ resources-in (image-words (now (image .entry))) ⌝ }
