@@ -5,7 +5,7 @@ use Prim.Native.Nat.{ℕ}
 use Rattle.tables.specs.State.{Tables}
 use Rattle.tables.specs.Layout.{words, slots}
 use Rattle.rules.specs.Calls.{Step, done}
-use Rattle.rules.proofs.Lists.{out-of}
+use Rattle.rules.proofs.QueueTheorem.{out-of}
 use Rattle.answers.specs.Answers.{accepted, outcome}
 
 -- the words and slots b and sb are those of the state that the step leaves

@@ -5,7 +5,7 @@ use Prim.Native.Nat.{ℕ}
 use Rattle.tables.specs.State.{Tables}
 use Rattle.tables.specs.Layout.{words, slots}
 use Rattle.rules.specs.Calls.{Step}
-use Rattle.rules.proofs.Lists.{out-of}
+use Rattle.rules.proofs.QueueTheorem.{out-of}
 use Rattle.answers.specs.Answers.{Numbers, outcome}
 
 -- the words and slots of a state of which P holds became those of its step s, and x is the step's answer

@@ -1,14 +1,14 @@
 // Plays document 01's bench sequences as lockplay plays its lines, but for this: an empty line starts new tables, and an
 // empty line is printed for it, so that each sequence has its own.
-use gathering::Line;
 use libc::STDIN_FILENO;
 use libc::STDOUT_FILENO;
-use play::Progress;
+use play_lines::Line;
+use play_session::Progress;
 ghost use mathlib.Core.Path.{_≡_};
 ghost use Prim.Native.Nat.{_≤_};
 ghost use lib.ListN.{length};
-ghost use Rattle.gathering.specs.Reading.{Room};
-ghost use Rattle.play.specs.Sessions.{Lengths};
+ghost use Rattle.play_lines.specs.InputLines.{Room};
+ghost use Rattle.play_session.specs.Sessions.{Lengths};
 
 // What a byte can print.
 const PRINTED: usize = 24;
@@ -31,7 +31,7 @@ fn play_one(words: &mut [u32], slots: &mut [u8], buffer: &mut [u8], line: Line, 
     ensures { λ r. ⌜ Room (now (buffer .exit)) r ⌝ }
 {
     let mut out = print_space();
-    let p = play::play_byte(words, slots, buffer, &mut out, Progress { line, at: 0 }, b);
+    let p = play_session::play_byte(words, slots, buffer, &mut out, Progress { line, at: 0 }, b);
     let at = p.at;
     io::write_all(STDOUT_FILENO, &out[..at]);
     p.line
@@ -48,8 +48,8 @@ fn play_next(words: &mut [u32], slots: &mut [u8], buffer: &mut [u8], line: Line)
     }
     let b = byte[0];
     if b == 10 {
-        if !gathering::is_begun(line) {
-            play::start_tables(words, slots);
+        if !play_lines::is_begun(line) {
+            play_session::start_tables(words, slots);
             io::write_all(STDOUT_FILENO, b"\n");
             return Input { line, ended: false };
         }
@@ -65,7 +65,7 @@ fn play_next(words: &mut [u32], slots: &mut [u8], buffer: &mut [u8], line: Line)
 fn play_all(words: &mut [u32], slots: &mut [u8], buffer: &mut [u8])
     requires { ⌜ Lengths (now words) (now slots) × (256 ≤ length (now buffer)) ⌝ }
 {
-    let mut line = gathering::start();
+    let mut line = play_lines::start();
     let mut turns = u64::MAX;
     while turns > 0 {
         let input = play_next(words, slots, buffer, line);
@@ -79,9 +79,9 @@ fn play_all(words: &mut [u32], slots: &mut [u8], buffer: &mut [u8])
 
 // The test's last line ends with byte 10.
 fn main() {
-    let mut words = play::word_space();
-    let mut slots = play::slot_space();
-    let mut buffer = play::line_space();
-    play::start_tables(&mut words, &mut slots);
+    let mut words = play_session::word_space();
+    let mut slots = play_session::slot_space();
+    let mut buffer = play_session::line_space();
+    play_session::start_tables(&mut words, &mut slots);
     play_all(&mut words, &mut slots, &mut buffer);
 }

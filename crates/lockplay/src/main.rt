@@ -1,12 +1,12 @@
 // Plays the lines of standard input on fresh tables and prints a line for each. What comes is played as soon as it is
 // there, so that a user at a terminal sees each answer at once.
-use gathering::Line;
 use libc::STDIN_FILENO;
 use libc::STDOUT_FILENO;
+use play_lines::Line;
 ghost use mathlib.Core.Path.{_≡_};
 ghost use Prim.Native.Nat.{_≤_};
 ghost use lib.ListN.{length};
-ghost use Rattle.gathering.specs.Reading.{Room};
+ghost use Rattle.play_lines.specs.InputLines.{Room};
 
 // What is read at once, and room for what its lines can print.
 const CHUNK: usize = 1024;
@@ -43,7 +43,7 @@ fn play_some(words: &mut [u32], slots: &mut [u8], buffer: &mut [u8], line: Line)
         return Input { line, ended: true };
     }
     let mut out = print_space();
-    let p = play::play_bytes(words, slots, buffer, line, &chunk[..n], &mut out);
+    let p = play_session::play_bytes(words, slots, buffer, line, &chunk[..n], &mut out);
     let at = p.at;
     let next = p.line;
     let written = io::write_all(STDOUT_FILENO, &out[..at]);
@@ -58,7 +58,7 @@ fn play_all(words: &mut [u32], slots: &mut [u8], buffer: &mut [u8]) -> Line
     requires { ⌜ 256 ≤ length (now buffer) ⌝ }
     ensures { λ r. ⌜ Room (now (buffer .exit)) r ⌝ }
 {
-    let mut line = gathering::start();
+    let mut line = play_lines::start();
     let mut turns = u64::MAX;
     while turns > 0 {
         let input = play_some(words, slots, buffer, line);
@@ -72,12 +72,12 @@ fn play_all(words: &mut [u32], slots: &mut [u8], buffer: &mut [u8]) -> Line
 }
 
 fn main() {
-    let mut words = play::word_space();
-    let mut slots = play::slot_space();
-    let mut buffer = play::line_space();
-    play::start_tables(&mut words, &mut slots);
+    let mut words = play_session::word_space();
+    let mut slots = play_session::slot_space();
+    let mut buffer = play_session::line_space();
+    play_session::start_tables(&mut words, &mut slots);
     let line = play_all(&mut words, &mut slots, &mut buffer);
     let mut out = print_space();
-    let n = play::play_end(&mut words, &mut slots, &buffer, line, &mut out);
+    let n = play_session::play_end(&mut words, &mut slots, &buffer, line, &mut out);
     io::write_all(STDOUT_FILENO, &out[..n]);
 }

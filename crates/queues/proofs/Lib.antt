@@ -1,6 +1,6 @@
-pub mod Sets
-pub mod Walking
-pub mod Telling
-pub mod Turning
-pub mod Slotting
-pub mod After
+pub mod HeldSets
+pub mod HolderWalk
+pub mod QueueReads
+pub mod GrantTurns
+pub mod ResourceRecord
+pub mod StateAfter

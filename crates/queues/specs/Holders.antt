@@ -9,7 +9,7 @@ use Rattle.modes.specs.Sets.{with-mode}
 use Rattle.tables.specs.State.{Tables, lock}
 use Rattle.tables.specs.Layout.{of-lock, locks-in, word-in, follow}
 use Rattle.tables.specs.Grants.{holders}
-use Rattle.fields.specs.Sizes.{Sized}
+use Rattle.table_fields.specs.Sizes.{Sized}
 
 -- the set with what the lock j holds, unless j is k; with what each of these locks holds
 unfoldable pub with-holder : (ℕ → ℕ) → ℕ → ℕ → ℕ → ℕ

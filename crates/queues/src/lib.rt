@@ -1,6 +1,6 @@
 // What the calls are made of, in place on the lent words and slots: who holds a mode on a resource, granting, freeing.
-use fields::lock_word;
-use fields::resource_word;
+use table_fields::lock_word;
+use table_fields::resource_word;
 use tables::Lock;
 ghost use mathlib.Core.Path.{_≡_};
 ghost use mathlib.Core.Bool.{true, false};
@@ -11,7 +11,7 @@ ghost use Rattle.tables.specs.Grants.{fits, admits, empty};
 ghost use Rattle.tables.proofs.Valid.{line};
 ghost use Rattle.rules.specs.Queues.{«granted-lock», sweep, «free-lock», settle};
 ghost use Rattle.rules.specs.Calls.{stores, spoils, «leave-value», «new-resource»};
-ghost use Rattle.access.specs.Contracts.{Some, Turns, Tells, Answers, Changes, Resourced};
+ghost use Rattle.table_chains.specs.Contracts.{Some, Turns, Tells, Answers, Changes, Resourced};
 ghost use Rattle.queues.specs.Holders.{«with-holder», «with-holders», others, «held-in», «locks-from», Joined, Row};
 ghost use Rattle.queues.specs.Contracts.{Locked, ready, advance, Lent, Vacant, Takes, Valued};
 
@@ -23,7 +23,7 @@ fn with_holder(words: &[u32], set: u32, j: u32, k: u32) -> u32
     if j == k {
         return set;
     }
-    modes::with_mode(set, lock_word(words, j, fields::LOCK_HELD))
+    modes::with_mode(set, lock_word(words, j, table_fields::LOCK_HELD))
 }
 
 // The set with the modes that locks other than k hold, from the first on along its chain.
@@ -35,7 +35,7 @@ fn with_holders(words: &[u32], set: u32, first: u32, k: u32) -> u32
     let mut j = first;
     while j != 0 {
         held = with_holder(words, held, j, k);
-        j = lock_word(words, j, fields::LOCK_NEXT);
+        j = lock_word(words, j, table_fields::LOCK_NEXT);
     }
     held
 }
@@ -45,9 +45,9 @@ pub fn others(words: &[u32], r: u32, k: u32) -> u32
     requires { ⌜ Some (Resourced r) (now words) ⌝ }
     ensures { λ x. ⌜ Tells (Resourced r) (others r k) (now (words .entry)) x ⌝ }
 {
-    let granted = resource_word(words, r, fields::RESOURCE_GRANT);
+    let granted = resource_word(words, r, table_fields::RESOURCE_GRANT);
     let held = with_holders(words, 0, granted, k);
-    let converting = resource_word(words, r, fields::RESOURCE_CONVERT);
+    let converting = resource_word(words, r, table_fields::RESOURCE_CONVERT);
     with_holders(words, held, converting, k)
 }
 
@@ -66,7 +66,7 @@ pub fn admits(words: &[u32], r: u32, mode: u32) -> bool
     requires { ⌜ mode < 6 ⌝ }
     ensures { λ x. ⌜ Tells (Resourced r) (λ t. admits t r mode) (now (words .entry)) x ⌝ }
 {
-    if resource_word(words, r, fields::RESOURCE_CONVERT) != 0 {
+    if resource_word(words, r, table_fields::RESOURCE_CONVERT) != 0 {
         return false;
     }
     fits(words, r, 0, mode)
@@ -77,11 +77,11 @@ fn next_up(words: &[u32], r: u32) -> u32
     requires { ⌜ Some (Resourced r) (now words) ⌝ }
     ensures { λ x. ⌜ Tells (Resourced r) (λ t. first (line t r)) (now (words .entry)) x ⌝ }
 {
-    let k = resource_word(words, r, fields::RESOURCE_CONVERT);
+    let k = resource_word(words, r, table_fields::RESOURCE_CONVERT);
     if k != 0 {
         return k;
     }
-    resource_word(words, r, fields::RESOURCE_WAIT)
+    resource_word(words, r, table_fields::RESOURCE_WAIT)
 }
 
 fn granted(l: Lock) -> Lock
@@ -90,7 +90,7 @@ fn granted(l: Lock) -> Lock
     Lock {
         resource: l.resource,
         client: l.client,
-        state: fields::STATE_GRANTED,
+        state: table_fields::STATE_GRANTED,
         held: l.asked,
         asked: 0,
         completion: 1,
@@ -106,11 +106,11 @@ fn grant_next(words: &mut [u32], r: u32) -> bool
     if k == 0 {
         return false;
     }
-    let l = fields::lock_at(words, k);
+    let l = table_fields::lock_at(words, k);
     if !fits(words, r, k, l.asked) {
         return false;
     }
-    access::move_lock(words, k, granted(l));
+    table_chains::move_lock(words, k, granted(l));
     true
 }
 
@@ -131,13 +131,13 @@ pub fn free_lock(words: &mut [u32], k: u32)
     requires { ⌜ Some (Locked k) (now words) ⌝ }
     ensures { λ _. ⌜ Turns (Locked k) (free-lock k) (now (words .entry)) (now (words .exit)) ⌝ }
 {
-    access::move_lock(
+    table_chains::move_lock(
         words,
         k,
         Lock {
             resource: 0,
             client: 0,
-            state: fields::STATE_FREE,
+            state: table_fields::STATE_FREE,
             held: 0,
             asked: 0,
             completion: 0,
@@ -150,8 +150,8 @@ pub fn free_resource(words: &mut [u32], slots: &mut [u8], r: u32)
     requires { ⌜ Lent (Vacant r) (now words) (now slots) ⌝ }
     ensures { λ _. ⌜ Changes (Vacant r) (move-resource r no-resource) (now (words .entry)) (now (slots .entry)) (now (words .exit)) (now (slots .exit)) ⌝ }
 {
-    access::move_resource_words(words, r, 0, 0);
-    names::clear_slot(slots, r);
+    table_chains::move_resource_words(words, r, 0, 0);
+    table_names::clear_slot(slots, r);
 }
 
 // The resource r, which is free, gets a name. Its value is zero, and valid.
@@ -159,8 +159,8 @@ pub fn take_resource(words: &mut [u32], slots: &mut [u8], r: u32, name: &[u8])
     requires { ⌜ Lent (Takes r (now name)) (now words) (now slots) ⌝ }
     ensures { λ _. ⌜ Changes (Takes r (now (name .entry))) (move-resource r (new-resource (now (name .entry)))) (now (words .entry)) (now (slots .entry)) (now (words .exit)) (now (slots .exit)) ⌝ }
 {
-    access::move_resource_words(words, r, name.len() as u32, 1);
-    names::store_name(slots, r, name);
+    table_chains::move_resource_words(words, r, name.len() as u32, 1);
+    table_names::store_name(slots, r, name);
 }
 
 // Flag 1: store the value. Flag 2: make it not valid.
@@ -191,14 +191,14 @@ pub fn leave_value(
     if !acts {
         return;
     }
-    let length = resource_word(words, r, fields::RESOURCE_NAME_LENGTH);
+    let length = resource_word(words, r, table_fields::RESOURCE_NAME_LENGTH);
     if stores(flags) {
-        access::move_resource_words(words, r, length, 1);
-        names::store_value(slots, r, value);
+        table_chains::move_resource_words(words, r, length, 1);
+        table_names::store_value(slots, r, value);
         return;
     }
     if spoils(flags) {
-        access::move_resource_words(words, r, length, 0);
+        table_chains::move_resource_words(words, r, length, 0);
     }
 }
 
@@ -207,9 +207,9 @@ pub fn is_empty(words: &[u32], r: u32) -> bool
     requires { ⌜ Some (Resourced r) (now words) ⌝ }
     ensures { λ x. ⌜ Tells (Resourced r) (λ t. empty (resource t r)) (now (words .entry)) x ⌝ }
 {
-    let granted = resource_word(words, r, fields::RESOURCE_GRANT);
-    let converting = resource_word(words, r, fields::RESOURCE_CONVERT);
-    let waiting = resource_word(words, r, fields::RESOURCE_WAIT);
+    let granted = resource_word(words, r, table_fields::RESOURCE_GRANT);
+    let converting = resource_word(words, r, table_fields::RESOURCE_CONVERT);
+    let waiting = resource_word(words, r, table_fields::RESOURCE_WAIT);
     (granted == 0) & (converting == 0) & (waiting == 0)
 }
 

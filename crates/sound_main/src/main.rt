@@ -54,7 +54,7 @@ fn run_case(label: &mut [u8], words: &mut [u32], slots: &mut [u8]) {
     io::read_full(STDIN_FILENO, label);
     read_words(words);
     io::read_full(STDIN_FILENO, slots);
-    print(label, soundness::sound(words, slots));
+    print(label, check_tables::sound(words, slots));
 }
 
 // Room for the largest case.

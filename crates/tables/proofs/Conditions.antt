@@ -18,8 +18,8 @@ use Rattle.tables.proofs.Cases.{by-cases, by-equal, clash, and-left, an
 use Rattle.tables.proofs.Counts.{within-le, le-within, count-from, all-at, all-intro, bit-one, same-eq, same-refl}
 use Rattle.tables.proofs.Links.{Absent, Distinct, Each}
 use Rattle.tables.proofs.Grid.{Within}
-use Rattle.tables.proofs.Following.{Runs, ends-runs, runs-distinct, runs-no-zero, runs-within, runs-next}
-use Rattle.tables.proofs.Reading.{resources-read, resource-of, chain-followed, zero-take, zero-drop, slot-in-length}
+use Rattle.tables.proofs.FollowedChains.{Runs, ends-runs, runs-distinct, runs-no-zero, runs-within, runs-next}
+use Rattle.tables.proofs.ReadState.{resources-read, resource-of, chain-followed, zero-take, zero-drop, slot-in-length}
 
 -- a test of each of 1..n
 pub each-at : (p : ℕ → Bool) (n : ℕ) → all p (from 1 n) ≡ true → (k : ℕ) → 1 ≤ k → k ≤ n → p k ≡ true

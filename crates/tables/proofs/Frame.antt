@@ -10,7 +10,7 @@ use Rattle.tables.specs.Layout.{Address, head, link, after, word-at}
 use Rattle.tables.proofs.Numbered.{put-lock, put-resource, locks-put, lock-put-other, lock-put-blind, resources-put, lock-put-resource, chains-put-lock, chains-put-resource}
 use Rattle.tables.proofs.Links.{Absent, Distinct, Each, each-map, each-map-on}
 use Rattle.tables.proofs.Chains.{with-chain, In, Present, chain-same, chain-other, same-locks, lock-with, resource-count}
-use Rattle.tables.proofs.Words.{Stands, Threaded}
+use Rattle.tables.proofs.WordChanges.{Stands, Threaded}
 
 -- the chains that go by the home link
 abbrev pub Homed : Chain → Type 0

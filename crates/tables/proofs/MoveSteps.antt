@@ -17,11 +17,11 @@ use Rattle.tables.proofs.Numbered.{put-lock, locks-put, lock-put-here, 
 use Rattle.tables.proofs.Links.{Absent, removed, without, absent-remove, on-remove, absent-append, on-append, on-end}
 use Rattle.tables.proofs.Grid.{stores}
 use Rattle.tables.proofs.Chains.{chain?, with-queue, Present, chain-same, chain-other, same-locks, resource-rest}
-use Rattle.tables.proofs.Words.{Stands, stands, put-lock-words}
-use Rattle.tables.proofs.Read.{chain-most}
+use Rattle.tables.proofs.WordChanges.{Stands, stands, put-lock-words}
+use Rattle.tables.proofs.ReadBack.{chain-most}
 use Rattle.tables.proofs.Frame.{Homed, homed, in-same, threaded-put-lock}
-use Rattle.tables.proofs.Steps.{join, push, leave, join-cells, push-cells, leave-cells, cell-place, join-is, push-is, leave-is}
-use Rattle.tables.proofs.Rehome.{Sane, sane-leave, sane-join, sane-push, elsewhere, home-short, lifted, sane-lifted, lock-lifted, high-lifted, link-zero, sane-set, present-set, absent-set, stands-set}
+use Rattle.tables.proofs.WordSteps.{join, push, leave, join-cells, push-cells, leave-cells, cell-place, join-is, push-is, leave-is}
+use Rattle.tables.proofs.HomeChange.{Sane, sane-leave, sane-join, sane-push, elsewhere, home-short, lifted, sane-lifted, lock-lifted, high-lifted, link-zero, sane-set, present-set, absent-set, stands-set}
 
 -- its home stays
 unfoldable pub stays : Lock → Lock → Bool

@@ -12,14 +12,14 @@ use Rattle.tables.proofs.Counts.{le-within}
 use Rattle.tables.proofs.Numbered.{put-resource}
 use Rattle.tables.proofs.Grid.{stores}
 use Rattle.tables.proofs.Chains.{with-chain, Present}
-use Rattle.tables.proofs.Words.{Stands, stands, put-resource-words}
-use Rattle.tables.proofs.Read.{chain-most}
-use Rattle.tables.proofs.Slots.{slots-put, slots-move-resource}
-use Rattle.tables.proofs.Steps.{push, leave, push-cells, leave-cells, cell-place, push-is, leave-is}
-use Rattle.tables.proofs.Rehome.{Sane, sane-leave, sane-push}
+use Rattle.tables.proofs.WordChanges.{Stands, stands, put-resource-words}
+use Rattle.tables.proofs.ReadBack.{chain-most}
+use Rattle.tables.proofs.SlotChanges.{slots-put, slots-move-resource}
+use Rattle.tables.proofs.WordSteps.{push, leave, push-cells, leave-cells, cell-place, push-is, leave-is}
+use Rattle.tables.proofs.HomeChange.{Sane, sane-leave, sane-push}
 use Rattle.tables.proofs.MoveSteps.{Seat}
 use Rattle.tables.proofs.Valid.{Core}
-use Rattle.tables.proofs.Threading.{core-threaded}
+use Rattle.tables.proofs.ThreadedChains.{core-threaded}
 use Rattle.tables.proofs.Wholeness.{counted-seat, core-whole}
 
 -- k on a chain of free records, where it was and is to be on it or not: it enters at the front

@@ -14,8 +14,8 @@ use Rattle.tables.proofs.Links.{count-absent, counted-on}
 use Rattle.tables.proofs.Chains.{Present}
 use Rattle.tables.proofs.MoveSteps.{Seat, Whole}
 use Rattle.tables.proofs.Valid.{used, Place, StateOk, LockOk, Core, used-within}
-use Rattle.tables.proofs.Standing.{chain-has}
-use Rattle.tables.proofs.Threading.{core-threaded}
+use Rattle.tables.proofs.ChainMembers.{chain-has}
+use Rattle.tables.proofs.ThreadedChains.{core-threaded}
 
 pub counted-seat : (b : Bool) (k : ℕ) (xs : List ℕ) → count k xs ≡ bit b → Seat b k xs
 counted-seat true k xs e = counted-on k xs (omega arith)

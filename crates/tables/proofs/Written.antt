@@ -18,17 +18,17 @@ use Rattle.tables.specs.Sound.{sizes-right, zeros-right, resource-index,
 use Rattle.tables.proofs.Cases.{by-cases, by-equal, clash, eqb-same, and-intro, or-left, or-right}
 use Rattle.tables.proofs.Counts.{within-le, le-within, all-intro, nil-of-counts}
 use Rattle.tables.proofs.Valid.{used, StateOk, ok-at, Core, Valid, used-within}
-use Rattle.tables.proofs.Standing.{and-bit, on-chain, on-grants, on-converts, on-waits, in-holder, idle-no-head}
+use Rattle.tables.proofs.ChainMembers.{and-bit, on-chain, on-grants, on-converts, on-waits, in-holder, idle-no-head}
 use Rattle.tables.proofs.Blocks.{length-blocks}
 use Rattle.tables.proofs.Links.{Each, count-absent, next-here, next-past, next-absent}
 use Rattle.tables.proofs.Chains.{In, spot, Present}
-use Rattle.tables.proofs.Words.{no-zero, length-words}
-use Rattle.tables.proofs.Walk.{words-lead}
-use Rattle.tables.proofs.Read.{Readable, slot-length, resources-word, locks-word, word-read, chain-most, slot-read, tables-read}
-use Rattle.tables.proofs.Threading.{each-counted, core-readable}
+use Rattle.tables.proofs.WordChanges.{no-zero, length-words}
+use Rattle.tables.proofs.ChainWalk.{words-lead}
+use Rattle.tables.proofs.ReadBack.{Readable, slot-length, resources-word, locks-word, word-read, chain-most, slot-read, tables-read}
+use Rattle.tables.proofs.ThreadedChains.{each-counted, core-readable}
 use Rattle.tables.proofs.Wholeness.{stands-count}
-use Rattle.tables.proofs.Following.{runs-ends, leads-runs}
-use Rattle.tables.proofs.Reading.{are-zeros}
+use Rattle.tables.proofs.FollowedChains.{runs-ends, leads-runs}
+use Rattle.tables.proofs.ReadState.{are-zeros}
 use Rattle.tables.proofs.Conditions.{each-intro, differ-names}
 use Rattle.tables.proofs.Fields.{are-fields}
 use Rattle.tables.proofs.Soundness.{sound-words, sound-slots, sound-valid}

@@ -2,8 +2,8 @@
 use mathlib.Core.Path.{_≡_}
 use lib.ListN.{length}
 use borrow.Author.Needs.{needs}
-use Rattle.gathering.specs.Reading.{Room}
-use Rattle.gathering.proofs.Gathering.{room-start}
+use Rattle.play_lines.specs.InputLines.{Room}
+use Rattle.play_lines.proofs.FedBytes.{room-start}
 use Rattle.lockplay.proofs.play_all.Statement.{statement}
 use Rattle.lockplay.proofs.play_all.Tie as tie
 

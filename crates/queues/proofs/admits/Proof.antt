@@ -1,10 +1,10 @@
-use Rattle.queues.proofs.Telling.{admits-not, admits-if, admits-laws}
+use Rattle.queues.proofs.QueueReads.{admits-not, admits-if, admits-laws}
 use borrow.Author.Needs.{needs}
 use Rattle.queues.proofs.admits.Statement.{statement}
 use Rattle.queues.proofs.admits.Tie as tie
 use Rattle.queues.proofs.admits.Reads as reads
 use Rattle.queues.proofs.admits.Lts as lts
-use Rattle.fields.proofs.resource_word.Reads as resource-word-reads
+use Rattle.table_fields.proofs.resource_word.Reads as resource-word-reads
 use Rattle.queues.proofs.fits.Reads as fits-reads
 
 -- src/lib.rt:69:8

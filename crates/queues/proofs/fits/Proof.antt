@@ -1,4 +1,4 @@
-use Rattle.queues.proofs.Telling.{fits-told, fits-laws}
+use Rattle.queues.proofs.QueueReads.{fits-told, fits-laws}
 use Rattle.queues.proofs.fits.Statement.{statement}
 use Rattle.queues.proofs.fits.Tie as tie
 use Rattle.queues.proofs.fits.Reads as reads

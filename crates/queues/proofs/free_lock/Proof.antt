@@ -1,10 +1,10 @@
-use Rattle.queues.proofs.Turning.{free-laws}
+use Rattle.queues.proofs.GrantTurns.{free-laws}
 use borrow.Author.Needs.{needs}
 use Rattle.queues.proofs.free_lock.Statement.{statement}
 use Rattle.queues.proofs.free_lock.Tie as tie
 use Rattle.queues.proofs.free_lock.Reads as reads
 use Rattle.queues.proofs.free_lock.Lts as lts
-use Rattle.access.proofs.move_lock.Reads as move-lock-reads
+use Rattle.table_chains.proofs.move_lock.Reads as move-lock-reads
 
 -- src/lib.rt:134:5
 move-lock-requires : tie.Need-move-lock-requires

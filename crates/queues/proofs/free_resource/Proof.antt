@@ -1,11 +1,11 @@
-use Rattle.queues.proofs.Slotting.{vacant-laws}
+use Rattle.queues.proofs.ResourceRecord.{vacant-laws}
 use borrow.Author.Needs.{needs}
 use Rattle.queues.proofs.free_resource.Statement.{statement}
 use Rattle.queues.proofs.free_resource.Tie as tie
 use Rattle.queues.proofs.free_resource.Reads as reads
 use Rattle.queues.proofs.free_resource.Lts as lts
-use Rattle.access.proofs.move_resource_words.Reads as move-resource-words-reads
-use Rattle.names.proofs.clear_slot.Reads as clear-slot-reads
+use Rattle.table_chains.proofs.move_resource_words.Reads as move-resource-words-reads
+use Rattle.table_names.proofs.clear_slot.Reads as clear-slot-reads
 
 -- src/lib.rt:153:5
 move-resource-words-requires : tie.Need-move-resource-words-requires

@@ -1,11 +1,11 @@
-use Rattle.queues.proofs.Turning.{grant-laws}
+use Rattle.queues.proofs.GrantTurns.{grant-laws}
 use borrow.Author.Needs.{needs}
 use Rattle.queues.proofs.grant_next.Statement.{statement}
 use Rattle.queues.proofs.grant_next.Tie as tie
 use Rattle.queues.proofs.grant_next.Reads as reads
 use Rattle.queues.proofs.grant_next.Lts as lts
-use Rattle.access.proofs.move_lock.Reads as move-lock-reads
-use Rattle.fields.proofs.lock_at.Reads as lock-at-reads
+use Rattle.table_chains.proofs.move_lock.Reads as move-lock-reads
+use Rattle.table_fields.proofs.lock_at.Reads as lock-at-reads
 use Rattle.queues.proofs.fits.Reads as fits-reads
 use Rattle.queues.proofs.granted.Reads as granted-reads
 use Rattle.queues.proofs.next_up.Reads as next-up-reads

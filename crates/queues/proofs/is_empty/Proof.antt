@@ -1,9 +1,9 @@
-use Rattle.queues.proofs.Slotting.{empty-laws}
+use Rattle.queues.proofs.ResourceRecord.{empty-laws}
 use Rattle.queues.proofs.is_empty.Statement.{statement}
 use Rattle.queues.proofs.is_empty.Tie as tie
 use Rattle.queues.proofs.is_empty.Reads as reads
 use Rattle.queues.proofs.is_empty.Lts as lts
-use Rattle.fields.proofs.resource_word.Reads as resource-word-reads
+use Rattle.table_fields.proofs.resource_word.Reads as resource-word-reads
 
 -- src/lib.rt:203:9
 resource-word-requires : tie.Need-resource-word-requires

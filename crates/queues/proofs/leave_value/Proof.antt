@@ -1,12 +1,12 @@
-use Rattle.queues.proofs.Slotting.{leave-laws}
+use Rattle.queues.proofs.ResourceRecord.{leave-laws}
 use borrow.Author.Needs.{needs}
 use Rattle.queues.proofs.leave_value.Statement.{statement}
 use Rattle.queues.proofs.leave_value.Tie as tie
 use Rattle.queues.proofs.leave_value.Reads as reads
 use Rattle.queues.proofs.leave_value.Lts as lts
-use Rattle.access.proofs.move_resource_words.Reads as move-resource-words-reads
-use Rattle.fields.proofs.resource_word.Reads as resource-word-reads
-use Rattle.names.proofs.store_value.Reads as store-value-reads
+use Rattle.table_chains.proofs.move_resource_words.Reads as move-resource-words-reads
+use Rattle.table_fields.proofs.resource_word.Reads as resource-word-reads
+use Rattle.table_names.proofs.store_value.Reads as store-value-reads
 use Rattle.queues.proofs.spoils.Reads as spoils-reads
 use Rattle.queues.proofs.stores.Reads as stores-reads
 

@@ -1,9 +1,9 @@
-use Rattle.queues.proofs.Telling.{next-laws}
+use Rattle.queues.proofs.QueueReads.{next-laws}
 use Rattle.queues.proofs.next_up.Statement.{statement}
 use Rattle.queues.proofs.next_up.Tie as tie
 use Rattle.queues.proofs.next_up.Reads as reads
 use Rattle.queues.proofs.next_up.Lts as lts
-use Rattle.fields.proofs.resource_word.Reads as resource-word-reads
+use Rattle.table_fields.proofs.resource_word.Reads as resource-word-reads
 
 -- src/lib.rt:80:9
 resource-word-requires : tie.Need-resource-word-requires

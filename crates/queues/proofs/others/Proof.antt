@@ -1,9 +1,9 @@
-use Rattle.queues.proofs.Telling.{others-converting, others-laws}
+use Rattle.queues.proofs.QueueReads.{others-converting, others-laws}
 use Rattle.queues.proofs.others.Statement.{statement}
 use Rattle.queues.proofs.others.Tie as tie
 use Rattle.queues.proofs.others.Reads as reads
 use Rattle.queues.proofs.others.Lts as lts
-use Rattle.fields.proofs.resource_word.Reads as resource-word-reads
+use Rattle.table_fields.proofs.resource_word.Reads as resource-word-reads
 use Rattle.queues.proofs.with_holders.Reads as with-holders-reads
 
 -- src/lib.rt:48:9

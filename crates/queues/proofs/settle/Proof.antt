@@ -1,4 +1,4 @@
-use Rattle.queues.proofs.Slotting.{settle-laws}
+use Rattle.queues.proofs.ResourceRecord.{settle-laws}
 use borrow.Author.Needs.{needs}
 use Rattle.queues.proofs.settle.Statement.{statement}
 use Rattle.queues.proofs.settle.Tie as tie

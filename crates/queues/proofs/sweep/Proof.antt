@@ -1,6 +1,6 @@
-use Rattle.queues.proofs.Turning.{sweep-laws}
+use Rattle.queues.proofs.GrantTurns.{sweep-laws}
 use lib.ListN.{length}
-use Rattle.queues.proofs.Turning.{Going, line-in}
+use Rattle.queues.proofs.GrantTurns.{Going, line-in}
 use Rattle.queues.proofs.sweep.Statement.{statement}
 use Rattle.queues.proofs.sweep.Tie as tie
 use Rattle.queues.proofs.sweep.Reads as reads

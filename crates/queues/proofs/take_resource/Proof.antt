@@ -1,11 +1,11 @@
-use Rattle.queues.proofs.Slotting.{takes-laws}
+use Rattle.queues.proofs.ResourceRecord.{takes-laws}
 use borrow.Author.Needs.{needs}
 use Rattle.queues.proofs.take_resource.Statement.{statement}
 use Rattle.queues.proofs.take_resource.Tie as tie
 use Rattle.queues.proofs.take_resource.Reads as reads
 use Rattle.queues.proofs.take_resource.Lts as lts
-use Rattle.access.proofs.move_resource_words.Reads as move-resource-words-reads
-use Rattle.names.proofs.store_name.Reads as store-name-reads
+use Rattle.table_chains.proofs.move_resource_words.Reads as move-resource-words-reads
+use Rattle.table_names.proofs.store_name.Reads as store-name-reads
 
 -- src/lib.rt:162:43
 cast-move-resource-words : tie.Need-cast-move-resource-words

@@ -1,10 +1,10 @@
-use Rattle.queues.proofs.Walking.{joined-laws}
+use Rattle.queues.proofs.HolderWalk.{joined-laws}
 use borrow.Author.Needs.{needs}
 use Rattle.queues.proofs.with_holder.Statement.{statement}
 use Rattle.queues.proofs.with_holder.Tie as tie
 use Rattle.queues.proofs.with_holder.Reads as reads
 use Rattle.queues.proofs.with_holder.Lts as lts
-use Rattle.fields.proofs.lock_word.Reads as lock-word-reads
+use Rattle.table_fields.proofs.lock_word.Reads as lock-word-reads
 use Rattle.modes.proofs.with_mode.Reads as with-mode-reads
 
 -- src/lib.rt:23:9

@@ -1,11 +1,11 @@
 use lib.ListN.{length}
 use Rattle.queues.specs.Holders.{locks-from}
-use Rattle.queues.proofs.Walking.{Adding, adding-laws}
+use Rattle.queues.proofs.HolderWalk.{Adding, adding-laws}
 use Rattle.queues.proofs.with_holders.Statement.{statement}
 use Rattle.queues.proofs.with_holders.Tie as tie
 use Rattle.queues.proofs.with_holders.Reads as reads
 use Rattle.queues.proofs.with_holders.Lts as lts
-use Rattle.fields.proofs.lock_word.Reads as lock-word-reads
+use Rattle.table_fields.proofs.lock_word.Reads as lock-word-reads
 use Rattle.queues.proofs.with_holder.Reads as with-holder-reads
 
 abbrev Inv-loop : tie.InvT-loop

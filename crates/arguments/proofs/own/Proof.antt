@@ -1,6 +1,0 @@
-use Rattle.arguments.proofs.Owning.{owning}
-use Rattle.arguments.proofs.own.Statement.{statement}
-use Rattle.arguments.proofs.own.Tie as tie
-
-pub own-spec : {M : Type 1} → statement M
-own-spec = tie.close (tie.spec (λ c. search owning) (λ c. search owning) (λ c. search owning) (λ c κs. search owning) (λ c. search owning))

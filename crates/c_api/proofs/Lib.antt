@@ -1,0 +1,2 @@
+pub mod PackedContracts
+pub mod ListReturns

@@ -1,0 +1,13 @@
+use Rattle.c_api.proofs.PackedContracts.{carrying}
+use borrow.Author.Needs.{needs}
+use Rattle.c_api.proofs.zamgyorud_cancel.Statement.{statement}
+use Rattle.c_api.proofs.zamgyorud_cancel.Tie as tie
+
+pub zamgyorud-cancel-spec : {M : Type 1} → statement M
+zamgyorud-cancel-spec =
+    tie.close
+    (tie.spec
+    (λ c κs. search needs)
+    (λ c κs. search needs)
+    (λ c. search needs)
+    (λ c. search carrying))

@@ -1,0 +1,2 @@
+pub mod EntryWords
+pub mod ListLoop

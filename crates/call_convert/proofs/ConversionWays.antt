@@ -1,0 +1,67 @@
+-- A conversion that is not refused: in place, or on the convert queue.
+use mathlib.Core.Path.{_≡_, sym, _∙_, refl}
+use mathlib.Core.Bool.{Bool, true, false}
+use mathlib.Core.List.{List}
+use Prim.Native.Nat.{ℕ, _<_}
+use native.Mathlib.Omega.{arith}
+use borrow.Author.Needs.{needs}
+use Rattle.tables.specs.State.{Tables, lock}
+use Rattle.tables.specs.Layout.{words}
+use Rattle.tables.proofs.SlotChanges.{slots-move}
+use Rattle.rules.specs.Calls.{asking, in-place, convert-change}
+use Rattle.rules.proofs.AcceptedCalls.{Convertible}
+use Rattle.table_chains.specs.Contracts.{Some, Turns, Tells, Changes}
+use Rattle.queues.specs.Contracts.{Lent}
+use Rattle.answers.proofs.Steps.{stepped}
+use Rattle.answers.specs.declared.Converted.the-variants.{Granted, Waiting}
+use Rattle.answers.specs.Answers.{converted}
+use Rattle.answers.specs.Contracts.{Makes}
+use Rattle.call_refusals.specs.Contracts.{Held}
+use Rattle.call_convert.specs.Contracts.{lowers, granted-in-place, on-convert-queue, Asks, Placed}
+
+module _ (k m f : ℕ) (v a sa : List ℕ) where
+  module _ (t : Tables) (p : Convertible k m f v t) where
+    held-at-all : Held k t
+    held-at-all = record { core = p .valid .core; is-granted = p .is-granted }
+
+    asks-it : Asks k m t
+    asks-it = record { held = held-at-all; mode = p .mode }
+
+  module _ (s : Lent (Convertible k m f v) a sa) where
+    pub convert-held : Some (Held k) a
+    convert-held = record { state = s .state; good = held-at-all (s .state) (s .good); is = s .is }
+
+    pub convert-mode : m < 6
+    convert-mode = omega (arith, s .good .mode)
+
+    pub convert-asks : Some (Asks k m) a
+    convert-asks = record { state = s .state; good = asks-it (s .state) (s .good); is = s .is }
+
+  module _ (x : Bool) (told : Tells (Held k) (in-place k m) a x) where
+    told-at : (t : Tables) → Convertible k m f v t → a ≡ words t → in-place k m t ≡ x
+    told-at t p is = sym (told .then t (held-at-all t p) is)
+
+    module _ (q : x ≡ true) where
+      placed-at : (t : Tables) → Convertible k m f v t → a ≡ words t → Placed k m f v t
+      placed-at t p is = record { asks = asks-it t p; at-once = told-at t p is ∙ q; right = p .right }
+
+      pub convert-placed : Lent (Convertible k m f v) a sa → Lent (Placed k m f v) a sa
+      convert-placed s = record { state = s .state; good = placed-at (s .state) (s .good) (s .is); is = s .is; slots-are = s .slots-are }
+
+      pub convert-granted : (b sb : List ℕ) → Changes (Placed k m f v) (granted-in-place k m f v) a sa b sb → Makes (Convertible k m f v) (convert-change k m f v) a sa b sb (converted Granted)
+      unfolding convert-change granted-in-place lowers
+      convert-granted b sb h = record {
+        then = λ t p is iss.
+            let d = h .then t (placed-at t p is) is iss in
+            rw (told-at t p is ∙ q, convert-change) (stepped _ 1 0 (granted-in-place k m f v t) b sb refl (d .0) (d .1));
+      }
+
+    pub convert-waits : x ≡ false → (b : List ℕ) → Turns (Asks k m) (on-convert-queue k m) a b → Makes (Convertible k m f v) (convert-change k m f v) a sa b sa (converted Waiting)
+    unfolding convert-change on-convert-queue
+    convert-waits q b h = record {
+      then = λ t p is iss.
+          rw (told-at t p is ∙ q, convert-change)
+          (stepped _ 2 0 (on-convert-queue k m t) b sa refl (h .then t (asks-it t p) is) (iss ∙ sym (slots-move (lock t k .resource) k (asking m (lock t k)) t)));
+    }
+
+pub ruleset convert-laws = (needs, convert-held, convert-mode, convert-asks, convert-placed, convert-granted, convert-waits)

@@ -1,0 +1,3 @@
+pub mod AskingLock
+pub mod ConversionWords
+pub mod ConversionWays

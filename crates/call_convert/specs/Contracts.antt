@@ -1,0 +1,36 @@
+-- The two ways of a conversion, and what the functions of this crate stand on.
+use mathlib.Core.Path.{_≡_}
+use mathlib.Core.Bool.{Bool, true, _&&_}
+use mathlib.Core.List.{List}
+use Prim.Native.Nat.{ℕ, _≤_}
+use lib.ListN.{length}
+use lib.Dec.{ltb}
+use Rattle.tables.specs.State.{Tables, value-width, lock, move}
+use Rattle.rules.specs.Queues.{sweep}
+use Rattle.rules.specs.Calls.{stores, strong, leave-value, held-at, asking, in-place}
+use Rattle.call_refusals.specs.Contracts.{Held}
+
+-- from PW or EX to a smaller mode
+unfoldable pub lowers : ℕ → ℕ → Bool
+lowers held m = strong held && ltb m held
+
+-- the lock k takes the mode m in place, and its resource is swept
+unfoldable pub granted-in-place : ℕ → ℕ → ℕ → List ℕ → Tables → Tables
+granted-in-place k m f v t =
+    let r = lock t k .resource in
+    sweep r (move r k (held-at m (lock t k)) (leave-value (lowers (lock t k .held) m) f v r t))
+
+-- the lock k joins the convert chain, keeping its held mode
+unfoldable pub on-convert-queue : ℕ → ℕ → Tables → Tables
+on-convert-queue k m t = move (lock t k .resource) k (asking m (lock t k)) t
+
+-- the lock k is granted, and may ask for the mode m
+pub record Asks (k m : ℕ) (t : Tables) : Type 0 where
+  pub held : Held k t
+  pub mode : m ≤ 5
+
+-- it can take m in place; and where the flags f store a value, v is one
+pub record Placed (k m f : ℕ) (v : List ℕ) (t : Tables) : Type 0 where
+  pub asks : Asks k m t
+  pub at-once : in-place k m t ≡ true
+  pub right : stores f ≡ true → length v ≡ value-width

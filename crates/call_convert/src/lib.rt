@@ -1,0 +1,95 @@
+// A conversion's change, in place: the lock takes the mode where it is granted, or joins the convert queue.
+use answers::Converted;
+use modes::Mode;
+use table_fields::lock_at;
+use tables::Lock;
+ghost use mathlib.Core.Path.{_≡_};
+ghost use Rattle.rules.specs.Calls.{«held-at», asking, «convert-change»};
+ghost use Rattle.rules.proofs.AcceptedCalls.{Convertible};
+ghost use Rattle.table_chains.specs.Contracts.{Some, Turns, Changes};
+ghost use Rattle.queues.specs.Contracts.{Lent};
+ghost use Rattle.answers.specs.Answers.{converted};
+ghost use Rattle.answers.specs.Contracts.{Makes};
+ghost use Rattle.call_convert.specs.Contracts.{lowers, «granted-in-place», «on-convert-queue», Asks, Placed};
+
+// Flags 1 and 2 act on a conversion from PW or EX to a smaller mode.
+fn lowers(held: u32, mode: u32) -> bool
+    ensures { λ x. ⌜ x ≡ lowers held mode ⌝ }
+{
+    (Mode::PW.0 <= held) & (mode < held)
+}
+
+// The lock l with the mode held, and the lock l that asks for the mode and keeps the one it holds.
+fn held_at(l: Lock, mode: u32) -> Lock
+    ensures { λ m. ⌜ m ≡ held-at mode l ⌝ }
+{
+    Lock {
+        resource: l.resource,
+        client: l.client,
+        state: table_fields::STATE_GRANTED,
+        held: mode,
+        asked: 0,
+        completion: table_fields::COMPLETION_NONE,
+    }
+}
+
+fn asking(l: Lock, mode: u32) -> Lock
+    ensures { λ m. ⌜ m ≡ asking mode l ⌝ }
+{
+    Lock {
+        resource: l.resource,
+        client: l.client,
+        state: table_fields::STATE_CONVERTING,
+        held: l.held,
+        asked: mode,
+        completion: table_fields::COMPLETION_NONE,
+    }
+}
+
+// The lock k takes the mode where it stands, and leaves the value as the flags say. What it held may have kept others
+// waiting: its resource is swept.
+fn convert_in_place(
+    words: &mut [u32],
+    slots: &mut [u8],
+    k: u32,
+    mode: u32,
+    flags: u32,
+    value: &[u8],
+)
+    requires { ⌜ Lent (Placed k mode flags (now value)) (now words) (now slots) ⌝ }
+    ensures { λ _. ⌜ Changes (Placed k mode flags (now (value .entry))) (granted-in-place k mode flags (now (value .entry))) (now (words .entry)) (now (slots .entry)) (now (words .exit)) (now (slots .exit)) ⌝ }
+{
+    let l = lock_at(words, k);
+    queues::leave_value(words, slots, lowers(l.held, mode), flags, value, l.resource);
+    table_chains::move_lock(words, k, held_at(l, mode));
+    queues::sweep(words, l.resource);
+}
+
+// The lock k joins the convert queue.
+fn queue_conversion(words: &mut [u32], k: u32, mode: u32)
+    requires { ⌜ Some (Asks k mode) (now words) ⌝ }
+    ensures { λ _. ⌜ Turns (Asks k mode) (on-convert-queue k mode) (now (words .entry)) (now (words .exit)) ⌝ }
+{
+    let l = lock_at(words, k);
+    table_chains::move_lock(words, k, asking(l, mode));
+}
+
+// The lock k is converted to the mode, and nothing refuses it.
+pub fn convert_change(
+    words: &mut [u32],
+    slots: &mut [u8],
+    k: u32,
+    mode: u32,
+    flags: u32,
+    value: &[u8],
+) -> Converted
+    requires { ⌜ Lent (Convertible k mode flags (now value)) (now words) (now slots) ⌝ }
+    ensures { λ r. ⌜ Makes (Convertible k mode flags (now (value .entry))) (convert-change k mode flags (now (value .entry))) (now (words .entry)) (now (slots .entry)) (now (words .exit)) (now (slots .exit)) (converted r) ⌝ }
+{
+    if call_refusals::in_place(words, k, mode) {
+        convert_in_place(words, slots, k, mode, flags, value);
+        return Converted::Granted;
+    }
+    queue_conversion(words, k, mode);
+    Converted::Waiting
+}

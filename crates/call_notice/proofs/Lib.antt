@@ -1,0 +1,3 @@
+pub mod Denial
+pub mod NoticeWalk
+pub mod NoticeTaken

@@ -1,0 +1,195 @@
+-- Reading a notice, and a client's first.
+use mathlib.Core.Path.{_≡_, refl, sym, _∙_, ap, subst}
+use mathlib.Core.Logic.{_≢_}
+use mathlib.Core.Bool.{Bool, true, false}
+use mathlib.Core.List.{List}
+use Prim.Native.Nat.{ℕ, zero, suc, _≤_}
+use native.Mathlib.Omega.{arith}
+use lib.ListN.{length}
+use borrow.Author.Needs.{needs}
+use borrow.Author.Tests.{eqb-false, eq-eqb, ne-eqb, not-true}
+use Rattle.tables.specs.declared.Lock.{Lock}
+use Rattle.tables.specs.Lists.{within}
+use Rattle.tables.specs.State.{Tables, lock, notices, move}
+use Rattle.tables.specs.Layout.{words, slots, locks-in, read-lock}
+use Rattle.tables.proofs.Cases.{by-cases, clash}
+use Rattle.tables.proofs.Counts.{first-in}
+use Rattle.tables.proofs.SlotChanges.{slots-move}
+use Rattle.tables.proofs.Valid.{used, Granted, StateOk, LockOk, Core, Valid, absent-lock}
+use Rattle.tables.proofs.ChainMembers.{on-chain}
+use Rattle.table_fields.specs.Sizes.{Sized}
+use Rattle.rules.specs.Queues.{free-lock}
+use Rattle.rules.specs.Calls.{done, notice-read, take-notice, poll-notice, poll-change}
+use Rattle.table_chains.specs.Contracts.{Some, Turns, Tells, Movable, Moving, Moved}
+use Rattle.queues.specs.Contracts.{Locked}
+use Rattle.queues.proofs.ResourceRecord.{slots-free}
+use Rattle.answers.specs.Answers.{Numbers, polled}
+use Rattle.answers.specs.declared.Polled.the-variants as polled-cases
+use Rattle.answers.specs.Contracts.{MakesWords}
+use Rattle.answers.proofs.Steps.{stepped}
+use Rattle.call_release.proofs.LentLock.{lock-sized, lock-low, lock-high, lock-is}
+use Rattle.call_notice.specs.Contracts.{first-notice, Noticed}
+use Rattle.call_notice.proofs.Denial.{valid-core}
+
+-- STATES. A notice that is no denied request stands at a granted lock
+granted-told : (u : ℕ → Bool) (l : Lock) (s : ℕ) → StateOk u l s → l .completion ≢ 0 → l .completion ≢ 2 → Granted u l × (s ≡ 1)
+granted-told u l zero ok a b = absurd (a (ap (λ (x : Lock). x .completion) ok))
+granted-told u l (suc zero) ok a b = (ok, refl)
+granted-told u l (suc (suc zero)) ok a b = absurd (a (ok .notice))
+granted-told u l (suc (suc (suc zero))) ok a b = absurd (a (ok .notice))
+granted-told u l (suc (suc (suc (suc zero)))) ok a b = absurd (b (ok .notice))
+granted-told u l (suc (suc (suc (suc (suc n))))) ok a b = absurd ok
+
+module _ (k : ℕ) (t : Tables) (p : Noticed k t) where
+  some-notice : lock t k .completion ≢ 0
+  some-notice = eqb-false (lock t k .completion) 0 (not-true _ (p .unread))
+
+  in-range : within (length (t .locks)) k ≡ true
+  in-range =
+      by-cases (within (length (t .locks)) k) (λ w. w) (λ w. absurd (some-notice (ap (λ (l : Lock). l .completion) (absent-lock t k w))))
+
+  locked : Locked k t
+  locked = record { core = p .core; in-range = in-range }
+
+  module _ (n : lock t k .completion ≢ 2) where
+    old : Granted (used t) (lock t k) × (lock t k .state ≡ 1)
+    old = granted-told (used t) (lock t k) (lock t k .state) (p .core .lock-ok k) some-notice n
+
+    read-ok : LockOk (used t) (notice-read (lock t k))
+    read-ok =
+        let q = old .0 .place in
+        subst (StateOk (used t) (notice-read (lock t k))) (sym (old .1))
+        (record {
+          place = record { in-use = q .in-use; client-low = q .client-low; client-high = q .client-high; held-mode = q .held-mode; asked-mode = q .asked-mode };
+          asks = old .0 .asks;
+          notice = omega arith;
+          not-denied = omega arith;
+        })
+
+    movable : Movable (lock t k .resource) k (notice-read (lock t k)) t
+    movable = record { core = p .core; in-range = in-range; near-old = λ z. refl; near-new = λ z. refl; ok = read-ok }
+
+    -- granted, or a denied conversion
+    denied-else : lock t k .completion ≢ 1 → lock t k .completion ≡ 3
+    denied-else m = omega (arith, some-notice, n, m, old .0 .notice)
+
+poll-some : (n k : ℕ) (t : Tables) → within n k ≡ true → poll-notice k t ≡ done (lock t k .completion) k (take-notice k t)
+unfolding poll-notice
+poll-some n zero t w = clash false w refl
+poll-some n (suc k) t w = refl
+
+take-denied : (k : ℕ) (t : Tables) → lock t k .completion ≡ 2 → take-notice k t ≡ free-lock k t
+unfolding take-notice
+take-denied k t e = rw (eq-eqb (lock t k .completion) 2 e, take-notice)
+
+take-read : (k : ℕ) (t : Tables) → lock t k .completion ≢ 2 → take-notice k t ≡ move (lock t k .resource) k (notice-read (lock t k)) t
+unfolding take-notice
+take-read k t n = rw (ne-eqb (lock t k .completion) 2 n, take-notice)
+
+-- the notice with the completion x is answered so
+poll-done : (k : ℕ) (t : Tables) → Noticed k t → (x : ℕ) (t′ : Tables) → lock t k .completion ≡ x → take-notice k t ≡ t′ → poll-notice k t ≡ done x k t′
+poll-done k t p x t′ e h = poll-some (length (t .locks)) k t (in-range k t p) ∙ ap (λ (y : ℕ). done y k (take-notice k t)) e ∙ ap (done x k) h
+
+-- take_notice
+module _ (k : ℕ) (a : List ℕ) where
+  module _ (s : Some (Noticed k) a) where
+    pub take-sized : Sized a
+    take-sized = lock-sized k (s .state) (s .good .core) (in-range k (s .state) (s .good)) a (s .is)
+
+    pub take-low : 1 ≤ k
+    take-low = lock-low k (s .state) (s .good .core) (in-range k (s .state) (s .good)) a (s .is)
+
+    pub take-high : k ≤ locks-in a
+    take-high = lock-high k (s .state) (s .good .core) (in-range k (s .state) (s .good)) a (s .is)
+
+    pub take-locked : Some (Locked k) a
+    take-locked = record { state = s .state; good = locked k (s .state) (s .good); is = s .is }
+
+  module _ (l : Lock) (el : l ≡ read-lock a k) where
+    l-is : (t : Tables) → Noticed k t → a ≡ words t → l ≡ lock t k
+    l-is t p is = lock-is k t (p .core) (in-range k t p) a is l el
+
+    notice-is : (t : Tables) → Noticed k t → a ≡ words t → l .completion ≡ lock t k .completion
+    notice-is t p is = ap (λ (o : Lock). o .completion) (l-is t p is)
+
+    pub take-freed : l .completion ≡ 2 → (b : List ℕ) → Turns (Locked k) (free-lock k) a b → MakesWords (Noticed k) (poll-notice k) a b (polled (polled-cases.RequestDenied k))
+    take-freed e b frees = record {
+      then = λ t p is.
+          let d : lock t k .completion ≡ 2 = sym (notice-is t p is) ∙ e in
+          stepped (poll-notice k t) 2 k (free-lock k t) b (slots t) (poll-done k t p 2 (free-lock k t) d (take-denied k t d)) (frees .then t (locked k t p) is) (sym (slots-free k t));
+    }
+
+    module _ (n : l .completion ≡ 2 → ⊥) (m : Lock) (em : m ≡ notice-read l) where
+      other-at : (t : Tables) → Noticed k t → a ≡ words t → lock t k .completion ≢ 2
+      other-at t p is e = n (notice-is t p is ∙ e)
+
+      m-is : (t : Tables) → Noticed k t → a ≡ words t → m ≡ notice-read (lock t k)
+      m-is t p is = em ∙ ap (λ (o : Lock). notice-read o) (l-is t p is)
+
+      pub take-moving : Some (Noticed k) a → Moving k m a
+      take-moving s =
+          record {
+            state = s .state;
+            resource = lock (s .state) k .resource;
+            good = rw (m-is (s .state) (s .good) (s .is)) (movable k (s .state) (s .good) (other-at (s .state) (s .good) (s .is)));
+            is = s .is;
+          }
+
+      module _ (b : List ℕ) (moved : Moved k m a b) where
+        read-at : (x : ℕ) (t : Tables) (p : Noticed k t) (is : a ≡ words t) → lock t k .completion ≡ x →
+            (poll-notice k t ≡ done x k (move (lock t k .resource) k (notice-read (lock t k)) t)) × (b ≡ words (move (lock t k .resource) k (notice-read (lock t k)) t))
+        read-at x t p is e = (
+          poll-done k t p x _ e (take-read k t (other-at t p is)),
+          subst (λ (o : Lock). Moved k o a b) (m-is t p is) moved .then (lock t k .resource) t (movable k t p (other-at t p is)) is,
+        )
+
+        pub take-granted : l .completion ≡ 1 → MakesWords (Noticed k) (poll-notice k) a b (polled (polled-cases.Granted k))
+        take-granted e = record {
+          then = λ t p is.
+              let h = read-at 1 t p is (sym (notice-is t p is) ∙ e) in
+              stepped (poll-notice k t) 1 k _ b (slots t) (h .0) (h .1) (sym (slots-move (lock t k .resource) k (notice-read (lock t k)) t));
+        }
+
+        pub take-refused : (l .completion ≡ 1 → ⊥) → MakesWords (Noticed k) (poll-notice k) a b (polled (polled-cases.ConversionDenied k))
+        take-refused d = record {
+          then = λ t p is.
+              let h = read-at 3 t p is (denied-else k t p (other-at t p is) (λ e. d (notice-is t p is ∙ e))) in
+              stepped (poll-notice k t) 3 k _ b (slots t) (h .0) (h .1) (sym (slots-move (lock t k .resource) k (notice-read (lock t k)) t));
+        }
+
+pub ruleset take-laws = (needs, take-sized, take-low, take-high, take-locked, take-freed, take-moving, take-granted, take-refused)
+
+-- STATES. The first notice is one
+first-noticed : (c : ℕ) (t : Tables) → Core t → (k : ℕ) → k ≢ 0 → k ≡ first-notice c t → Noticed k t
+unfolding first-notice
+first-noticed c t core zero n e = absurd (n refl)
+first-noticed c t core (suc k) n e = record { core = core; unread = on-chain t (core .linked) notices (suc k) (first-in _ (t .notices) k (sym e)) .1 }
+
+poll-is : (c k : ℕ) (t : Tables) → k ≡ first-notice c t → poll-change c t ≡ poll-notice k t
+unfolding poll-change first-notice
+poll-is c k t e = ap (λ (x : ℕ). poll-notice x t) (sym e)
+
+poll-nothing : (k : ℕ) (t : Tables) → k ≡ 0 → poll-notice k t ≡ done 0 0 t
+unfolding poll-notice
+poll-nothing k t e = rw e
+
+-- poll_change
+module _ (c : ℕ) (a : List ℕ) (k : ℕ) (tells : Tells Core (first-notice c) a k) where
+  pub poll-none : k ≡ 0 → MakesWords Valid (poll-change c) a a (polled polled-cases.NoNotice)
+  poll-none e = record {
+    then = λ t v is. stepped (poll-change c t) 0 0 t a (slots t) (poll-is c k t (tells .then t (v .core) is) ∙ poll-nothing k t e) is refl;
+  }
+
+  module _ (n : k ≡ 0 → ⊥) where
+    noticed-at : (t : Tables) → Valid t → a ≡ words t → Noticed k t
+    noticed-at t v is = first-noticed c t (v .core) k n (tells .then t (v .core) is)
+
+    pub poll-noticed : Some Valid a → Some (Noticed k) a
+    poll-noticed s = record { state = s .state; good = noticed-at (s .state) (s .good) (s .is); is = s .is }
+
+    pub poll-taken : (b : List ℕ) (x : Numbers) → MakesWords (Noticed k) (poll-notice k) a b x → MakesWords Valid (poll-change c) a b x
+    poll-taken b x takes = record {
+      then = λ t v is. rw (poll-is c k t (tells .then t (v .core) is)) (takes .then t (noticed-at t v is) is);
+    }
+
+pub ruleset poll-laws = (needs, valid-core, poll-none, poll-noticed, poll-taken)

@@ -1,0 +1,5 @@
+pub mod NumbersLeft
+pub mod OneLock
+pub mod ClientLocks
+pub mod MarkedResources
+pub mod WholePurge

@@ -1,0 +1,2 @@
+pub mod PurgedLocks
+pub mod SettledResources

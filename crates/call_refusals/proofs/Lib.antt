@@ -1,0 +1,4 @@
+pub mod ConversionInPlace
+pub mod LockRefusals
+pub mod Arguments
+pub mod RequestRoom

@@ -1,0 +1,3 @@
+pub mod LentLock
+pub mod ReleasedLock
+pub mod RestoredLock

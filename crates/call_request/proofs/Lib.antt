@@ -1,0 +1,3 @@
+pub mod NameResource
+pub mod NewLock
+pub mod AcceptedRequest

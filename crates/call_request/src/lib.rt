@@ -1,0 +1,85 @@
+// A request's change, in place: it takes a lock, and where its name is new a resource, and is granted or waits.
+use answers::Requested;
+use table_fields::header_word;
+use tables::Lock;
+ghost use mathlib.Core.Path.{_≡_};
+ghost use Rattle.rules.specs.Calls.{holding, queued, «request-on», «request-change»};
+ghost use Rattle.rules.proofs.AcceptedCalls.{Requestable};
+ghost use Rattle.table_chains.specs.Contracts.{Some};
+ghost use Rattle.table_names.specs.Names.{«find-in»};
+ghost use Rattle.queues.specs.Contracts.{Lent};
+ghost use Rattle.answers.specs.Answers.{requested};
+ghost use Rattle.answers.specs.Contracts.{Makes, MakesWords};
+ghost use Rattle.call_request.specs.Contracts.{Nameable, Houses, Enters};
+
+// The resource of that name: `found`, which has it, or where that is 0 the first free one, which takes it.
+fn resource_for(words: &mut [u32], slots: &mut [u8], found: u32, name: &[u8]) -> u32
+    requires { ⌜ Lent (Nameable (now name)) (now words) (now slots) ⌝ }
+    requires { ⌜ found ≡ find-in (now words) (now slots) (now name) ⌝ }
+    ensures { λ r. ⌜ Houses (now (name .entry)) (now (words .entry)) (now (slots .entry)) (now (words .exit)) (now (slots .exit)) r ⌝ }
+{
+    if found != 0 {
+        return found;
+    }
+    let first = header_word(words, table_fields::FREE_RESOURCES);
+    queues::take_resource(words, slots, first, name);
+    first
+}
+
+// A lock that the client holds on r, and one that waits there.
+fn holding(r: u32, client: u32, mode: u32) -> Lock
+    ensures { λ l. ⌜ l ≡ holding r client mode ⌝ }
+{
+    Lock {
+        resource: r,
+        client: client,
+        state: table_fields::STATE_GRANTED,
+        held: mode,
+        asked: 0,
+        completion: table_fields::COMPLETION_NONE,
+    }
+}
+
+fn queued(r: u32, client: u32, mode: u32) -> Lock
+    ensures { λ l. ⌜ l ≡ queued r client mode ⌝ }
+{
+    Lock {
+        resource: r,
+        client: client,
+        state: table_fields::STATE_WAITING,
+        held: 0,
+        asked: mode,
+        completion: table_fields::COMPLETION_NONE,
+    }
+}
+
+// The lock k, which is free, becomes the client's on r: granted if the mode is admitted there, else waiting.
+fn enter(words: &mut [u32], r: u32, k: u32, client: u32, mode: u32) -> Requested
+    requires { ⌜ Some (Enters r k client mode) (now words) ⌝ }
+    ensures { λ x. ⌜ MakesWords (Enters r k client mode) (request-on r k client mode) (now (words .entry)) (now (words .exit)) (requested x) ⌝ }
+{
+    if queues::admits(words, r, mode) {
+        table_chains::move_lock(words, k, holding(r, client, mode));
+        return Requested::Granted(k);
+    }
+    table_chains::move_lock(words, k, queued(r, client, mode));
+    Requested::Waiting(k)
+}
+
+// The client requests the mode on the name, and nothing refuses it. `found` is the resource that has the name, or 0.
+pub fn request_change(
+    words: &mut [u32],
+    slots: &mut [u8],
+    found: u32,
+    client: u32,
+    mode: u32,
+    name: &[u8],
+) -> Requested
+    requires { ⌜ Lent (Requestable client mode (now name)) (now words) (now slots) ⌝ }
+    requires { ⌜ found ≡ find-in (now words) (now slots) (now name) ⌝ }
+    ensures { λ r. ⌜ Makes (Requestable client mode (now (name .entry))) (request-change client mode (now (name .entry))) (now (words .entry)) (now (slots .entry)) (now (words .exit)) (now (slots .exit)) (requested r) ⌝ }
+{
+    let k = header_word(words, table_fields::FREE_LOCKS);
+    let r = resource_for(words, slots, found, name);
+    enter(words, r, k, client, mode)
+}

@@ -1,0 +1,3 @@
+pub mod UpwardLinks
+pub mod StartedWords
+pub mod StartSteps

@@ -1,0 +1,2 @@
+pub mod ChainWalk
+pub mod WalkStarts

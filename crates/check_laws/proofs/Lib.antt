@@ -1,0 +1,12 @@
+pub mod ChainSteps
+pub mod HeldModes
+pub mod ResourceWalk
+pub mod Heads
+pub mod RecordTests
+pub mod Sides
+pub mod Homes
+pub mod Once
+pub mod PassedAreSound
+pub mod SoundArePassed
+pub mod Equal
+pub mod SideCounts

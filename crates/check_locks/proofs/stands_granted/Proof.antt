@@ -1,0 +1,13 @@
+use Rattle.check_locks.proofs.LockStates.{standing}
+use Rattle.check_locks.proofs.stands_granted.Statement.{statement}
+use Rattle.check_locks.proofs.stands_granted.Tie as tie
+
+pub stands-granted-spec : {M : Type 1} → statement M
+stands-granted-spec =
+    tie.close
+    (tie.spec
+    (λ c κs. search standing)
+    (λ c κs. search standing)
+    (λ c κs. search standing)
+    (λ c κs. search standing)
+    (λ c. search standing))

@@ -1,0 +1,135 @@
+// A lock where its home chain has it: tests of a lock by its state.
+use table_fields::COMPLETION_CONVERSION_DENIED;
+use table_fields::COMPLETION_DENIED;
+use table_fields::COMPLETION_GRANTED;
+use table_fields::COMPLETION_NONE;
+use table_fields::LAST_CLIENT;
+use table_fields::LAST_MODE;
+use table_fields::LOCK_NEXT_BLOCKED;
+use table_fields::LOCK_NEXT_NOTICE;
+use table_fields::STATE_CONVERTING;
+use table_fields::STATE_DENIED;
+use table_fields::STATE_FREE;
+use table_fields::STATE_GRANTED;
+use table_fields::STATE_WAITING;
+use table_fields::lock_at;
+use table_fields::lock_word;
+use tables::Lock;
+ghost use mathlib.Core.Path.{_≡_};
+ghost use mathlib.Core.Bool.{true, _&&_, _||_};
+ghost use Prim.Native.Nat.{_≤_};
+ghost use lib.Dec.{eqb};
+ghost use Rattle.tables.specs.State.{told};
+ghost use Rattle.tables.specs.Layout.{«of-lock», «resources-in», «locks-in», «word-in»};
+ghost use Rattle.tables.specs.Sound.{«client-right»};
+ghost use Rattle.table_fields.specs.Sizes.{Sized};
+ghost use Rattle.table_names.specs.Names.{named};
+ghost use Rattle.check_laws.specs.Check.{stands};
+
+// The lock has a client.
+fn client_right(l: Lock) -> bool
+    ensures { λ x. ⌜ x ≡ client-right (l .client) ⌝ }
+{
+    (1 <= l.client) & (l.client <= LAST_CLIENT)
+}
+
+// The completion of lock k, which is l and granted: none, and then its link on the notice chain is zero; or that it was
+// granted, or that its conversion was denied.
+fn notice_right(words: &[u32], k: u32, l: Lock) -> bool
+    requires { ⌜ Sized (now words) ⌝ }
+    requires { ⌜ (1 ≤ k) × (k ≤ locks-in (now words)) ⌝ }
+    ensures { λ x. ⌜ x ≡ ((eqb (l .completion) 0 || eqb (l .completion) 1 || eqb (l .completion) 3) && (told l || eqb (word-in (now (words .entry)) (of-lock k 2)) 0)) ⌝ }
+{
+    if l.completion == COMPLETION_NONE {
+        return lock_word(words, k, LOCK_NEXT_NOTICE) == 0;
+    }
+    (l.completion == COMPLETION_GRANTED) | (l.completion == COMPLETION_CONVERSION_DENIED)
+}
+
+// A lock where its home chain has it: its state and its resource are that chain's, and all else is right with it. Off the
+// blocked and the notice chain its links there are zero. A free lock: all but its home link is zero.
+pub fn stands_free(words: &[u32], k: u32) -> bool
+    requires { ⌜ Sized (now words) ⌝ }
+    requires { ⌜ (1 ≤ k) × (k ≤ locks-in (now words)) ⌝ }
+    ensures { λ x. ⌜ x ≡ stands (now (words .entry)) 0 0 k ⌝ }
+{
+    let l = lock_at(words, k);
+    (l.state == STATE_FREE)
+        & (l.resource == 0)
+        & (l.client == 0)
+        & (l.held == 0)
+        & (l.asked == 0)
+        & (l.completion == COMPLETION_NONE)
+        & (lock_word(words, k, LOCK_NEXT_BLOCKED) == 0)
+        & (lock_word(words, k, LOCK_NEXT_NOTICE) == 0)
+}
+
+// A denied lock: it has a client, and a completion that is unread.
+pub fn stands_denied(words: &[u32], k: u32) -> bool
+    requires { ⌜ Sized (now words) ⌝ }
+    requires { ⌜ (1 ≤ k) × (k ≤ locks-in (now words)) ⌝ }
+    ensures { λ x. ⌜ x ≡ stands (now (words .entry)) 4 0 k ⌝ }
+{
+    let l = lock_at(words, k);
+    (l.state == STATE_DENIED)
+        & (l.resource == 0)
+        & client_right(l)
+        & (l.held == 0)
+        & (l.asked == 0)
+        & (l.completion == COMPLETION_DENIED)
+        & (lock_word(words, k, LOCK_NEXT_BLOCKED) == 0)
+}
+
+// A lock granted on resource r, which is in use: it asks for nothing, and its completion may be unread.
+pub fn stands_granted(words: &[u32], r: u32, k: u32) -> bool
+    requires { ⌜ Sized (now words) ⌝ }
+    requires { ⌜ (1 ≤ k) × (k ≤ locks-in (now words)) ⌝ }
+    requires { ⌜ (1 ≤ r) × (r ≤ resources-in (now words)) ⌝ }
+    requires { ⌜ named (now words) r ≡ true ⌝ }
+    ensures { λ x. ⌜ x ≡ stands (now (words .entry)) 1 r k ⌝ }
+{
+    let l = lock_at(words, k);
+    (l.state == STATE_GRANTED)
+        & (l.resource == r)
+        & client_right(l)
+        & (l.held <= LAST_MODE)
+        & (l.asked == 0)
+        & (lock_word(words, k, LOCK_NEXT_BLOCKED) == 0)
+        & notice_right(words, k, l)
+}
+
+// A lock converting on resource r, which is in use.
+pub fn stands_converting(words: &[u32], r: u32, k: u32) -> bool
+    requires { ⌜ Sized (now words) ⌝ }
+    requires { ⌜ (1 ≤ k) × (k ≤ locks-in (now words)) ⌝ }
+    requires { ⌜ (1 ≤ r) × (r ≤ resources-in (now words)) ⌝ }
+    requires { ⌜ named (now words) r ≡ true ⌝ }
+    ensures { λ x. ⌜ x ≡ stands (now (words .entry)) 2 r k ⌝ }
+{
+    let l = lock_at(words, k);
+    (l.state == STATE_CONVERTING)
+        & (l.resource == r)
+        & client_right(l)
+        & (l.held <= LAST_MODE)
+        & (l.asked <= LAST_MODE)
+        & (l.completion == COMPLETION_NONE)
+        & (lock_word(words, k, LOCK_NEXT_NOTICE) == 0)
+}
+
+// A lock waiting on resource r, which is in use: it holds nothing.
+pub fn stands_waiting(words: &[u32], r: u32, k: u32) -> bool
+    requires { ⌜ Sized (now words) ⌝ }
+    requires { ⌜ (1 ≤ k) × (k ≤ locks-in (now words)) ⌝ }
+    requires { ⌜ (1 ≤ r) × (r ≤ resources-in (now words)) ⌝ }
+    requires { ⌜ named (now words) r ≡ true ⌝ }
+    ensures { λ x. ⌜ x ≡ stands (now (words .entry)) 3 r k ⌝ }
+{
+    let l = lock_at(words, k);
+    (l.state == STATE_WAITING)
+        & (l.resource == r)
+        & client_right(l)
+        & (l.held == 0)
+        & (l.asked <= LAST_MODE)
+        & (l.completion == COMPLETION_NONE)
+        & (lock_word(words, k, LOCK_NEXT_NOTICE) == 0)
+}

@@ -1,0 +1,4 @@
+pub mod RunTests
+pub mod ComparedNames
+pub mod NameNumbers
+pub mod NewNames

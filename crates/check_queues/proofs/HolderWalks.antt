@@ -1,0 +1,186 @@
+-- Walks along holders: their modes, the steps so far and the set so far.
+use mathlib.Core.Path.{_≡_, refl, sym, _∙_}
+use mathlib.Core.Bool.{Bool, true, false, not, cond, _&&_, _||_}
+use mathlib.Core.List.{List}
+use Prim.Native.Nat.{ℕ, zero, suc, _+_, _-_, _≤_, _<_}
+use native.Mathlib.Nat.{sub-zero}
+use native.Mathlib.Omega.{arith}
+use lib.Dec.{eqb, leb}
+use lib.ListN.{length}
+use borrow.Author.Tests.{not-true, not-false, le-leb, lt-leb, leb-true, eqb-true}
+use Rattle.modes.specs.Sets.{fits-set, with-mode}
+use Rattle.tables.specs.declared.Lock.{Lock}
+use Rattle.tables.specs.Layout.{of-resource, of-lock, locks-in, word-in, follow, read-lock}
+use Rattle.tables.specs.Sound.{modes-right, client-right}
+use Rattle.tables.proofs.Cases.{by-cases, and-left, and-right, parts}
+use Rattle.check_laws.specs.declared.Held.{Held}
+use Rattle.check_laws.specs.Check.{on-named, fields-fine, links-fine, lock-fine, stands, home-on, held-steps, tail-steps, grant-walk}
+use Rattle.check_queues.specs.QueueWalks.{mode-steps, modes-left, over, fits-beside, Walked}
+
+-- MODES. A lock's fields, whatever its state, have modes up to 5
+pub record Modes (l : Lock) : Type 0 where
+  pub held : l .held ≤ 5
+  pub asked : l .asked ≤ 5
+
+one-of-five : {A : Type 0} (a b c d e : Bool) → (a || b || c || d || e) ≡ true → (a ≡ true → A) → (b ≡ true → A) → (c ≡ true → A) → (d ≡ true → A) → (e ≡ true → A) → A
+one-of-five true b c d e i f g h j k = f refl
+one-of-five false true c d e i f g h j k = g refl
+one-of-five false false true d e i f g h j k = h refl
+one-of-five false false false true e i f g h j k = j refl
+one-of-five false false false false e i f g h j k = k i
+
+both-zero : (l : Lock) → eqb (l .held) 0 ≡ true → eqb (l .asked) 0 ≡ true → Modes l
+both-zero l h a = record { held = omega (arith, eqb-true (l .held) 0 h); asked = omega (arith, eqb-true (l .asked) 0 a) }
+
+both-right : (l : Lock) → modes-right l ≡ true → Modes l
+unfolding modes-right
+both-right l h =
+    record {
+      held = leb-true (l .held) 5 (and-left (leb (l .held) 5) (leb (l .asked) 5) h);
+      asked = leb-true (l .asked) 5 (and-right (leb (l .held) 5) (leb (l .asked) 5) h);
+    }
+
+fields-modes : (u : Bool) (l : Lock) → fields-fine u l ≡ true → Modes l
+unfolding fields-fine
+fields-modes u l i =
+    one-of-five
+    (eqb (l .state) 0 && eqb (l .resource) 0 && eqb (l .client) 0 && eqb (l .held) 0 && eqb (l .asked) 0 && eqb (l .completion) 0)
+    (eqb (l .state) 1 && u && client-right (l .client) && modes-right l && eqb (l .asked) 0 && (eqb (l .completion) 0 || eqb (l .completion) 1 || eqb (l .completion) 3))
+    (eqb (l .state) 2 && u && client-right (l .client) && modes-right l && eqb (l .completion) 0)
+    (eqb (l .state) 3 && u && client-right (l .client) && modes-right l && eqb (l .completion) 0 && eqb (l .held) 0)
+    (eqb (l .state) 4 && client-right (l .client) && eqb (l .resource) 0 && eqb (l .held) 0 && eqb (l .asked) 0 && eqb (l .completion) 2)
+    i
+    (λ i. both-zero l (search parts depth 20) (search parts depth 20))
+    (λ i. both-right l (search parts depth 20))
+    (λ i. both-right l (search parts depth 20))
+    (λ i. both-right l (search parts depth 20))
+    (λ i. both-zero l (search parts depth 20) (search parts depth 20))
+
+-- so has a lock that is fine, and one that stands on its chain
+pub fine-modes : (ws : List ℕ) (k : ℕ) → lock-fine ws k ≡ true → Modes (read-lock ws k)
+unfolding lock-fine
+fine-modes ws k h =
+    let u = on-named ws (read-lock ws k .resource) in
+    fields-modes u (read-lock ws k) (and-left (fields-fine u (read-lock ws k)) (links-fine ws k) h)
+
+pub stands-held : (ws : List ℕ) (s r k : ℕ) {a : Bool} {h : ℕ} → a ≡ stands ws s r k → not a ≡ false → h ≡ word-in ws (of-lock k 6) → h < 6
+unfolding stands read-lock
+stands-held ws s r k {a} t f e =
+    let z : stands ws s r k ≡ true = sym t ∙ not-false a f in
+    let m = fine-modes ws k (and-right (eqb (read-lock ws k .state) s && eqb (read-lock ws k .resource) r) (lock-fine ws k) z) .held in
+    rw e (omega arith)
+
+-- the held mode that is read
+pub held-read : (ws : List ℕ) (k : ℕ) {h : ℕ} → h ≡ word-in ws (of-lock k 6) → h ≡ read-lock ws k .held
+unfolding read-lock
+held-read ws k e = e
+
+-- STEPS along holders: the chain ends; it is too long; it leaves the table; it meets another lock; a mode that doesn't fit; it goes on
+pub walked-over : {n set : ℕ} {whole x : Held} → x ≡ over n set → over n set ≡ whole → set < 64 → Walked n whole x
+unfolding over
+walked-over e w h = record { same = e ∙ w; short = rw e (omega arith); small = rw e h }
+
+module _ (ws : List ℕ) (s r : ℕ) (fit : ℕ → ℕ → Bool) where
+  modes-zero : (n set : ℕ) → mode-steps ws s r fit n 0 set ≡ record { met = 0; modes = set }
+  unfolding mode-steps
+  modes-zero zero set = refl
+  modes-zero (suc n) set = refl
+
+  modes-none : (k set : ℕ) → (k ≡ 0 → ⊥) → mode-steps ws s r fit 0 k set ≡ record { met = 1; modes = set }
+  unfolding mode-steps
+  modes-none zero set e = absurd (e refl)
+  modes-none (suc k) set e = refl
+
+  next-step : ℕ → ℕ → ℕ → Held
+  next-step n k set =
+      let m = read-lock ws k .held in
+      let rest = mode-steps ws s r fit n (word-in ws (of-lock k 0)) (with-mode set m) in
+      cond (home-on ws s r k && fit set m) (record { met = suc (rest .met); modes = rest .modes }) (record { met = suc (suc n); modes = set })
+
+  modes-suc : (n k set : ℕ) → (k ≡ 0 → ⊥) → mode-steps ws s r fit (suc n) k set ≡ next-step n k set
+  unfolding mode-steps next-step
+  modes-suc n zero set e = absurd (e refl)
+  modes-suc n (suc k) set e = refl
+
+  modes-at : (n m k set : ℕ) → (k ≡ 0 → ⊥) → m < n → mode-steps ws s r fit (n - m) k set ≡ next-step (n - (m + 1)) k set
+  modes-at n m k set e h = let z : n - m ≡ suc (n - (m + 1)) = omega arith in rw (z, modes-suc (n - (m + 1)) k set e)
+
+  pub modes-end : (n : ℕ) {m k set : ℕ} {whole : Held} → whole ≡ modes-left ws s r fit n m k set → k ≡ 0 → m ≤ n → set < 64 → Walked n whole (record { met = m; modes = set })
+  unfolding modes-left
+  modes-end n {m} {k} {set} i e l h =
+      let z : m + 0 ≡ m = omega arith in
+      record { same = sym (i ∙ rw (e, modes-zero (n - m) set, z)); short = omega arith; small = h }
+
+  module _ {n m k set : ℕ} {whole : Held} (i : whole ≡ modes-left ws s r fit n m k set) (e : k ≡ 0 → ⊥) (c : set < 64) where
+    pub modes-long : {x : Held} → m ≤ n → n ≤ m → x ≡ over n set → Walked n whole x
+    unfolding modes-left over
+    modes-long l h o =
+        let z : n - m ≡ 0 = omega arith in
+        let w : m + 1 ≡ n + 1 = omega arith in
+        walked-over o (sym (i ∙ rw (z, modes-none k set e, w))) c
+
+    modes-fail : {x : Held} → m < n → (home-on ws s r k && fit set (read-lock ws k .held)) ≡ false → x ≡ over n set → Walked n whole x
+    unfolding modes-left next-step over
+    modes-fail h f o =
+        let w : m + suc (suc (n - (m + 1))) ≡ n + 1 = omega arith in
+        walked-over o (sym (i ∙ rw (modes-at n m k set e h, f, w))) c
+
+    pub modes-off : {x : Held} → m < n → locks-in ws < k → x ≡ over n set → Walked n whole x
+    unfolding home-on
+    modes-off h b = modes-fail h (rw (lt-leb k (locks-in ws) b))
+
+    module _ {a : Bool} (h : m < n) (b : k ≤ locks-in ws) (t : a ≡ stands ws s r k) where
+      pub modes-other : {x : Held} → not a ≡ true → x ≡ over n set → Walked n whole x
+      unfolding home-on
+      modes-other f = modes-fail h (rw (le-leb k (locks-in ws) b, ← t, not-true a f))
+
+      module _ {l : ℕ} {d : Bool} (f : not a ≡ false) (g : l ≡ word-in ws (of-lock k 6)) (u : d ≡ fit set l) where
+        pub modes-clash : {x : Held} → not d ≡ true → x ≡ over n set → Walked n whole x
+        unfolding home-on
+        modes-clash v = modes-fail h (rw (le-leb k (locks-in ws) b, ← t, not-false a f, ← held-read ws k g, ← u, not-true d v))
+
+        pub modes-on : {y j : ℕ} → not d ≡ false → y ≡ with-mode set l → j ≡ word-in ws (of-lock k 0) → whole ≡ modes-left ws s r fit n (m + 1) j y
+        unfolding modes-left next-step home-on
+        modes-on {y} {j} v z w =
+            let p : m + suc (mode-steps ws s r fit (n - (m + 1)) j y .met) ≡ m + 1 + mode-steps ws s r fit (n - (m + 1)) j y .met = omega arith in
+            i ∙ rw (modes-at n m k set e h, le-leb k (locks-in ws) b, ← t, not-false a f, ← held-read ws k g, ← u, not-false d v, ← z, ← w, p)
+
+  modes-start : (n k set : ℕ) → mode-steps ws s r fit n k set ≡ modes-left ws s r fit n 0 k set
+  unfolding modes-left
+  modes-start n k set = let z : 0 + mode-steps ws s r fit n k set .met ≡ mode-steps ws s r fit n k set .met = omega arith in rw (sub-zero n, z)
+
+  -- a walk on which nothing is wrong meets the locks of the chain
+  modes-length : (n k set : ℕ) → mode-steps ws s r fit n k set .met ≤ n → mode-steps ws s r fit n k set .met ≡ length (follow (λ k. word-in ws (of-lock k 0)) n k)
+  unfolding mode-steps follow
+  modes-length zero zero set h = refl
+  modes-length zero (suc k) set h = absurd (omega arith)
+  modes-length (suc n) zero set h = refl
+  modes-length (suc n) (suc k) set h =
+      by-cases (home-on ws s r (suc k) && fit set (read-lock ws (suc k) .held))
+      (λ p. rw p (omega (arith, modes-length n (word-in ws (of-lock (suc k) 0)) (with-mode set (read-lock ws (suc k) .held)) (omega (arith, rw p at h)))))
+      (λ p. absurd (omega (arith, rw p at h)))
+
+-- the walks along the grant chain and behind the convert head are two such
+held-alike : (ws : List ℕ) (s r n k set : ℕ) → held-steps ws s r n k set ≡ mode-steps ws s r fits-set n k set
+unfolding held-steps mode-steps
+held-alike ws s r zero zero set = refl
+held-alike ws s r zero (suc k) set = refl
+held-alike ws s r (suc n) zero set = refl
+held-alike ws s r (suc n) (suc k) set = rw (held-alike ws s r n (word-in ws (of-lock (suc k) 0)) (with-mode set (read-lock ws (suc k) .held)))
+
+tail-alike : (ws : List ℕ) (r h n k set : ℕ) → tail-steps ws r h n k set ≡ mode-steps ws 2 r (fits-beside h) n k set
+unfolding tail-steps mode-steps fits-beside
+tail-alike ws r h zero zero set = refl
+tail-alike ws r h zero (suc k) set = refl
+tail-alike ws r h (suc n) zero set = refl
+tail-alike ws r h (suc n) (suc k) set = rw (tail-alike ws r h n (word-in ws (of-lock (suc k) 0)) (with-mode set (read-lock ws (suc k) .held)))
+
+pub grant-start : (ws : List ℕ) (r : ℕ) {k : ℕ} → k ≡ word-in ws (of-resource r 1) → grant-walk ws r ≡ modes-left ws 1 r fits-set (locks-in ws) 0 k 0
+unfolding grant-walk
+grant-start ws r e = rw (e, held-alike ws 1 r (locks-in ws) (word-in ws (of-resource r 1)) 0) (modes-start ws 1 r fits-set (locks-in ws) (word-in ws (of-resource r 1)) 0)
+
+pub tail-start : (ws : List ℕ) (r h n k set : ℕ) → tail-steps ws r h n k set ≡ modes-left ws 2 r (fits-beside h) n 0 k set
+tail-start ws r h n k set = tail-alike ws r h n k set ∙ modes-start ws 2 r (fits-beside h) n k set
+
+pub tail-length : (ws : List ℕ) (r h n k set : ℕ) → tail-steps ws r h n k set .met ≤ n → tail-steps ws r h n k set .met ≡ length (follow (λ k. word-in ws (of-lock k 0)) n k)
+tail-length ws r h n k set = rw (tail-alike ws r h n k set) (modes-length ws 2 r (fits-beside h) n k set)

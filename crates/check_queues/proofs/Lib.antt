@@ -1,0 +1,3 @@
+pub mod HolderWalks
+pub mod GrantChain
+pub mod ResourceQueues

@@ -1,0 +1,189 @@
+-- One resource's three chains.
+use mathlib.Core.Path.{_≡_, refl, ap}
+use mathlib.Core.Bool.{Bool, true, false, not, cond, _&&_}
+use mathlib.Core.List.{List}
+use Prim.Native.Nat.{ℕ, zero, suc, _+_, _-_, _≤_, _<_}
+use native.Mathlib.Numerals.{add-one}
+use native.Mathlib.Omega.{arith}
+use lib.Dec.{eqb}
+use lib.ListN.{length}
+use borrow.Author.Tests.{not-true, not-false, le-leb, lt-leb, eq-eqb, ne-eqb}
+use Rattle.modes.specs.Sets.{fits-set}
+use Rattle.tables.specs.Layout.{of-resource, of-lock, locks-in, word-in, follow, read-lock}
+use Rattle.tables.proofs.Cases.{by-cases, by-equal}
+use Rattle.check_laws.specs.declared.Held.{Held}
+use Rattle.check_laws.specs.Check.{steps, stands, home-on, home-steps, tail-steps, convert-from, convert-walk, heads-wait, wait-part, convert-part, grant-walk, resource-walk, queue-from, blocked-at}
+use Rattle.check_laws.proofs.ChainSteps.{steps-passed, follow-zero, follow-step}
+use Rattle.check_laws.proofs.Heads.{home-low, home-fine}
+use Rattle.check_queues.specs.QueueWalks.{Granted, Census, over, queues-over, Walked, Granting, first-on, Heads, Counted}
+use Rattle.check_queues.proofs.HolderWalks.{walked-over, fine-modes, held-read, tail-length}
+
+-- CONVERTS. The head leaves the table; is another lock; its mode doesn't fit; the rest is walked
+module _ (ws : List ℕ) (r c set : ℕ) (s : set < 64) where
+  convert-fail : {x : Held} → (home-on ws 2 r c && fits-set set (read-lock ws c .held)) ≡ false → x ≡ over (locks-in ws) set → Walked (locks-in ws) (convert-from ws r c set) x
+  unfolding convert-from over
+  convert-fail f o = walked-over o (rw (f, add-one (locks-in ws))) s
+
+  pub convert-off : {x : Held} → locks-in ws < c → x ≡ over (locks-in ws) set → Walked (locks-in ws) (convert-from ws r c set) x
+  unfolding home-on
+  convert-off h = convert-fail (rw (lt-leb c (locks-in ws) h))
+
+  module _ {a : Bool} (h : c ≤ locks-in ws) (t : a ≡ stands ws 2 r c) where
+    pub convert-other : {x : Held} → not a ≡ true → x ≡ over (locks-in ws) set → Walked (locks-in ws) (convert-from ws r c set) x
+    unfolding home-on
+    convert-other f = convert-fail (rw (le-leb c (locks-in ws) h, ← t, not-true a f))
+
+    module _ {l : ℕ} {b : Bool} (f : not a ≡ false) (e : l ≡ word-in ws (of-lock c 6)) (u : b ≡ fits-set set l) where
+      pub convert-clash : {x : Held} → not b ≡ true → x ≡ over (locks-in ws) set → Walked (locks-in ws) (convert-from ws r c set) x
+      unfolding home-on
+      convert-clash v = convert-fail (rw (le-leb c (locks-in ws) h, ← t, not-false a f, ← held-read ws c e, ← u, not-true b v))
+
+      pub convert-on : {k : ℕ} {rest : Held} → not b ≡ false → k ≡ word-in ws (of-lock c 0) → 1 ≤ locks-in ws → Walked (locks-in ws - 1) (tail-steps ws r l (locks-in ws - 1) k set) rest → Walked (locks-in ws) (convert-from ws r c set) (record { met = rest .met + 1; modes = rest .modes })
+      unfolding convert-from home-on
+      convert-on {k} {rest} v g o w =
+          let same = w .same in
+          record {
+            same = rw (le-leb c (locks-in ws) h, ← t, not-false a f, ← held-read ws c e, ← u, not-false b v, ← g, ← same, add-one (rest .met));
+            short = let z = w .short in omega arith;
+            small = w .small;
+          }
+
+module _ (ws : List ℕ) (r set : ℕ) {c : ℕ} (e : c ≡ word-in ws (of-resource r 2)) where
+  pub convert-none : set < 64 → c ≡ 0 → Walked (locks-in ws) (convert-walk ws r set) (record { met = 0; modes = set })
+  unfolding convert-walk
+  convert-none s z = record { same = rw (← e, eq-eqb c 0 z); short = omega arith; small = s }
+
+  pub convert-some : {x : Held} → (c ≡ 0 → ⊥) → Walked (locks-in ws) (convert-from ws r c set) x → Walked (locks-in ws) (convert-walk ws r set) x
+  unfolding convert-walk
+  convert-some z w = record { same = rw (← e, ne-eqb c 0 z) (w .same); short = w .short; small = w .small }
+
+-- where nothing is wrong with it, the head of a chain stands there, and the walk met the locks of the chain
+module _ (ws : List ℕ) (r set : ℕ) where
+  convert-first : convert-walk ws r set .met ≤ locks-in ws → first-on ws 2 r (word-in ws (of-resource r 2)) ≡ true
+  unfolding convert-walk convert-from first-on
+  convert-first h =
+      let c = word-in ws (of-resource r 2) in
+      by-equal c 0
+      (λ z. rw (eq-eqb c 0 z))
+      (λ z.
+      by-cases (home-on ws 2 r c)
+      (λ t. rw (ne-eqb c 0 z, t))
+      (λ t. let w : suc (locks-in ws) ≤ locks-in ws = rw (ne-eqb c 0 z, t) at h in absurd (omega arith)))
+
+  convert-length : 1 ≤ locks-in ws → convert-walk ws r set .met ≤ locks-in ws → convert-walk ws r set .met ≡ length (queue-from ws 2 r)
+  unfolding convert-walk convert-from queue-from
+  convert-length some h = go (word-in ws (of-resource r 2)) h
+    where
+      go : (c : ℕ) → cond (eqb c 0) (record { met = 0; modes = set }) (convert-from ws r c set) .met ≤ locks-in ws →
+          cond (eqb c 0) (record { met = 0; modes = set }) (convert-from ws r c set) .met ≡ length (follow (λ k. word-in ws (of-lock k 0)) (locks-in ws) c)
+      go zero h = rw (follow-zero (λ k. word-in ws (of-lock k 0)) (locks-in ws))
+      go (suc k) h =
+          let m = read-lock ws (suc k) .held in
+          by-cases (home-on ws 2 r (suc k) && fits-set set m)
+          (λ p.
+          rw (ne-eqb (suc k) 0 (omega arith), p, follow-step (λ k. word-in ws (of-lock k 0)) (locks-in ws) k some)
+          (ap suc (tail-length ws r m (locks-in ws - 1) (word-in ws (of-lock (suc k) 0)) set (omega (arith, rw (ne-eqb (suc k) 0 (omega arith), p) at h)))))
+          (λ p. absurd (omega (arith, rw (ne-eqb (suc k) 0 (omega arith), p) at h)))
+
+home-first : (ws : List ℕ) (s r n k : ℕ) → steps (λ k. word-in ws (of-lock k 0)) (home-on ws s r) n k ≤ n → first-on ws s r k ≡ true
+unfolding steps first-on
+home-first ws s r n zero h = refl
+home-first ws s r zero (suc k) h = absurd (omega arith)
+home-first ws s r (suc n) (suc k) h =
+    by-cases (home-on ws s r (suc k))
+    (λ t. rw (ne-eqb (suc k) 0 (omega arith), t))
+    (λ t. let w : suc (suc n) ≤ suc n = rw t at h in absurd (omega arith))
+
+wait-length : (ws : List ℕ) (r : ℕ) → home-steps ws 3 r (word-in ws (of-resource r 3)) ≤ locks-in ws → home-steps ws 3 r (word-in ws (of-resource r 3)) ≡ length (queue-from ws 3 r)
+unfolding home-steps queue-from
+wait-length ws r h = steps-passed (λ k. word-in ws (of-lock k 0)) (λ k. word-in ws (of-lock k 0)) (λ k. refl) (home-on ws 3 r) (locks-in ws) (word-in ws (of-resource r 3)) h .1
+
+pub heads : (ws : List ℕ) (r set : ℕ) {c : Held} {w : ℕ} → Walked (locks-in ws) (convert-walk ws r set) c → c .met ≤ locks-in ws → w ≡ home-steps ws 3 r (word-in ws (of-resource r 3)) → w ≤ locks-in ws → Heads ws r
+unfolding home-steps
+heads ws r set {c} {w} v h g l =
+    let e = v .same in
+    record {
+      convert = convert-first ws r set (rw (← e) h);
+      wait = home-first ws 3 r (locks-in ws) (word-in ws (of-resource r 3)) (rw (← g) l);
+    }
+
+-- HEADS that wait: each is a lock that asks for a mode
+module _ (ws : List ℕ) (s r k : ℕ) (h : first-on ws s r k ≡ true) (z : k ≡ 0 → ⊥) where
+  first-stands : home-on ws s r k ≡ true
+  unfolding first-on
+  first-stands = rw (ne-eqb k 0 z) at h
+
+  first-asks : {a : ℕ} → a ≡ word-in ws (of-lock k 7) → a < 6
+  unfolding read-lock
+  first-asks e = let m = fine-modes ws k (home-fine ws s r k first-stands) .asked in rw e (omega arith)
+
+module _ (ws : List ℕ) (r : ℕ) {k : ℕ} (h : Heads ws r) (z : k ≡ 0 → ⊥) where
+  pub convert-low : k ≡ word-in ws (of-resource r 2) → k ≤ locks-in ws
+  convert-low e = home-low ws 2 r k (first-stands ws 2 r k (rw e (h .convert)) z)
+
+  pub convert-asks : {a : ℕ} → k ≡ word-in ws (of-resource r 2) → a ≡ word-in ws (of-lock k 7) → a < 6
+  convert-asks e = first-asks ws 2 r k (rw e (h .convert)) z
+
+  pub wait-low : k ≡ word-in ws (of-resource r 3) → k ≤ locks-in ws
+  wait-low e = home-low ws 3 r k (first-stands ws 3 r k (rw e (h .wait)) z)
+
+  pub wait-asks : {a : ℕ} → k ≡ word-in ws (of-resource r 3) → a ≡ word-in ws (of-lock k 7) → a < 6
+  wait-asks e = first-asks ws 3 r k (rw e (h .wait)) z
+
+module _ (ws : List ℕ) (r granted others : ℕ) {c : ℕ} (e : c ≡ word-in ws (of-resource r 2)) where
+  pub wait-convert : {a : ℕ} {f : Bool} → (c ≡ 0 → ⊥) → a ≡ word-in ws (of-lock c 7) → f ≡ fits-set others a → not f ≡ heads-wait ws r granted others
+  unfolding heads-wait read-lock
+  wait-convert z p q = rw (← e, ne-eqb c 0 z, ← p, ← q)
+
+  module _ {w : ℕ} (z : c ≡ 0) (g : w ≡ word-in ws (of-resource r 3)) where
+    pub wait-none : w ≡ 0 → true ≡ heads-wait ws r granted others
+    unfolding heads-wait
+    wait-none y = rw (← e, eq-eqb c 0 z, ← g, eq-eqb w 0 y)
+
+    pub wait-some : {a : ℕ} {f : Bool} → (w ≡ 0 → ⊥) → a ≡ word-in ws (of-lock w 7) → f ≡ fits-set granted a → not f ≡ heads-wait ws r granted others
+    unfolding heads-wait read-lock
+    wait-some y p q = rw (← e, eq-eqb c 0 z, ← g, ne-eqb w 0 y, ← p, ← q)
+
+-- ONE RESOURCE: a walk says that something is wrong, or all three are done
+counted-over : (ws : List ℕ) (r : ℕ) {x : Census} → x ≡ queues-over (locks-in ws) → locks-in ws + 1 ≡ resource-walk ws r → Counted ws r x
+unfolding queues-over
+counted-over ws r e w =
+    rw e (record { met = w; short = omega arith; blocked = λ h. absurd (omega arith); noticed = λ h. absurd (omega arith); few = (omega arith, omega arith) })
+
+module _ (ws : List ℕ) (r : ℕ) {g : Granted} (p : Granting ws r g) where
+  eg : record { met = g .met; modes = g .modes } ≡ grant-walk ws r
+  eg = p .walked .same
+
+  pub over-grant : {x : Census} → locks-in ws < g .met → x ≡ queues-over (locks-in ws) → Counted ws r x
+  unfolding resource-walk
+  over-grant h o = counted-over ws r o (rw (← eg, lt-leb (g .met) (locks-in ws) h, add-one (locks-in ws)))
+
+  module _ {c : Held} (lg : g .met ≤ locks-in ws) (q : Walked (locks-in ws) (convert-walk ws r (g .modes)) c) where
+    ec : c ≡ convert-walk ws r (g .modes)
+    ec = q .same
+
+    pub over-convert : {x : Census} → locks-in ws < c .met → x ≡ queues-over (locks-in ws) → Counted ws r x
+    unfolding resource-walk convert-part
+    over-convert h o = counted-over ws r o (rw (← eg, le-leb (g .met) (locks-in ws) lg, ← ec, lt-leb (c .met) (locks-in ws) h, add-one (locks-in ws)))
+
+    module _ {w : ℕ} (lc : c .met ≤ locks-in ws) (ew : w ≡ home-steps ws 3 r (word-in ws (of-resource r 3))) where
+      pub over-wait : {x : Census} → locks-in ws < w → x ≡ queues-over (locks-in ws) → Counted ws r x
+      unfolding resource-walk convert-part wait-part
+      over-wait h o = counted-over ws r o (rw (← eg, le-leb (g .met) (locks-in ws) lg, ← ec, le-leb (c .met) (locks-in ws) lc, ← ew, lt-leb w (locks-in ws) h, add-one (locks-in ws)))
+
+      module _ {b : Bool} (lw : w ≤ locks-in ws) (eb : b ≡ heads-wait ws r (g .modes) (c .modes)) where
+        pub head-fits : {x : Census} → not b ≡ true → x ≡ queues-over (locks-in ws) → Counted ws r x
+        unfolding resource-walk convert-part wait-part
+        head-fits f o = counted-over ws r o (rw (← eg, le-leb (g .met) (locks-in ws) lg, ← ec, le-leb (c .met) (locks-in ws) lc, ← ew, le-leb w (locks-in ws) lw, ← eb, not-true b f, add-one (locks-in ws)))
+
+        all-met : not b ≡ false → g .met + c .met + w ≡ resource-walk ws r
+        unfolding resource-walk convert-part wait-part
+        all-met f = rw (← eg, le-leb (g .met) (locks-in ws) lg, ← ec, le-leb (c .met) (locks-in ws) lc, ← ew, le-leb w (locks-in ws) lw, ← eb, not-false b f)
+
+        pub all-three : 1 ≤ locks-in ws → not b ≡ false → Counted ws r (record { met = g .met + c .met + w; blocked = c .met + w; noticed = g .noticed })
+        unfolding blocked-at
+        all-three some f =
+            let few = p .few in
+            let converts : c .met ≡ length (queue-from ws 2 r) = rw ec (convert-length ws r (g .modes) some (rw (← ec) lc)) in
+            let waits : w ≡ length (queue-from ws 3 r) = rw ew (wait-length ws r (rw (← ew) lw)) in
+            record { met = all-met f; short = omega arith; blocked = λ h. omega arith; noticed = λ h. p .noticed lg; few = (omega arith, omega arith) }

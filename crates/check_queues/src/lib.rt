@@ -1,0 +1,267 @@
+// One resource's queues: each lock on them is fine, the held modes go together, and no head can be granted.
+use check_chains::waiting_met;
+use check_laws::Held;
+use check_locks::stands_converting;
+use check_locks::stands_granted;
+use check_resources::bit;
+use table_fields::COMPLETION_NONE;
+use table_fields::LOCK_ASKED;
+use table_fields::LOCK_COMPLETION;
+use table_fields::LOCK_HELD;
+use table_fields::LOCK_NEXT;
+use table_fields::LOCKS;
+use table_fields::RESOURCE_CONVERT;
+use table_fields::RESOURCE_GRANT;
+use table_fields::RESOURCE_WAIT;
+use table_fields::lock_word;
+use table_fields::resource_word;
+ghost use mathlib.Core.Path.{_≡_};
+ghost use mathlib.Core.Bool.{true};
+ghost use Prim.Native.Nat.{_-_, _<_, _≤_};
+ghost use Rattle.tables.specs.Lists.{bit};
+ghost use Rattle.tables.specs.State.{told};
+ghost use Rattle.tables.specs.Layout.{«resources-in», «locks-in», «read-lock»};
+ghost use Rattle.table_fields.specs.Sizes.{Sized};
+ghost use Rattle.table_names.specs.Names.{named};
+ghost use Rattle.check_laws.specs.Check.{«tail-steps», «convert-from», «convert-walk», «heads-wait»};
+ghost use Rattle.check_resources.specs.Passes.{Fine};
+ghost use Rattle.check_queues.specs.QueueWalks.{over, «grants-over», «queues-over», «fits-beside», Walked, Granting, Heads, Counted};
+
+// What the walk along the grant chain finds: how many locks, or one more than there are; the set of their modes; how
+// many have an unread completion.
+pub struct Granted {
+    pub met: u32,
+    pub modes: u32,
+    pub noticed: u32,
+}
+
+// What the walks along a resource's queues find: how many locks, or more than there are if something is wrong; how many
+// of them belong on the blocked chain, and how many on the notice chain.
+pub struct Census {
+    pub met: u32,
+    pub blocked: u32,
+    pub noticed: u32,
+}
+
+// What a walk says of a chain on which something is wrong: one more than the n that there may be.
+fn over(n: u32, set: u32) -> Held
+    requires { ⌜ n ≤ 1024 ⌝ }
+    ensures { λ x. ⌜ x ≡ over n set ⌝ }
+{
+    Held {
+        met: n + 1,
+        modes: set,
+    }
+}
+
+fn grants_over(n: u32, set: u32) -> Granted
+    requires { ⌜ n ≤ 1024 ⌝ }
+    ensures { λ x. ⌜ x ≡ grants-over n set ⌝ }
+{
+    Granted {
+        met: n + 1,
+        modes: set,
+        noticed: 0,
+    }
+}
+
+fn queues_over(n: u32) -> Census
+    requires { ⌜ n ≤ 1024 ⌝ }
+    ensures { λ x. ⌜ x ≡ queues-over n ⌝ }
+{
+    Census {
+        met: n + 1,
+        blocked: 0,
+        noticed: 0,
+    }
+}
+
+// 1 if lock k has an unread completion.
+fn unread(words: &[u32], k: u32) -> u32
+    requires { ⌜ Sized (now words) ⌝ }
+    requires { ⌜ (1 ≤ k) × (k ≤ locks-in (now words)) ⌝ }
+    ensures { λ x. ⌜ (x ≡ bit (told (read-lock (now (words .entry)) k))) × (x ≤ 1) ⌝ }
+{
+    bit(lock_word(words, k, LOCK_COMPLETION) != COMPLETION_NONE)
+}
+
+// The holders on a resource's grant chain: each mode is to fit those before it.
+fn grant_walk(words: &[u32], r: u32) -> Granted
+    requires { ⌜ Fine (now words) ⌝ }
+    requires { ⌜ (1 ≤ r) × (r ≤ resources-in (now words)) ⌝ }
+    requires { ⌜ named (now words) r ≡ true ⌝ }
+    ensures { λ x. ⌜ Granting (now (words .entry)) r x ⌝ }
+{
+    let n = words[LOCKS];
+    let mut k = resource_word(words, r, RESOURCE_GRANT);
+    let mut met = 0;
+    let mut set = 0;
+    let mut noticed = 0;
+    while k != 0 {
+        if n <= met {
+            return grants_over(n, set);
+        }
+        if n < k {
+            return grants_over(n, set);
+        }
+        if !stands_granted(words, r, k) {
+            return grants_over(n, set);
+        }
+        let held = lock_word(words, k, LOCK_HELD);
+        if !modes::fits(set, held) {
+            return grants_over(n, set);
+        }
+        set = modes::with_mode(set, held);
+        noticed += unread(words, k);
+        k = lock_word(words, k, LOCK_NEXT);
+        met += 1;
+    }
+    Granted {
+        met: met,
+        modes: set,
+        noticed: noticed,
+    }
+}
+
+// The mode fits the set and the convert head's mode.
+fn fits_beside(head: u32, set: u32, mode: u32) -> bool
+    requires { ⌜ head < 6 ⌝ }
+    requires { ⌜ set < 64 ⌝ }
+    requires { ⌜ mode < 6 ⌝ }
+    ensures { λ x. ⌜ x ≡ fits-beside head set mode ⌝ }
+{
+    modes::fits(modes::with_mode(set, head), mode)
+}
+
+// The locks behind the convert head: each mode is to fit those before it, the granted ones and the head's. The set
+// leaves the head's out.
+fn tail_walk(words: &[u32], r: u32, head: u32, first: u32, granted: u32) -> Held
+    requires { ⌜ Fine (now words) ⌝ }
+    requires { ⌜ (1 ≤ r) × (r ≤ resources-in (now words)) ⌝ }
+    requires { ⌜ named (now words) r ≡ true ⌝ }
+    requires { ⌜ head < 6 ⌝ }
+    requires { ⌜ granted < 64 ⌝ }
+    ensures { λ x. ⌜ Walked (locks-in (now (words .entry)) - 1) (tail-steps (now (words .entry)) r head (locks-in (now (words .entry)) - 1) first granted) x ⌝ }
+{
+    let last = words[LOCKS];
+    let n = last - 1;
+    let mut k = first;
+    let mut met = 0;
+    let mut set = granted;
+    while k != 0 {
+        if n <= met {
+            return over(n, set);
+        }
+        if last < k {
+            return over(n, set);
+        }
+        if !stands_converting(words, r, k) {
+            return over(n, set);
+        }
+        let held = lock_word(words, k, LOCK_HELD);
+        if !fits_beside(head, set, held) {
+            return over(n, set);
+        }
+        set = modes::with_mode(set, held);
+        k = lock_word(words, k, LOCK_NEXT);
+        met += 1;
+    }
+    Held {
+        met: met,
+        modes: set,
+    }
+}
+
+// The convert chain from its head c on: c's held mode is to fit the granted ones.
+fn convert_from(words: &[u32], r: u32, c: u32, granted: u32) -> Held
+    requires { ⌜ Fine (now words) ⌝ }
+    requires { ⌜ (1 ≤ r) × (r ≤ resources-in (now words)) ⌝ }
+    requires { ⌜ named (now words) r ≡ true ⌝ }
+    requires { ⌜ 1 ≤ c ⌝ }
+    requires { ⌜ granted < 64 ⌝ }
+    ensures { λ x. ⌜ Walked (locks-in (now (words .entry))) (convert-from (now (words .entry)) r c granted) x ⌝ }
+{
+    let n = words[LOCKS];
+    if n < c {
+        return over(n, granted);
+    }
+    if !stands_converting(words, r, c) {
+        return over(n, granted);
+    }
+    let held = lock_word(words, c, LOCK_HELD);
+    if !modes::fits(granted, held) {
+        return over(n, granted);
+    }
+    let first = lock_word(words, c, LOCK_NEXT);
+    let rest = tail_walk(words, r, held, first, granted);
+    Held {
+        met: rest.met + 1,
+        modes: rest.modes,
+    }
+}
+
+fn convert_walk(words: &[u32], r: u32, granted: u32) -> Held
+    requires { ⌜ Fine (now words) ⌝ }
+    requires { ⌜ (1 ≤ r) × (r ≤ resources-in (now words)) ⌝ }
+    requires { ⌜ named (now words) r ≡ true ⌝ }
+    requires { ⌜ granted < 64 ⌝ }
+    ensures { λ x. ⌜ Walked (locks-in (now (words .entry))) (convert-walk (now (words .entry)) r granted) x ⌝ }
+{
+    let c = resource_word(words, r, RESOURCE_CONVERT);
+    if c == 0 {
+        return Held {
+            met: 0,
+            modes: granted,
+        };
+    }
+    convert_from(words, r, c, granted)
+}
+
+// The convert head is kept out by the others' modes; where there is none, the wait head by the granted ones.
+fn heads_wait(words: &[u32], r: u32, granted: u32, others: u32) -> bool
+    requires { ⌜ Fine (now words) ⌝ }
+    requires { ⌜ (1 ≤ r) × (r ≤ resources-in (now words)) ⌝ }
+    requires { ⌜ Heads (now words) r ⌝ }
+    requires { ⌜ (granted < 64) × (others < 64) ⌝ }
+    ensures { λ x. ⌜ x ≡ heads-wait (now (words .entry)) r granted others ⌝ }
+{
+    let c = resource_word(words, r, RESOURCE_CONVERT);
+    if c != 0 {
+        return !modes::fits(others, lock_word(words, c, LOCK_ASKED));
+    }
+    let w = resource_word(words, r, RESOURCE_WAIT);
+    if w == 0 {
+        return true;
+    }
+    !modes::fits(granted, lock_word(words, w, LOCK_ASKED))
+}
+
+// The locks on the three queues of a resource in use.
+pub fn resource_walk(words: &[u32], r: u32) -> Census
+    requires { ⌜ Fine (now words) ⌝ }
+    requires { ⌜ (1 ≤ r) × (r ≤ resources-in (now words)) ⌝ }
+    requires { ⌜ named (now words) r ≡ true ⌝ }
+    ensures { λ x. ⌜ Counted (now (words .entry)) r x ⌝ }
+{
+    let n = words[LOCKS];
+    let g = grant_walk(words, r);
+    if n < g.met {
+        return queues_over(n);
+    }
+    let c = convert_walk(words, r, g.modes);
+    if n < c.met {
+        return queues_over(n);
+    }
+    let w = waiting_met(words, r);
+    if n < w {
+        return queues_over(n);
+    }
+    if !heads_wait(words, r, g.modes, c.modes) {
+        return queues_over(n);
+    }
+    Census {
+        met: g.met + c.met + w,
+        blocked: c.met + w,
+        noticed: g.noticed,
+    }
+}

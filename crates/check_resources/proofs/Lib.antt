@@ -1,0 +1,4 @@
+pub mod NumberRuns
+pub mod RecordTests
+pub mod RecordPass
+pub mod PassedRecords

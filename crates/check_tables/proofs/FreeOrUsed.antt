@@ -1,0 +1,84 @@
+-- A resource that passed is free, and has no queues, or it is in use.
+use mathlib.Core.Path.{_≡_, refl, sym}
+use mathlib.Core.Bool.{Bool, true, false, not, _&&_}
+use mathlib.Core.List.{List, []}
+use Prim.Native.Nat.{ℕ, zero, suc}
+use native.Mathlib.Omega.{arith}
+use lib.Dec.{eqb}
+use borrow.Author.Tests.{eqb-true, eq-eqb, ne-eqb, le-leb}
+use Rattle.tables.specs.Lists.{keep}
+use Rattle.tables.specs.Layout.{of-resource, of-lock, locks-in, word-in}
+use Rattle.tables.proofs.Cases.{and-left, and-right, parts}
+use Rattle.table_names.specs.Names.{named, slot-fine}
+use Rattle.check_laws.specs.declared.Row.{Row}
+use Rattle.check_laws.specs.Check.{row-in, free-row, row-fine, resource-fine, steps, home-on, home-steps, held-steps, grant-walk, convert-walk, heads-wait, wait-part, convert-part, resource-walk, queue-from, blocked-at, noticed-at}
+use Rattle.check_laws.proofs.ChainSteps.{follow-zero}
+use Rattle.check_chains.proofs.ChainWalk.{steps-zero}
+use Rattle.check_queues.specs.QueueWalks.{Counted}
+
+no-holders : (ws : List ℕ) (s r n set : ℕ) → held-steps ws s r n 0 set ≡ record { met = 0; modes = set }
+unfolding held-steps
+no-holders ws s r zero set = refl
+no-holders ws s r (suc n) set = refl
+
+-- by its words a resource has a name or not
+module _ (ws : List ℕ) (r : ℕ) {x : Row} (e : x ≡ row-in ws r) where
+  bytes : x .bytes ≡ word-in ws (of-resource r 4)
+  unfolding row-in
+  bytes = rw e
+
+  pub in-use : (x .bytes ≡ 0 → ⊥) → named ws r ≡ true
+  unfolding named
+  in-use n = rw (← bytes, ne-eqb (x .bytes) 0 n)
+
+  pub nameless : x .bytes ≡ 0 → named ws r ≡ false
+  unfolding named
+  nameless z = rw (← bytes, eq-eqb (x .bytes) 0 z)
+
+module _ (ws ss : List ℕ) (r : ℕ) (fine : resource-fine ws ss r ≡ true) (free : named ws r ≡ false) where
+  no-name : eqb (word-in ws (of-resource r 4)) 0 ≡ true
+  unfolding named
+  no-name = go (eqb (word-in ws (of-resource r 4)) 0) free
+    where
+      go : (b : Bool) → not b ≡ false → b ≡ true
+      go true h = refl
+      go false h = sym h
+
+  row : free-row (row-in ws r) ≡ true
+  unfolding resource-fine row-fine row-in
+  row =
+      let z = and-left (row-fine (row-in ws r)) (slot-fine ws ss r) fine in
+      let f = and-right (eqb (word-in ws (of-resource r 6)) 0 && eqb (word-in ws (of-resource r 7)) 0) _ z in
+      rw no-name at f
+
+  no-grant : word-in ws (of-resource r 1) ≡ 0
+  unfolding free-row row-in
+  no-grant = let z = row in eqb-true (word-in ws (of-resource r 1)) 0 (search parts depth 20)
+
+  no-convert : word-in ws (of-resource r 2) ≡ 0
+  unfolding free-row row-in
+  no-convert = let z = row in eqb-true (word-in ws (of-resource r 2)) 0 (search parts depth 20)
+
+  no-wait : word-in ws (of-resource r 3) ≡ 0
+  unfolding free-row row-in
+  no-wait = let z = row in eqb-true (word-in ws (of-resource r 3)) 0 (search parts depth 20)
+
+  no-walk : resource-walk ws r ≡ 0
+  unfolding resource-walk convert-part wait-part convert-walk heads-wait grant-walk home-steps
+  no-walk =
+      rw (no-grant, no-convert, no-wait, no-holders ws 1 r (locks-in ws) 0, steps-zero (λ k. word-in ws (of-lock k 0)) (home-on ws 3 r) (locks-in ws), le-leb 0 (locks-in ws) (omega arith))
+
+  no-queue : (f : ℕ) → word-in ws (of-resource r f) ≡ 0 → queue-from ws f r ≡ []
+  unfolding queue-from
+  no-queue f z = rw (z, follow-zero (λ k. word-in ws (of-lock k 0)) (locks-in ws))
+
+  pub no-queues : Counted ws r (record { met = 0; blocked = 0; noticed = 0 })
+  unfolding blocked-at noticed-at keep
+  no-queues =
+      record {
+        met = sym no-walk;
+        short = omega arith;
+        blocked = λ h. rw (no-queue 2 no-convert, no-queue 3 no-wait);
+        noticed = λ h. rw (no-queue 1 no-grant);
+        few = (omega arith, omega arith);
+      }

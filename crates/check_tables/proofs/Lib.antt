@@ -1,0 +1,3 @@
+pub mod FreeOrUsed
+pub mod ResourceSums
+pub mod CheckPasses

@@ -1,4 +1,0 @@
-pub mod Forming
-pub mod Ways
-pub mod Letters
-pub mod Examples

@@ -1,4 +1,0 @@
-pub mod Ranks
-pub mod Barring
-pub mod Marking
-pub mod Searches

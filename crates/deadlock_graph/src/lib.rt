@@ -1,0 +1,36 @@
+// Blocked locks in the lent words: who has a lock, and who is in whose way. The definitions and laws that `clearing` and
+// `deadlock` share are here, so that an edit of their code does not prove these again.
+use modes::goes_with;
+use table_fields::LOCK_ASKED;
+use table_fields::LOCK_CLIENT;
+use table_fields::LOCK_HELD;
+use table_fields::lock_word;
+use table_fields::wide;
+ghost use mathlib.Core.Path.{_≡_};
+ghost use Rattle.deadlock_graph.specs.Contracts.{seen, At};
+ghost use Rattle.deadlock_graph.specs.Owners.{«in-way», Owned};
+
+// A place for each lock number, up to 1,024.
+pub const LOCK_PLACES: usize = 1025;
+
+// A place for each owner: clients are 1 to 255.
+pub const OWNER_PLACES: usize = 256;
+
+// Who has lock k. A lock leads to those of the owners that are in its way.
+pub fn owner_of(words: &[u32], k: u32) -> usize
+    requires { ⌜ At (now words) k ⌝ }
+    ensures { λ r. ⌜ Owned (now (words .entry)) k r ⌝ }
+{
+    wide(lock_word(words, k, LOCK_CLIENT))
+}
+
+// Whether the mode that j holds is incompatible with the mode that a, another lock, asks for.
+pub fn in_way(words: &[u32], a: u32, j: u32) -> bool
+    requires { ⌜ At (now words) a ⌝ }
+    requires { ⌜ At (now words) j ⌝ }
+    ensures { λ r. ⌜ r ≡ in-way (seen (now (words .entry))) a j ⌝ }
+{
+    let held = lock_word(words, j, LOCK_HELD);
+    let asked = lock_word(words, a, LOCK_ASKED);
+    (j != a) & !goes_with(held, asked)
+}

@@ -1,0 +1,4 @@
+pub mod Ranks
+pub mod OwnersInTheWay
+pub mod SearchMarks
+pub mod Searches

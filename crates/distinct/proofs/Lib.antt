@@ -1,4 +1,0 @@
-pub mod Runs
-pub mod Comparing
-pub mod Numbering
-pub mod Telling

@@ -1,0 +1,3 @@
+pub mod ImageWords
+pub mod ExclusiveLock
+pub mod HolderReturns

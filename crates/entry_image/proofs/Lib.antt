@@ -1,0 +1,3 @@
+pub mod ImageMeasure
+pub mod ImageReturns
+pub mod RoundTrip

@@ -1,0 +1,31 @@
+-- i words are copied, and the others are as they were.
+use mathlib.Core.Path.{_≡_}
+use mathlib.Core.List.{_++_}
+use Prim.Native.Nat.{_≤_, _-_}
+use lib.ListN.{length, take, drop}
+use Rattle.table_names.proofs.Spans.{copy-loop}
+use Rattle.entry_image.proofs.copy_words.Statement.{statement}
+use Rattle.entry_image.proofs.copy_words.Tie as tie
+
+abbrev Inv-loop : tie.InvT-loop
+Inv-loop d₀ s i₀ d i = (length d ≡ length d₀) × ((i ≤ length s) × (d ≡ take i s ++ drop i d₀))
+
+abbrev μ-loop : tie.MeasureT-loop
+μ-loop d₀ s i₀ d i = length s - i
+
+pub copy-words-spec : {M : Type 1} → statement M
+copy-words-spec =
+    tie.close
+    (tie.spec
+    Inv-loop
+    μ-loop
+    (λ c. search copy-loop)
+    (λ c. search copy-loop)
+    (λ c. search copy-loop)
+    (λ c. search copy-loop)
+    (λ c. search copy-loop)
+    (λ c. search copy-loop)
+    (λ c. search copy-loop)
+    (λ c. search copy-loop)
+    (λ c. search copy-loop)
+    (λ c. search copy-loop))

@@ -1,0 +1,247 @@
+-- An entry on lent words and slots: it is refused, or it makes the change that its call's rule says.
+use mathlib.Core.Path.{_≡_, refl, sym, ap, ap₂, _∙_}
+use mathlib.Core.Bool.{Bool, true, false, not}
+use mathlib.Core.List.{List}
+use Prim.Native.Nat.{ℕ, zero, suc}
+use borrow.Author.Tests.{not-true, not-false}
+use borrow.Author.Needs.{needs}
+use Rattle.tables.specs.State.{Tables}
+use Rattle.tables.specs.Layout.{words, slots, read}
+use Rattle.tables.specs.Sound.{sound}
+use Rattle.tables.proofs.Valid.{Core, Valid}
+use Rattle.tables.proofs.Soundness.{sound-valid, sound-words, sound-slots}
+use Rattle.rules.specs.Calls.{Step, refused-or, request-refusal, request-change, request, convert-refusal, convert-change, convert, release-refusal, release-change, release, cancel-refusal, cancel-change, cancel, purge-refusal, purge-change, purge, break, poll-refusal, poll-change, poll}
+use Rattle.rules.specs.Entries.{if-sound, entry, Call, step-of, to-request, to-convert, to-release, to-cancel, to-purge, to-break, to-poll, call-entry, request-entry, convert-entry, release-entry, cancel-entry, purge-entry, break-entry, poll-entry}
+use Rattle.rules.proofs.QueueTheorem.{out-of, outcome-is}
+use Rattle.rules.proofs.AcceptedCalls.{Requestable, Releasable, Convertible, Cancellable, Purgeable, request-passed, convert-passed, release-passed, cancel-passed, purge-passed}
+use Rattle.table_chains.specs.Contracts.{Some, Tells}
+use Rattle.table_names.specs.Names.{find-in}
+use Rattle.table_names.specs.Contracts.{Named}
+use Rattle.table_names.proofs.StateNames.{core-named, find-is}
+use Rattle.queues.specs.Contracts.{Lent}
+use Rattle.call_refusals.specs.Contracts.{Finds}
+use Rattle.answers.specs.Answers.{Numbers, refused, outcome}
+use Rattle.answers.specs.Contracts.{Makes, MakesWords}
+
+-- a call's rule: its refusal, its change, and what the change stands on
+record Ruled (call : Call) (refusal : Tables → ℕ) (change : Tables → Step) (P : Tables → Type 0) : Type 0 where
+  step-is : (t : Tables) → step-of call t ≡ refused-or (refusal t) (change t) t
+  passes : (t : Tables) → Valid t → refusal t ≡ 0 → P t
+
+request-ruled : (c m f : ℕ) (n : List ℕ) → Ruled (to-request c m f n) (request-refusal c m f n) (request-change c m n) (Requestable c m n)
+unfolding request
+request-ruled c m f n = record { step-is = λ t. refl; passes = λ t val. request-passed t val c m f n }
+
+convert-ruled : (c k m f : ℕ) (v : List ℕ) → Ruled (to-convert c k m f v) (convert-refusal c k m f v) (convert-change k m f v) (Convertible k m f v)
+unfolding convert
+convert-ruled c k m f v = record { step-is = λ t. refl; passes = λ t val. convert-passed t val c k m f v }
+
+release-ruled : (c k f : ℕ) (v : List ℕ) → Ruled (to-release c k f v) (release-refusal c k f v) (release-change k f v) (Releasable k f v)
+unfolding release
+release-ruled c k f v = record { step-is = λ t. refl; passes = λ t val. release-passed t val c k f v }
+
+cancel-ruled : (c k : ℕ) → Ruled (to-cancel c k) (cancel-refusal c k) (cancel-change k) (Cancellable k)
+unfolding cancel
+cancel-ruled c k = record { step-is = λ t. refl; passes = λ t val. cancel-passed t val c k }
+
+purge-ruled : (c : ℕ) → Ruled (to-purge c) (λ t. purge-refusal c) (purge-change c) (Purgeable c)
+unfolding purge
+purge-ruled c = record { step-is = λ t. refl; passes = λ t val. purge-passed t val c }
+
+poll-ruled : (c : ℕ) → Ruled (to-poll c) (λ t. poll-refusal c) (poll-change c) Valid
+unfolding poll
+poll-ruled c = record { step-is = λ t. refl; passes = λ t val h. val }
+
+break-ruled : Ruled to-break (λ t. 0) break Valid
+unfolding refused-or
+break-ruled = record { step-is = λ t. refl; passes = λ t val h. val }
+
+refused-step : (n : ℕ) (s : Step) (t : Tables) → (n ≡ 0 → ⊥) → outcome (refused n) (words t) (slots t) ≡ out-of (refused-or n s t)
+unfolding refused-or
+refused-step zero s t z = absurd (z refl)
+refused-step (suc n) s t z = refl
+
+-- the names in a state's words and slots can be read, and what is found there is what the state has
+module _ (t : Tables) (core : Core t) (ws ss : List ℕ) (words-are : ws ≡ words t) (slots-are : ss ≡ slots t) where
+  named-at : Named ws ss
+  named-at = rw (words-are, slots-are) (core-named t core)
+
+  finds-at : (n : List ℕ) (r : ℕ) → r ≡ find-in ws ss n → Finds n r t
+  finds-at n r e = record { core = core; found = e ∙ (rw (words-are, slots-are) (find-is t core n)) }
+
+module _ (ws ss : List ℕ) (b : Bool) (checked : b ≡ sound ws ss) where
+  pub entry-unsound : (call : Call) → not b ≡ true → outcome (refused 1) ws ss ≡ call-entry call ws ss
+  unfolding call-entry entry if-sound
+  entry-unsound call q = rw (← checked, not-true b q)
+
+  module _ (ok : not b ≡ false) where
+    is-sound : sound ws ss ≡ true
+    is-sound = sym checked ∙ not-false b ok
+
+    abbrev t : Tables
+    t = read ws ss
+
+    val : Valid t
+    val = sound-valid ws ss is-sound
+
+    words-are : ws ≡ words t
+    words-are = sound-words ws ss is-sound
+
+    slots-are : ss ≡ slots t
+    slots-are = sound-slots ws ss is-sound
+
+    pub entry-core : Some Core ws
+    entry-core = record { state = t; good = val .core; is = words-are }
+
+    pub entry-named : Named ws ss
+    entry-named = named-at t (val .core) ws ss words-are slots-are
+
+    pub entry-valid : Some Valid ws
+    entry-valid = record { state = t; good = val; is = words-are }
+
+    entry-is : (call : Call) → out-of (step-of call t) ≡ call-entry call ws ss
+    entry-is call = sym (outcome-is call t val) ∙ ap₂ (call-entry call) (sym words-are) (sym slots-are)
+
+    -- the code's number is the refusal of the state in the tables
+    module _ {call : Call} {refusal : Tables → ℕ} {change : Tables → Step} {P : Tables → Type 0} (rule : Ruled call refusal change P)
+        (n : ℕ) (n-is : n ≡ refusal t) where
+      refused-by : (n ≡ 0 → ⊥) → outcome (refused n) ws ss ≡ call-entry call ws ss
+      refused-by z =
+          ap₂ (outcome (refused n)) words-are slots-are
+          ∙ refused-step n (change t) t z
+          ∙ ap out-of (ap (λ (i : ℕ). refused-or i (change t) t) n-is ∙ sym (rule .step-is t))
+          ∙ entry-is call
+
+      module _ (none : n ≡ 0) where
+        good : P t
+        good = rule .passes t val (sym n-is ∙ none)
+
+        lent-for : Lent P ws ss
+        lent-for = record { state = t; good = good; is = words-are; slots-are = slots-are }
+
+        some-for : Some P ws
+        some-for = record { state = t; good = good; is = words-are }
+
+        change-is : out-of (change t) ≡ call-entry call ws ss
+        unfolding refused-or
+        change-is = ap (λ (i : ℕ). out-of (refused-or i (change t) t)) (sym none ∙ n-is) ∙ ap out-of (sym (rule .step-is t)) ∙ entry-is call
+
+        made-by : (ds es : List ℕ) (x : Numbers) → Makes P change ws ss ds es x → outcome x ds es ≡ call-entry call ws ss
+        made-by ds es x m = m .then t good words-are slots-are ∙ change-is
+
+        words-made-by : (ds : List ℕ) (x : Numbers) → MakesWords P change ws ds x → outcome x ds ss ≡ call-entry call ws ss
+        words-made-by ds x m = ap (outcome x ds) slots-are ∙ m .then t good words-are ∙ change-is
+
+    told-by : {g : Tables → ℕ} (n : ℕ) → Tells Core g ws n → n ≡ g t
+    told-by n en = en .then t (val .core) words-are
+
+    -- REQUEST
+    module _ (name : List ℕ) (r : ℕ) (er : r ≡ find-in ws ss name) where
+      finds : Finds name r t
+      finds = finds-at t (val .core) ws ss words-are slots-are name r er
+
+      pub request-finds : Some (Finds name r) ws
+      request-finds = record { state = t; good = finds; is = words-are }
+
+      module _ (c m f n : ℕ) (en : Tells (Finds name r) (request-refusal c m f name) ws n) where
+        request-number : n ≡ request-refusal c m f name t
+        request-number = en .then t finds words-are
+
+        pub request-refused : (n ≡ 0 → ⊥) → outcome (refused n) ws ss ≡ request-entry ws ss c m f name
+        request-refused = refused-by (request-ruled c m f name) n request-number
+
+        pub request-lent : n ≡ 0 → Lent (Requestable c m name) ws ss
+        request-lent = lent-for (request-ruled c m f name) n request-number
+
+        pub request-made : n ≡ 0 → (ds es : List ℕ) (x : Numbers) → Makes (Requestable c m name) (request-change c m name) ws ss ds es x
+            → outcome x ds es ≡ request-entry ws ss c m f name
+        request-made = made-by (request-ruled c m f name) n request-number
+
+    -- RELEASE
+    module _ (c k f : ℕ) (v : List ℕ) (n : ℕ) (en : Tells Core (release-refusal c k f v) ws n) where
+      pub release-refused : (n ≡ 0 → ⊥) → outcome (refused n) ws ss ≡ release-entry ws ss c k f v
+      release-refused = refused-by (release-ruled c k f v) n (told-by n en)
+
+      pub release-lent : n ≡ 0 → Lent (Releasable k f v) ws ss
+      release-lent = lent-for (release-ruled c k f v) n (told-by n en)
+
+      pub release-made : n ≡ 0 → (ds es : List ℕ) (x : Numbers) → Makes (Releasable k f v) (release-change k f v) ws ss ds es x
+          → outcome x ds es ≡ release-entry ws ss c k f v
+      release-made = made-by (release-ruled c k f v) n (told-by n en)
+
+    -- CONVERT
+    module _ (c k m f : ℕ) (v : List ℕ) (n : ℕ) (en : Tells Core (convert-refusal c k m f v) ws n) where
+      pub convert-refused : (n ≡ 0 → ⊥) → outcome (refused n) ws ss ≡ convert-entry ws ss c k m f v
+      convert-refused = refused-by (convert-ruled c k m f v) n (told-by n en)
+
+      pub convert-lent : n ≡ 0 → Lent (Convertible k m f v) ws ss
+      convert-lent = lent-for (convert-ruled c k m f v) n (told-by n en)
+
+      pub convert-made : n ≡ 0 → (ds es : List ℕ) (x : Numbers) → Makes (Convertible k m f v) (convert-change k m f v) ws ss ds es x
+          → outcome x ds es ≡ convert-entry ws ss c k m f v
+      convert-made = made-by (convert-ruled c k m f v) n (told-by n en)
+
+    -- CANCEL
+    module _ (c k n : ℕ) (en : Tells Core (cancel-refusal c k) ws n) where
+      pub cancel-refused : (n ≡ 0 → ⊥) → outcome (refused n) ws ss ≡ cancel-entry ws ss c k
+      cancel-refused = refused-by (cancel-ruled c k) n (told-by n en)
+
+      pub cancel-some : n ≡ 0 → Some (Cancellable k) ws
+      cancel-some = some-for (cancel-ruled c k) n (told-by n en)
+
+      pub cancel-made : n ≡ 0 → (ds : List ℕ) (x : Numbers) → MakesWords (Cancellable k) (cancel-change k) ws ds x → outcome x ds ss ≡ cancel-entry ws ss c k
+      cancel-made = words-made-by (cancel-ruled c k) n (told-by n en)
+
+    -- PURGE
+    module _ (c n : ℕ) (en : n ≡ purge-refusal c) where
+      pub purge-refused : (n ≡ 0 → ⊥) → outcome (refused n) ws ss ≡ purge-entry ws ss c
+      purge-refused = refused-by (purge-ruled c) n en
+
+      pub purge-lent : n ≡ 0 → Lent (Purgeable c) ws ss
+      purge-lent = lent-for (purge-ruled c) n en
+
+      pub purge-made : n ≡ 0 → (ds es : List ℕ) (x : Numbers) → Makes (Purgeable c) (purge-change c) ws ss ds es x → outcome x ds es ≡ purge-entry ws ss c
+      purge-made = made-by (purge-ruled c) n en
+
+    -- BREAK
+    pub break-made : (ds : List ℕ) (x : Numbers) → MakesWords Valid break ws ds x → outcome x ds ss ≡ break-entry ws ss
+    break-made = words-made-by break-ruled 0 refl refl
+
+    -- POLL: its refusal is that of a purge
+    module _ (c n : ℕ) (en : n ≡ purge-refusal c) where
+      poll-number : n ≡ poll-refusal c
+      unfolding purge-refusal poll-refusal
+      poll-number = en
+
+      pub poll-refused : (n ≡ 0 → ⊥) → outcome (refused n) ws ss ≡ poll-entry ws ss c
+      poll-refused = refused-by (poll-ruled c) n poll-number
+
+      pub poll-made : n ≡ 0 → (ds : List ℕ) (x : Numbers) → MakesWords Valid (poll-change c) ws ds x → outcome x ds ss ≡ poll-entry ws ss c
+      poll-made = words-made-by (poll-ruled c) n poll-number
+
+pub ruleset entering = (
+  needs,
+  entry-unsound,
+  entry-core,
+  entry-named,
+  entry-valid,
+  request-finds,
+  request-refused,
+  request-lent,
+  request-made,
+  release-refused,
+  release-lent,
+  release-made,
+  convert-refused,
+  convert-lent,
+  convert-made,
+  cancel-refused,
+  cancel-some,
+  cancel-made,
+  purge-refused,
+  purge-lent,
+  purge-made,
+  break-made,
+  poll-refused,
+  poll-made,
+)

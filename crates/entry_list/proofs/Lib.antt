@@ -1,0 +1,3 @@
+pub mod ListCore
+pub mod FilledList
+pub mod ListReturns

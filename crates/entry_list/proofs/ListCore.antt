@@ -1,0 +1,70 @@
+-- What the core of a listing reads from the words of a state.
+use mathlib.Core.Path.{_≡_, sym, _∙_, ap}
+use mathlib.Core.Bool.{Bool, true, false, not}
+use mathlib.Core.List.{List}
+use Prim.Native.Nat.{ℕ, _≤_, _<_}
+use borrow.Author.Needs.{needs}
+use borrow.Author.Tests.{lt-ltb, le-ltb, not-true, not-false}
+use Rattle.tables.specs.declared.Lock.{Lock}
+use Rattle.tables.specs.declared.LockEntry.{LockEntry}
+use Rattle.tables.specs.Layout.{of-lock, word-in, read-lock, read}
+use Rattle.tables.specs.Sound.{sound}
+use Rattle.tables.proofs.Valid.{Core}
+use Rattle.tables.proofs.Soundness.{sound-valid, sound-words}
+use Rattle.rules.specs.Calls.{unless}
+use Rattle.rules.specs.Entries.{look-refusal}
+use Rattle.table_chains.specs.Contracts.{Some, Tells}
+use Rattle.list_walker.specs.Order.{Queued}
+use Rattle.list_walker.proofs.WalkerReads.{queued-sized, queued-low, queued-high, queued-record}
+use Rattle.entry_list.specs.Listings.{list-refusal, resource-of, entry-of, fitting}
+
+-- list_refusal
+module _ (ws ss : List ℕ) (c k : ℕ) (a : Bool) (ea : a ≡ sound ws ss) where
+  pub unsound-refused : not a ≡ true → 1 ≡ list-refusal ws ss c k
+  unfolding list-refusal unless
+  unsound-refused h = rw (sym ea ∙ not-true a h)
+
+  module _ (h : not a ≡ false) where
+    is-sound : sound ws ss ≡ true
+    is-sound = sym ea ∙ not-false a h
+
+    pub sound-looked : (n : ℕ) → Tells Core (look-refusal c k) ws n → n ≡ list-refusal ws ss c k
+    unfolding list-refusal unless
+    sound-looked n told = rw is-sound (told .then (read ws ss) (sound-valid ws ss is-sound .core) (sound-words ws ss is-sound))
+
+pub sound-core : (ws ss : List ℕ) (a : Bool) → a ≡ sound ws ss → not a ≡ false → Some Core ws
+sound-core ws ss a ea h =
+    let s = sym ea ∙ not-false a h in
+    record { state = read ws ss; good = sound-valid ws ss s .core; is = sound-words ws ss s }
+
+pub ruleset refusal-laws = (needs, unsound-refused, sound-core, sound-looked)
+
+-- resource_of, entry_of
+abbrev pub entry-by : ℕ → Lock → LockEntry
+entry-by k l = record { number = k; client = l .client; state = l .state; held = l .held; asked = l .asked }
+
+module _ (ws : List ℕ) (k : ℕ) where
+  pub resource-told : (x : ℕ) → x ≡ word-in ws (of-lock k 3) → Tells (Queued k) (resource-of k) ws x
+  unfolding resource-of read-lock
+  resource-told x e = record { then = λ t p is. e ∙ ap (λ (l : Lock). l .resource) (queued-record ws k t p is) }
+
+  pub entry-told : (l : Lock) → l ≡ read-lock ws k → Tells (Queued k) (entry-of k) ws (record { number = k; client = l .client; state = l .state; held = l .held; asked = l .asked })
+  unfolding entry-of
+  entry-told l e = record {
+    then = λ t p is.
+        ap (entry-by k) (e ∙ queued-record ws k t p is);
+  }
+
+pub ruleset lock-laws = (needs, queued-sized, queued-low, queued-high, resource-told, entry-told)
+
+-- fitting
+module _ (n room : ℕ) where
+  pub fitting-all : n < room → n ≡ fitting n room
+  unfolding fitting
+  fitting-all h = rw (lt-ltb n room h)
+
+  pub fitting-some : room ≤ n → room ≡ fitting n room
+  unfolding fitting
+  fitting-some h = rw (le-ltb n room h)
+
+pub ruleset fitting-laws = (needs, fitting-all, fitting-some)

@@ -1,0 +1,90 @@
+// The lock manager: the entries by which clients ask for locks, over the two lent tables. Each checks the tables, then
+// gives the first refusal that fits, then makes its change. Numbers, names and values may be any; nothing lent is changed
+// where a call is refused.
+use answers::Converted;
+use answers::Done;
+use answers::Requested;
+use call_refusals::SIZES;
+use call_refusals::UNSOUND;
+use check_tables::sound;
+ghost use mathlib.Core.Path.{_≡_};
+ghost use Rattle.rules.specs.Entries.{«start-entry», «request-entry», «convert-entry», «release-entry»};
+ghost use Rattle.answers.specs.Answers.{requested, converted, done, outcome};
+
+// The lent tables become fresh ones: all records free, chained upward. They may hold anything before.
+pub fn start(words: &mut [u32], slots: &mut [u8], resources: u32, locks: u32) -> Done
+    ensures { λ r. ⌜ outcome (done r) (now (words .exit)) (now (slots .exit)) ≡ start-entry (now (words .entry)) (now (slots .entry)) resources locks ⌝ }
+{
+    if !call_start::sizes_right(words, slots, resources, locks) {
+        return Done::Refused(SIZES);
+    }
+    call_start::start_words(words, resources, locks);
+    table_names::clear(slots);
+    Done::Accepted
+}
+
+// A lock of a mode on a name: granted at once, or it waits. The name is looked up once, for its refusals and its change.
+pub fn request(
+    words: &mut [u32],
+    slots: &mut [u8],
+    client: u32,
+    mode: u32,
+    flags: u32,
+    name: &[u8],
+) -> Requested
+    ensures { λ r. ⌜ outcome (requested r) (now (words .exit)) (now (slots .exit)) ≡ request-entry (now (words .entry)) (now (slots .entry)) client mode flags (now (name .entry)) ⌝ }
+{
+    if !sound(words, slots) {
+        return Requested::Refused(UNSOUND);
+    }
+    let found = table_names::find(words, slots, name);
+    let refusal = call_refusals::request_refusal(words, found, client, mode, flags, name);
+    if refusal != 0 {
+        return Requested::Refused(refusal);
+    }
+    call_request::request_change(words, slots, found, client, mode, name)
+}
+
+// A granted lock goes to another mode: in place, or it joins the convert queue.
+pub fn convert(
+    words: &mut [u32],
+    slots: &mut [u8],
+    client: u32,
+    lock: u32,
+    mode: u32,
+    flags: u32,
+    value: &[u8],
+) -> Converted
+    ensures { λ r. ⌜ outcome (converted r) (now (words .exit)) (now (slots .exit)) ≡ convert-entry (now (words .entry)) (now (slots .entry)) client lock mode flags (now (value .entry)) ⌝ }
+{
+    if !sound(words, slots) {
+        return Converted::Refused(UNSOUND);
+    }
+    let refusal = call_refusals::convert_refusal(words, client, lock, mode, flags, value);
+    if refusal != 0 {
+        return Converted::Refused(refusal);
+    }
+    call_convert::convert_change(words, slots, lock, mode, flags, value)
+}
+
+// A granted lock is freed.
+pub fn release(
+    words: &mut [u32],
+    slots: &mut [u8],
+    client: u32,
+    lock: u32,
+    flags: u32,
+    value: &[u8],
+) -> Done
+    ensures { λ r. ⌜ outcome (done r) (now (words .exit)) (now (slots .exit)) ≡ release-entry (now (words .entry)) (now (slots .entry)) client lock flags (now (value .entry)) ⌝ }
+{
+    if !sound(words, slots) {
+        return Done::Refused(UNSOUND);
+    }
+    let refusal = call_refusals::release_refusal(words, client, lock, flags, value);
+    if refusal != 0 {
+        return Done::Refused(refusal);
+    }
+    call_release::release_change(words, slots, lock, flags, value);
+    Done::Accepted
+}

@@ -1,0 +1,64 @@
+// The lock manager: the entries by which waiting and holding end otherwise than by a release. A blocked lock is taken back, a
+// client that is gone is purged, a deadlock is broken, and a client takes its notices. Each checks the tables, then gives the
+// first refusal that fits, then makes its change, as those of `manager` do.
+use answers::Broken;
+use answers::Cancelled;
+use answers::Polled;
+use answers::Purged;
+use call_refusals::UNSOUND;
+use check_tables::sound;
+ghost use mathlib.Core.Path.{_≡_};
+ghost use Rattle.rules.specs.Entries.{«cancel-entry», «purge-entry», «break-entry», «poll-entry»};
+ghost use Rattle.answers.specs.Answers.{cancelled, purged, broken, polled, outcome};
+
+// A blocked lock waits no longer: a conversion is taken back, a waiting request is freed.
+pub fn cancel(words: &mut [u32], slots: &[u8], client: u32, lock: u32) -> Cancelled
+    ensures { λ r. ⌜ outcome (cancelled r) (now (words .exit)) (now (slots .entry)) ≡ cancel-entry (now (words .entry)) (now (slots .entry)) client lock ⌝ }
+{
+    if !sound(words, slots) {
+        return Cancelled::Refused(UNSOUND);
+    }
+    let refusal = call_refusals::cancel_refusal(words, client, lock);
+    if refusal != 0 {
+        return Cancelled::Refused(refusal);
+    }
+    call_release::cancel_change(words, lock)
+}
+
+// All of a client's locks are freed, as when its unit died.
+pub fn purge(words: &mut [u32], slots: &mut [u8], client: u32) -> Purged
+    ensures { λ r. ⌜ outcome (purged r) (now (words .exit)) (now (slots .exit)) ≡ purge-entry (now (words .entry)) (now (slots .entry)) client ⌝ }
+{
+    if !sound(words, slots) {
+        return Purged::Refused(UNSOUND);
+    }
+    let refusal = call_refusals::client_refusal(client);
+    if refusal != 0 {
+        return Purged::Refused(refusal);
+    }
+    call_purge::purge_change(words, slots, client)
+}
+
+// The longest blocked request of a deadlock is denied. (`break` is a word of the language.)
+pub fn break_deadlock(words: &mut [u32], slots: &[u8]) -> Broken
+    ensures { λ r. ⌜ outcome (broken r) (now (words .exit)) (now (slots .entry)) ≡ break-entry (now (words .entry)) (now (slots .entry)) ⌝ }
+{
+    if !sound(words, slots) {
+        return Broken::Refused(UNSOUND);
+    }
+    call_notice::break_change(words)
+}
+
+// The client's first notice is taken.
+pub fn poll(words: &mut [u32], slots: &[u8], client: u32) -> Polled
+    ensures { λ r. ⌜ outcome (polled r) (now (words .exit)) (now (slots .entry)) ≡ poll-entry (now (words .entry)) (now (slots .entry)) client ⌝ }
+{
+    if !sound(words, slots) {
+        return Polled::Refused(UNSOUND);
+    }
+    let refusal = call_refusals::client_refusal(client);
+    if refusal != 0 {
+        return Polled::Refused(refusal);
+    }
+    call_notice::poll_change(words, client)
+}

@@ -1,0 +1,3 @@
+pub mod ListsInARow
+pub mod ResourceLocks
+pub mod WalkerReads

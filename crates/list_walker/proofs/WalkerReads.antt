@@ -1,0 +1,222 @@
+-- What the code reads of the locks on a resource, from the words of a state.
+use mathlib.Core.Path.{_≡_, refl, sym, _∙_, ap, subst}
+use mathlib.Core.Bool.{true, false, _&&_, not}
+use mathlib.Core.List.{List, _++_, append-assoc}
+use Prim.Native.Nat.{ℕ, zero, suc, _+_, _-_, _≤_, _<_, _^_}
+use native.Mathlib.Omega.{arith}
+use native.Mathlib.Numerals.{add-one}
+use lib.ListN.{getD, length}
+use lib.Dec.{eqb, ltb}
+use borrow.Author.Needs.{needs}
+use borrow.Author.Tests.{eqb-true, eqb-false, ltb-true, not-true, not-false}
+use Rattle.tables.specs.declared.Lock.{Lock}
+use Rattle.tables.specs.Lists.{count, first, next}
+use Rattle.tables.specs.State.{Resource, Tables, lock, resource, Queue, grants, converts, waits, queue-of}
+use Rattle.tables.specs.Layout.{of-resource, of-lock, queue-head, words, resources-in, locks-in, word-in, read-lock}
+use Rattle.tables.specs.Grants.{holders}
+use Rattle.tables.proofs.Cases.{and-left}
+use Rattle.tables.proofs.Counts.{within-le}
+use Rattle.tables.proofs.ReadBack.{lock-read}
+use Rattle.tables.proofs.Valid.{Core}
+use Rattle.table_fields.specs.Sizes.{Sized}
+use Rattle.table_chains.specs.Contracts.{Some, Tells, Resourced}
+use Rattle.table_chains.proofs.ChainCells.{resources-is, locks-is}
+use Rattle.list_walker.specs.Order.{locks-on, first-on, count-on, past, first-past, Queued, following}
+use Rattle.list_walker.proofs.ListsInARow.{first-of, first-after, first-at, at-on, at-inside, at-end, at-next}
+use Rattle.list_walker.proofs.ResourceLocks.{Split, split-next, split-past, none-zero, no-lock-zero, resource-on, once-on, few-on, queued-at, queued-range, queued-resourced, core-sized, head-here, split-here}
+
+-- the resource r
+module _ (ws : List ℕ) (r : ℕ) (s : Some (Resourced r) ws) where
+  pub here-sized : Sized ws
+  here-sized = core-sized (s .state) (s .good .core) ws (s .is)
+
+  pub here-range : (1 ≤ r) × (r ≤ resources-in ws)
+  here-range = rw (resources-is (s .state) ws (s .is)) (within-le (length (s .state .resources)) r (s .good .in-range))
+
+  pub here-low : 1 ≤ r
+  here-low = here-range .0
+
+  pub here-high : r ≤ resources-in ws
+  here-high = here-range .1
+
+-- first_past: by the numbers of the state, and of the three heads
+module _ (x : Resource) (g c w : ℕ) (eg : g ≡ first (x .grant)) (ec : c ≡ first (x .convert)) (ew : w ≡ first (x .wait)) (zg : count 0 (x .grant) ≡ 0) (zc : count 0 (x .convert) ≡ 0) where
+  past-grant : (s : ℕ) → (ltb s 1 && not (eqb g 0)) ≡ true → g ≡ first (past s x)
+  past-grant zero h = eg ∙ sym (first-of (x .grant) (x .convert ++ x .wait) (λ z. eqb-false g 0 (not-true (eqb g 0) h) (eg ∙ z)))
+  past-grant (suc s) h = absurd (omega (arith, ltb-true (suc s) 1 (and-left (ltb (suc s) 1) _ h)))
+
+  none-granted : (s : ℕ) → (ltb s 1 && not (eqb g 0)) ≡ false → s ≡ 0 → first (x .grant) ≡ 0
+  none-granted zero h e = sym eg ∙ eqb-true g 0 (not-false (eqb g 0) h)
+  none-granted (suc s) h e = absurd (omega arith)
+
+  past-convert : (s : ℕ) → (ltb s 1 && not (eqb g 0)) ≡ false → (ltb s 2 && not (eqb c 0)) ≡ true → c ≡ first (past s x)
+  past-convert zero n h =
+      ec ∙ sym (first-of (x .convert) (x .wait) (λ z. eqb-false c 0 (not-true (eqb c 0) h) (ec ∙ z)))
+      ∙ sym (first-after (x .grant) (x .convert ++ x .wait) zg (none-granted 0 n refl))
+  past-convert (suc zero) n h = ec ∙ sym (first-of (x .convert) (x .wait) (λ z. eqb-false c 0 (not-true (eqb c 0) h) (ec ∙ z)))
+  past-convert (suc (suc s)) n h = absurd (omega (arith, ltb-true (suc (suc s)) 2 (and-left (ltb (suc (suc s)) 2) _ h)))
+
+  past-wait : (s : ℕ) → (ltb s 1 && not (eqb g 0)) ≡ false → (ltb s 2 && not (eqb c 0)) ≡ false → s < 3 → w ≡ first (past s x)
+  past-wait zero n h l =
+      ew ∙ sym (first-after (x .convert) (x .wait) zc (sym ec ∙ eqb-true c 0 (not-false (eqb c 0) h)))
+      ∙ sym (first-after (x .grant) (x .convert ++ x .wait) zg (none-granted 0 n refl))
+  past-wait (suc zero) n h l = ew ∙ sym (first-after (x .convert) (x .wait) zc (sym ec ∙ eqb-true c 0 (not-false (eqb c 0) h)))
+  past-wait (suc (suc zero)) n h l = ew
+  past-wait (suc (suc (suc s))) n h l = absurd (omega arith)
+
+past-end : (x : Resource) (s : ℕ) → 3 ≤ s → 0 ≡ first (past s x)
+past-end x zero h = absurd (omega arith)
+past-end x (suc zero) h = absurd (omega arith)
+past-end x (suc (suc zero)) h = absurd (omega arith)
+past-end x (suc (suc (suc s))) h = refl
+
+module _ (ws : List ℕ) (r s : ℕ) where
+  heads : (t : Tables) → Resourced r t → ws ≡ words t → (q : Queue) → word-in ws (of-resource r (queue-head q)) ≡ first (queue-of q (resource t r))
+  heads t p is = head-here t (p .core) ws is r (p .in-range)
+
+  module _ (g : ℕ) (eg : g ≡ word-in ws (of-resource r 1)) where
+    pub past-granted : (ltb s 1 && not (eqb g 0)) ≡ true → Tells (Resourced r) (first-past r s) ws g
+    unfolding first-past
+    past-granted h = record {
+      then = λ t p is.
+          past-grant (resource t r) g (first (resource t r .convert)) (first (resource t r .wait)) (eg ∙ heads t p is grants) refl refl
+          (none-zero t (p .core) grants r) (none-zero t (p .core) converts r) s h;
+    }
+
+    module _ (n : (ltb s 1 && not (eqb g 0)) ≡ false) (c : ℕ) (ec : c ≡ word-in ws (of-resource r 2)) where
+      pub past-converting : (ltb s 2 && not (eqb c 0)) ≡ true → Tells (Resourced r) (first-past r s) ws c
+      unfolding first-past
+      past-converting h = record {
+        then = λ t p is.
+            past-convert (resource t r) g c (first (resource t r .wait)) (eg ∙ heads t p is grants) (ec ∙ heads t p is converts) refl
+            (none-zero t (p .core) grants r) (none-zero t (p .core) converts r) s n h;
+      }
+
+      pub past-waiting : (ltb s 2 && not (eqb c 0)) ≡ false → s < 3 → (w : ℕ) → w ≡ word-in ws (of-resource r 3) → Tells (Resourced r) (first-past r s) ws w
+      unfolding first-past
+      past-waiting h l w ew = record {
+        then = λ t p is.
+            past-wait (resource t r) g c w (eg ∙ heads t p is grants) (ec ∙ heads t p is converts) (ew ∙ heads t p is waits)
+            (none-zero t (p .core) grants r) (none-zero t (p .core) converts r) s n h l;
+      }
+
+  pub past-none : 3 ≤ s → Tells (Resourced r) (first-past r s) ws 0
+  unfolding first-past
+  past-none h = record { then = λ t p is. past-end (resource t r) s h }
+
+pub ruleset past-laws = (needs, here-sized, here-low, here-high, past-granted, past-converting, past-waiting, past-none)
+
+-- first_on
+module _ (ws : List ℕ) (r x : ℕ) (told : Tells (Resourced r) (first-past r 0) ws x) where
+  pub first-told : Tells (Resourced r) (first-on r) ws x
+  unfolding first-past first-on locks-on holders
+  first-told = record { then = λ t p is. told .then t p is ∙ ap first (sym (append-assoc (resource t r .grant) (resource t r .convert) (resource t r .wait))) }
+
+pub ruleset first-laws = (needs, first-told)
+
+-- following
+module _ (ws : List ℕ) (k : ℕ) where
+  pub queued-sized : Some (Queued k) ws → Sized ws
+  queued-sized s = core-sized (s .state) (s .good .core) ws (s .is)
+
+  pub queued-low : Some (Queued k) ws → 1 ≤ k
+  queued-low s = queued-range k (s .state) (s .good) .0
+
+  pub queued-high : Some (Queued k) ws → k ≤ locks-in ws
+  queued-high s = rw (locks-is (s .state) ws (s .is)) (queued-range k (s .state) (s .good) .1)
+
+  pub queued-record : (t : Tables) → Queued k t → ws ≡ words t → read-lock ws k ≡ lock t k
+  queued-record t p is = ap (λ (v : List ℕ). read-lock v k) is ∙ lock-read t k (queued-range k t p .0) (queued-range k t p .1)
+
+  module _ (n : ℕ) (en : n ≡ word-in ws (of-lock k 0)) where
+    split : (t : Tables) (p : Queued k t) → ws ≡ words t → Split k n (locks-on (lock t k .resource) t) (past (lock t k .state) (resource t (lock t k .resource)))
+    split t p is = split-here t (p .core) ws is (lock t k .resource) k (p .on) n en
+
+    pub follows-link : (n ≡ 0 → ⊥) → Tells (Queued k) (following k) ws n
+    unfolding following
+    follows-link m = record { then = λ t p is. split-next k n _ _ (split t p is) m }
+
+    module _ (e : n ≡ 0) (l : Lock) (el : l ≡ read-lock ws k) where
+      pub follows-past : (x : ℕ) → Tells (Resourced (l .resource)) (first-past (l .resource) (l .state)) ws x → Tells (Queued k) (following k) ws x
+      unfolding following first-past
+      follows-past x told = record {
+        then = λ t p is.
+            let same : l ≡ lock t k = el ∙ queued-record t p is in
+            subst (λ (m : Lock). Tells (Resourced (m .resource)) (first-past (m .resource) (m .state)) ws x) same told .then t (queued-resourced k t p) is
+            ∙ split-past k n _ _ (split t p is) e;
+      }
+
+  pub follows-resourced : (l : Lock) → l ≡ read-lock ws k → Some (Queued k) ws → Some (Resourced (l .resource)) ws
+  follows-resourced l el s =
+      subst (λ (m : Lock). Some (Resourced (m .resource)) ws) (sym (el ∙ queued-record (s .state) (s .good) (s .is)))
+      (record { state = s .state; good = queued-resourced k (s .state) (s .good); is = s .is })
+
+pub ruleset follow-laws = (needs, queued-sized, queued-low, queued-high, follows-link, follows-resourced, follows-past)
+
+-- count_on: k is the lock at the place n on r
+pub record Place (r n k : ℕ) (t : Tables) : Type 0 where
+  pub near : n ≤ length (locks-on r t)
+  pub here : k ≡ getD (locks-on r t) n 0
+
+pub record Reached (ws : List ℕ) (r n k : ℕ) : Type 0 where
+  pub some : Some (Resourced r) ws
+  pub then : (t : Tables) → Resourced r t → ws ≡ words t → Place r n k t
+
+module _ (r n k : ℕ) (t : Tables) (core : Core t) (p : Place r n k t) (m : k ≡ 0 → ⊥) where
+  place-inside : n < length (locks-on r t)
+  place-inside = at-inside (locks-on r t) n (λ z. m (p .here ∙ z))
+
+  place-queued : Queued k t
+  place-queued = subst (λ (j : ℕ). Queued j t) (sym (p .here)) (queued-at t core r n place-inside)
+
+  place-follows : following k t ≡ getD (locks-on r t) (suc n) 0
+  unfolding following
+  place-follows =
+      ap (λ (s : ℕ). next k (locks-on s t)) (resource-on t core r k (rw (p .here) (at-on (locks-on r t) n place-inside)))
+      ∙ ap (λ (j : ℕ). next j (locks-on r t)) (p .here) ∙ at-next (locks-on r t) n (once-on t core r) place-inside
+
+  place-next : Place r (n + 1) (following k t) t
+  place-next = rw (add-one n) (record { near = place-inside; here = place-follows })
+
+module _ (ws : List ℕ) (r : ℕ) where
+  pub count-starts : (x : ℕ) → Some (Resourced r) ws → Tells (Resourced r) (first-on r) ws x → Reached ws r 0 x
+  unfolding first-on
+  count-starts x s told = record { some = s; then = λ t p is. record { near = omega arith; here = told .then t p is ∙ first-at (locks-on r t) } }
+
+  module _ (n k : ℕ) (g : Reached ws r n k) where
+    pub count-ends : k ≡ 0 → Tells (Resourced r) (count-on r) ws n
+    unfolding count-on
+    count-ends e = record {
+      then = λ t p is.
+          at-end (locks-on r t) n (no-lock-zero t (p .core) r) (g .then t p is .near) (sym (g .then t p is .here) ∙ e);
+    }
+
+    module _ (m : k ≡ 0 → ⊥) where
+      inside : (n < locks-in ws) × (n < 1024)
+      inside =
+          let s = g .some in
+          let core = s .good .core in
+          let i = place-inside r n k (s .state) core (g .then (s .state) (s .good) (s .is)) m in
+          let few = few-on (s .state) core r in
+          (omega (arith, locks-is (s .state) ws (s .is)), omega (arith, core .locks-high))
+
+      pub count-queued : Some (Queued k) ws
+      count-queued =
+          let s = g .some in
+          record { state = s .state; good = place-queued r n k (s .state) (s .good .core) (g .then (s .state) (s .good) (s .is)) m; is = s .is }
+
+      pub count-small : n + 1 < 2 ^ 32
+      count-small = omega (arith, inside .1)
+
+      pub count-less : locks-in ws - (n + 1) < locks-in ws - n
+      count-less = omega (arith, inside .0)
+
+      pub count-next : (y : ℕ) → Tells (Queued k) (following k) ws y → Reached ws r (n + 1) y
+      count-next y told = record {
+        some = g .some;
+        then = λ t p is.
+            let here = g .then t p is in
+            subst (λ (j : ℕ). Place r (n + 1) j t) (sym (told .then t (place-queued r n k t (p .core) here m) is)) (place-next r n k t (p .core) here m);
+      }
+
+pub ruleset count-laws = (needs, count-starts, count-ends, count-queued, count-small, count-less, count-next)

@@ -1,3 +1,0 @@
-pub mod Denying
-pub mod Looking
-pub mod Taking

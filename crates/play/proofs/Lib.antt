@@ -1,3 +1,0 @@
-pub mod Lines
-pub mod Sessions
-pub mod Chunks

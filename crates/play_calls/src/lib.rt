@@ -1,0 +1,220 @@
+// What a line of lockplay asks is done: the call is made, and its answer is what is printed.
+use answers::Broken;
+use answers::Cancelled;
+use answers::Converted;
+use answers::Done;
+use answers::Polled;
+use answers::Purged;
+use answers::Requested;
+use play_commands::Command;
+use play_print::Outcome;
+ghost use mathlib.Core.Path.{_≡_};
+ghost use mathlib.Core.List.{[]};
+ghost use Prim.Native.Nat.{_≤_};
+ghost use lib.ListN.{length};
+ghost use Rattle.rules.specs.Entries.{«to-request», «to-convert», «to-release», «to-cancel», «to-purge», «to-break», «to-poll»};
+ghost use Rattle.answers.specs.Answers.{accepted, refused, requested, converted, done, cancelled, purged, broken, polled};
+ghost use Rattle.play_commands.specs.Forms.{meaning, «name-start»};
+ghost use Rattle.play_calls.specs.Plays.{answered, «answered-with-lock», plays, «plays-with-lock», played, gives, lent, Numbered};
+
+// A call's answer in document 01's numbers, as answers:specs/Answers.antt gives them: the refusal, or 0; the answer; the lock,
+// where it gives one.
+struct Numbers {
+    refusal: u32,
+    answer: u32,
+    number: u32,
+}
+
+fn accept(answer: u32, number: u32) -> Numbers
+    ensures { λ x. ⌜ Numbered (accepted answer number) x ⌝ }
+{
+    Numbers {
+        refusal: 0,
+        answer,
+        number,
+    }
+}
+
+fn refuse(refusal: u32) -> Numbers
+    ensures { λ x. ⌜ Numbered (refused refusal) x ⌝ }
+{
+    Numbers {
+        refusal,
+        answer: 0,
+        number: 0,
+    }
+}
+
+fn requested_numbers(r: Requested) -> Numbers
+    ensures { λ x. ⌜ Numbered (requested r) x ⌝ }
+{
+    match r {
+        Requested::Granted(k) => accept(1, k),
+        Requested::Waiting(k) => accept(2, k),
+        Requested::Refused(n) => refuse(n),
+    }
+}
+
+fn converted_numbers(r: Converted) -> Numbers
+    ensures { λ x. ⌜ Numbered (converted r) x ⌝ }
+{
+    match r {
+        Converted::Granted => accept(1, 0),
+        Converted::Waiting => accept(2, 0),
+        Converted::Refused(n) => refuse(n),
+    }
+}
+
+fn done_numbers(r: Done) -> Numbers
+    ensures { λ x. ⌜ Numbered (done r) x ⌝ }
+{
+    match r {
+        Done::Accepted => accept(0, 0),
+        Done::Refused(n) => refuse(n),
+    }
+}
+
+fn cancelled_numbers(r: Cancelled) -> Numbers
+    ensures { λ x. ⌜ Numbered (cancelled r) x ⌝ }
+{
+    match r {
+        Cancelled::Conversion => accept(1, 0),
+        Cancelled::Request => accept(2, 0),
+        Cancelled::Refused(n) => refuse(n),
+    }
+}
+
+fn purged_numbers(r: Purged) -> Numbers
+    ensures { λ x. ⌜ Numbered (purged r) x ⌝ }
+{
+    match r {
+        Purged::Freed(n) => accept(n, 0),
+        Purged::Refused(n) => refuse(n),
+    }
+}
+
+fn broken_numbers(r: Broken) -> Numbers
+    ensures { λ x. ⌜ Numbered (broken r) x ⌝ }
+{
+    match r {
+        Broken::Denied(k) => accept(k, 0),
+        Broken::NoDeadlock => accept(0, 0),
+        Broken::Refused(n) => refuse(n),
+    }
+}
+
+fn polled_numbers(r: Polled) -> Numbers
+    ensures { λ x. ⌜ Numbered (polled r) x ⌝ }
+{
+    match r {
+        Polled::Granted(k) => accept(1, k),
+        Polled::RequestDenied(k) => accept(2, k),
+        Polled::ConversionDenied(k) => accept(3, k),
+        Polled::NoNotice => accept(0, 0),
+        Polled::Refused(n) => refuse(n),
+    }
+}
+
+// What is printed for a letter's answer, without its lock and with it.
+fn answered(letter: u8, x: Numbers) -> Outcome
+    ensures { λ r. ⌜ r ≡ answered letter (x .refusal) (x .answer) ⌝ }
+{
+    if x.refusal == 0 {
+        return Outcome::Answer(letter, x.answer);
+    }
+    Outcome::Refusal(letter, x.refusal)
+}
+
+fn answered_with_lock(letter: u8, x: Numbers) -> Outcome
+    ensures { λ r. ⌜ r ≡ answered-with-lock letter (x .refusal) (x .answer) (x .number) ⌝ }
+{
+    if x.refusal == 0 {
+        return Outcome::AnswerAndLock(letter, x.answer, x.number);
+    }
+    Outcome::Refusal(letter, x.refusal)
+}
+
+// The lines by their letters: the call, and what is printed for it.
+fn request_line(
+    words: &mut [u32],
+    slots: &mut [u8],
+    client: u32,
+    mode: u32,
+    flags: u32,
+    name: &[u8],
+) -> Outcome
+    ensures { λ r. ⌜ gives r (now (words .exit)) (now (slots .exit)) ≡ plays-with-lock 113 (to-request client mode flags (now (name .entry))) (lent (now (words .entry)) (now (slots .entry))) ⌝ }
+{
+    let r = entry_locks::request(words, slots, client, mode, flags, name);
+    answered_with_lock(b'q', requested_numbers(r))
+}
+
+fn convert_line(
+    words: &mut [u32],
+    slots: &mut [u8],
+    client: u32,
+    lock: u32,
+    mode: u32,
+    flags: u32,
+) -> Outcome
+    ensures { λ r. ⌜ gives r (now (words .exit)) (now (slots .exit)) ≡ plays 99 (to-convert client lock mode flags []) (lent (now (words .entry)) (now (slots .entry))) ⌝ }
+{
+    let r = entry_locks::convert(words, slots, client, lock, mode, flags, b"");
+    answered(b'c', converted_numbers(r))
+}
+
+fn release_line(words: &mut [u32], slots: &mut [u8], client: u32, lock: u32, flags: u32) -> Outcome
+    ensures { λ r. ⌜ gives r (now (words .exit)) (now (slots .exit)) ≡ plays 114 (to-release client lock flags []) (lent (now (words .entry)) (now (slots .entry))) ⌝ }
+{
+    let r = entry_locks::release(words, slots, client, lock, flags, b"");
+    answered(b'r', done_numbers(r))
+}
+
+fn cancel_line(words: &mut [u32], slots: &[u8], client: u32, lock: u32) -> Outcome
+    ensures { λ r. ⌜ gives r (now (words .exit)) (now (slots .entry)) ≡ plays 120 (to-cancel client lock) (lent (now (words .entry)) (now (slots .entry))) ⌝ }
+{
+    let r = entry_recovery::cancel(words, slots, client, lock);
+    answered(b'x', cancelled_numbers(r))
+}
+
+fn purge_line(words: &mut [u32], slots: &mut [u8], client: u32) -> Outcome
+    ensures { λ r. ⌜ gives r (now (words .exit)) (now (slots .exit)) ≡ plays 112 (to-purge client) (lent (now (words .entry)) (now (slots .entry))) ⌝ }
+{
+    let r = entry_recovery::purge(words, slots, client);
+    answered(b'p', purged_numbers(r))
+}
+
+fn break_line(words: &mut [u32], slots: &[u8]) -> Outcome
+    ensures { λ r. ⌜ gives r (now (words .exit)) (now (slots .entry)) ≡ plays 100 to-break (lent (now (words .entry)) (now (slots .entry))) ⌝ }
+{
+    let r = entry_recovery::break_deadlock(words, slots);
+    answered(b'd', broken_numbers(r))
+}
+
+fn poll_line(words: &mut [u32], slots: &[u8], client: u32) -> Outcome
+    ensures { λ r. ⌜ gives r (now (words .exit)) (now (slots .entry)) ≡ plays-with-lock 110 (to-poll client) (lent (now (words .entry)) (now (slots .entry))) ⌝ }
+{
+    let r = entry_recovery::poll(words, slots, client);
+    answered_with_lock(b'n', polled_numbers(r))
+}
+
+// What a line asks is done. The name is what stands in the line from its place on.
+pub fn perform(words: &mut [u32], slots: &mut [u8], line: &[u8], command: Command) -> Outcome
+    requires { ⌜ name-start command ≤ length (now line) ⌝ }
+    ensures { λ r. ⌜ gives r (now (words .exit)) (now (slots .exit)) ≡ played (meaning (now (line .entry)) command) (lent (now (words .entry)) (now (slots .entry))) ⌝ }
+{
+    match command {
+        Command::Request(client, mode, flags, name) => {
+            request_line(words, slots, client, mode, flags, &line[name..])
+        }
+        Command::Convert(client, lock, mode, flags) => {
+            convert_line(words, slots, client, lock, mode, flags)
+        }
+        Command::Release(client, lock, flags) => release_line(words, slots, client, lock, flags),
+        Command::Cancel(client, lock) => cancel_line(words, slots, client, lock),
+        Command::Purge(client) => purge_line(words, slots, client),
+        Command::Break => break_line(words, slots),
+        Command::Poll(client) => poll_line(words, slots, client),
+        Command::Malformed => Outcome::Unknown,
+    }
+}

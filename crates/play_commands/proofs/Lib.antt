@@ -1,0 +1,4 @@
+pub mod FormLaws
+pub mod FormReturns
+pub mod Letters
+pub mod Examples

@@ -1,0 +1,144 @@
+-- Laws of gathering lines: what one byte does in the code, and that bytes fed one by one give the input's lines.
+use Prim.Native.Nat.{ℕ, suc, _+_, _≤_, _<_}
+use mathlib.Core.Bool.{Bool, true, false, cond}
+use mathlib.Core.Path.{_≡_, refl, sym, ap, _∙_}
+use mathlib.Core.List.{List, [], _∷_, _++_, map, append-assoc, append-nil}
+use native.Mathlib.Numerals.{add-one}
+use native.Mathlib.Omega.{arith}
+use borrow.Author.Tests.{eq-eqb, ne-eqb, lt-ltb, le-ltb, le-leb, ltb-true, ltb-false}
+use borrow.Author.Needs.{needs}
+use lib.Dec.{eqb, ltb, leb}
+use lib.ListN.{length, take, set, length-append, length-set}
+use lib.Seq.{take-suc-set, length-take-le, take-all, take-append-le}
+use Rattle.play_commands.specs.Forms.{meant, Says}
+use Rattle.play_lines.specs.InputLines.{in-front, lines, kept, meant-kept, longer, keeps, comes, Room, Feeds, line-in, begun, gives}
+use Rattle.play_commands.specs.declared.Command.{Command}
+use Rattle.play_commands.specs.declared.Command.the-variants.{Malformed}
+use Rattle.play_lines.specs.declared.Line.{Line}
+use Rattle.play_lines.specs.declared.Fed.{Fed}
+use Rattle.play_lines.specs.declared.Fed.the-variants.{More, Whole}
+use Rattle.play_numbers.proofs.Basics.{by-cases}
+use Rattle.play_commands.proofs.FormLaws.{none}
+
+-- one byte in the code
+module _ (xs : List ℕ) (s : Line) (b : ℕ) (h : Room xs s) where
+  pub feeds-whole : b ≡ 10 → Feeds xs s b xs (Whole s)
+  unfolding comes
+  feeds-whole e = record { right = rw (eq-eqb b 10 e); room = h; long = refl }
+
+  kept-long : length (take (s .len) xs) ≡ s .len
+  kept-long = length-take-le (s .len) xs (omega arith)
+
+  module _ (e : b ≡ 10 → ⊥) where
+    pub feeds-more : s .len < 256 → Feeds xs s b (set xs (s .len) b) (More (record { len = s .len + 1; over = s .over }))
+    unfolding comes longer
+    feeds-more k =
+        let i : s .len < length xs = omega arith in
+        let l : length (set xs (s .len) b) ≡ length xs = length-set xs (s .len) b in
+        record {
+          right = rw (ne-eqb b 10 e, kept-long, lt-ltb (s .len) 256 k, add-one (s .len), take-suc-set xs (s .len) b i);
+          room = record { buffer = omega arith; line = omega arith };
+          long = l;
+        }
+
+    pub feeds-over : 256 ≤ s .len → Feeds xs s b xs (More (record { len = s .len; over = true }))
+    unfolding comes longer
+    feeds-over k =
+        record { right = rw (ne-eqb b 10 e, kept-long, le-ltb (s .len) 256 k); room = record { buffer = h .buffer; line = h .line }; long = refl }
+
+pub begun-len : (s : Line) (xs : List ℕ) → Room xs s → leb 1 (s .len) ≡ begun (keeps xs s)
+begun-len s xs h = rw (length-take-le (s .len) xs (omega arith))
+
+-- room for the next byte, or for a new line
+pub room-more : (xs : List ℕ) {r : Fed} {s : Line} → r ≡ More s → Room xs (line-in r) → Room xs s
+room-more xs e h = rw e at h
+
+pub room-whole : (xs : List ℕ) {r : Fed} {s : Line} → r ≡ Whole s → Room xs (line-in r) → Room xs s
+room-whole xs e h = rw e at h
+
+pub room-start : (xs : List ℕ) (s : Line) → 256 ≤ length xs → s .len ≡ 0 → Room xs s
+room-start xs s h e = record { buffer = h; line = omega arith }
+
+-- the command of a gathered line
+module _ (xs : List ℕ) (s : Line) where
+  pub gathered-over : s .over ≡ true → Says (take (s .len) xs) Malformed (meant-kept (keeps xs s))
+  unfolding meant-kept
+  gathered-over e = rw e (none (take (s .len) xs))
+
+  pub gathered-line : {r : Command} → s .over ≡ false → Says (take (s .len) xs) r (meant (take (s .len) xs)) → Says (take (s .len) xs) r (meant-kept (keeps xs s))
+  unfolding meant-kept
+  gathered-line e w = rw e w
+
+  pub gathered-long : Room xs s → s .len ≡ length (take (s .len) xs)
+  gathered-long h = sym (length-take-le (s .len) xs (omega arith))
+
+-- a new line
+pub keeps-none : (xs : List ℕ) (s : Line) → s .len ≡ 0 → s .over ≡ false → keeps xs s ≡ kept []
+keeps-none xs s e f = λ i. record { bytes = (let q : take (s .len) xs ≡ [] = rw e in q) i; over = f i }
+
+-- what is kept of a line means what the line does
+pub kept-means : (xs : List ℕ) → meant-kept (kept xs) ≡ meant xs
+unfolding meant-kept meant
+kept-means xs =
+    by-cases (ltb 256 (length xs))
+    (λ t. rw t)
+    (λ t. let h : length xs ≤ 256 = ltb-false 256 (length xs) t in rw (take-all 256 xs h, t))
+
+-- one byte more is kept as of the line with one byte more
+pub kept-longer : (xs : List ℕ) (b : ℕ) → longer (kept xs) b ≡ kept (xs ++ (b ∷ []))
+unfolding longer
+kept-longer xs b =
+    let n : length (xs ++ (b ∷ [])) ≡ length xs + 1 = length-append xs (b ∷ []) in
+    by-cases (ltb (length xs) 256)
+    (λ t.
+    let h : length xs < 256 = ltb-true (length xs) 256 t in
+    let o : ltb 256 (length xs) ≡ false = le-ltb 256 (length xs) (omega arith) in
+    let p : ltb 256 (length xs + 1) ≡ false = le-ltb 256 (length xs + 1) (omega arith) in
+    let q : take 256 xs ≡ xs = take-all 256 xs (omega arith) in
+    let u : take 256 (xs ++ (b ∷ [])) ≡ xs ++ (b ∷ []) = take-all 256 (xs ++ (b ∷ [])) (omega arith) in
+    rw (q, u, n, o, p, t))
+    (λ t.
+    let h : 256 ≤ length xs = ltb-false (length xs) 256 t in
+    let m : length (take 256 xs) ≡ 256 = length-take-le 256 xs h in
+    let p : ltb 256 (length xs + 1) ≡ true = lt-ltb 256 (length xs + 1) (omega arith) in
+    let u : take 256 (xs ++ (b ∷ [])) ≡ take 256 xs = take-append-le 256 xs (b ∷ []) h in
+    rw (u, n, p, m))
+
+-- the lines whose first has xs in front
+front : List ℕ → List (List ℕ) → List (List ℕ)
+front xs [] = cond (leb 1 (length xs)) (xs ∷ []) []
+front xs (l ∷ ls) = (xs ++ l) ∷ ls
+
+front-none : (ls : List (List ℕ)) → front [] ls ≡ ls
+unfolding front
+front-none [] = refl
+front-none (l ∷ ls) = refl
+
+front-more : (xs : List ℕ) (b : ℕ) (ls : List (List ℕ)) → front xs (in-front b ls) ≡ front (xs ++ (b ∷ [])) ls
+unfolding front
+front-more xs b [] =
+    let n : length (xs ++ (b ∷ [])) ≡ length xs + 1 = length-append xs (b ∷ []) in
+    rw (le-leb 1 (length (xs ++ (b ∷ []))) (omega arith))
+front-more xs b (l ∷ ls) = ap (λ m. m ∷ ls) (sym (append-assoc xs (b ∷ []) l))
+
+kept-begun : (xs : List ℕ) → begun (kept xs) ≡ leb 1 (length xs)
+kept-begun [] = refl
+kept-begun (x ∷ xs) = le-leb 1 (suc (length (take 255 xs))) (omega arith) ∙ sym (le-leb 1 (suc (length xs)) (omega arith))
+
+map-begun : (t : Bool) (xs : List ℕ) → cond t (kept xs ∷ []) [] ≡ map kept (cond t (xs ∷ []) [])
+map-begun true xs = refl
+map-begun false xs = refl
+
+gives-front : (bs xs : List ℕ) → gives bs (kept xs) ≡ map kept (front xs (lines bs))
+unfolding gives lines front comes
+gives-front [] xs = rw (kept-begun xs) (map-begun (leb 1 (length xs)) xs)
+gives-front (b ∷ bs) xs =
+    by-cases (eqb b 10)
+    (λ t. rw (t, append-nil xs) (ap (λ l. kept xs ∷ l) (gives-front bs [] ∙ ap (map kept) (front-none (lines bs)))))
+    (λ t. rw (t, kept-longer xs b, front-more xs b (lines bs)) (gives-front bs (xs ++ (b ∷ []))))
+
+-- bytes fed one by one give the lines of the input
+pub gives-lines : (bs : List ℕ) → gives bs (kept []) ≡ map kept (lines bs)
+gives-lines bs = gives-front bs [] ∙ ap (map kept) (front-none (lines bs))
+
+pub ruleset gather-rules = (needs, feeds-whole, feeds-more, feeds-over, begun-len, gathered-over, gathered-line, gathered-long)

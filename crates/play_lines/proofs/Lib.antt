@@ -1,0 +1,2 @@
+pub mod FedBytes
+pub mod Examples

@@ -1,0 +1,83 @@
+-- The lines of an input, and a line that is gathered byte by byte.
+use Prim.Native.Nat.{ℕ, _≤_}
+use mathlib.Core.Path.{_≡_}
+use mathlib.Core.Bool.{Bool, true, cond}
+use mathlib.Core.List.{List, [], _∷_, _++_}
+use lib.Dec.{eqb, ltb, leb}
+use lib.ListN.{length, take}
+use Rattle.play_commands.specs.Forms.{Meaning, malformed, meant}
+use Rattle.play_lines.specs.declared.Line.{Line}
+use Rattle.play_lines.specs.declared.Fed.{Fed}
+use Rattle.play_lines.specs.declared.Fed.the-variants.{More, Whole}
+
+-- a byte in front of the first line; where there is none, the first line
+abbrev pub in-front : ℕ → List (List ℕ) → List (List ℕ)
+in-front b [] = (b ∷ []) ∷ []
+in-front b (l ∷ ls) = (b ∷ l) ∷ ls
+
+-- "a line runs to byte 10 or the end of input; after a last byte 10 there is no further line"
+unfoldable pub lines : List ℕ → List (List ℕ)
+lines [] = []
+lines (b ∷ bs) = let rest = lines bs in cond (eqb b 10) ([] ∷ rest) (in-front b rest)
+
+-- what is kept of a line: its first 256 bytes, and whether there are more
+pub record Kept : Type 0 where
+  pub bytes : List ℕ
+  pub over : Bool
+
+abbrev pub kept : List ℕ → Kept
+kept line = record { bytes = take 256 line; over = ltb 256 (length line) }
+
+-- what it means
+unfoldable pub meant-kept : Kept → Meaning
+meant-kept k = cond (k .over) malformed (meant (k .bytes))
+
+-- one byte more
+unfoldable pub longer : Kept → ℕ → Kept
+longer k b = cond (ltb (length (k .bytes)) 256) (record { bytes = k .bytes ++ (b ∷ []); over = k .over }) (record { bytes = k .bytes; over = true })
+
+-- what the code's buffer and line keep
+abbrev pub keeps : List ℕ → Line → Kept
+keeps buffer s = record { bytes = take (s .len) buffer; over = s .over }
+
+-- a byte came: byte 10 makes the line whole, any other makes it longer
+pub data Came : Type 0 where
+  whole : Kept → Came
+  more : Kept → Came
+
+unfoldable pub comes : Kept → ℕ → Came
+comes k b = cond (eqb b 10) (whole k) (more (longer k b))
+
+-- what the code's answer says of a byte that came
+abbrev pub came : List ℕ → Fed → Came
+came buffer (Whole s) = whole (keeps buffer s)
+came buffer (More s) = more (keeps buffer s)
+
+abbrev pub line-in : Fed → Line
+line-in (Whole s) = s
+line-in (More s) = s
+
+-- the buffer has 256 bytes or more, and the line's bytes are among its first 256
+pub record Room (xs : List ℕ) (s : Line) : Type 0 where
+  pub buffer : 256 ≤ length xs
+  pub line : s .len ≤ 256
+
+-- with the byte b the buffer xs, of the line s, became ys, and r was answered
+pub record Feeds (xs : List ℕ) (s : Line) (b : ℕ) (ys : List ℕ) (r : Fed) : Type 0 where
+  pub right : came ys r ≡ comes (keeps xs s) b
+  pub room : Room ys (line-in r)
+  pub long : length ys ≡ length xs
+
+-- some bytes came that no byte 10 has ended
+abbrev pub begun : Kept → Bool
+begun k = leb 1 (length (k .bytes))
+
+-- the lines that bytes give, fed one by one: k is kept so far, a whole line is followed by a new one, and what is
+-- begun at the end is a line
+abbrev pub given : Came → (Kept → List Kept) → List Kept
+given (whole k) on = k ∷ on (kept [])
+given (more k) on = on k
+
+unfoldable pub gives : List ℕ → Kept → List Kept
+gives [] k = cond (begun k) (k ∷ []) []
+gives (b ∷ bs) k = given (comes k b) (gives bs)

@@ -1,0 +1,44 @@
+-- Fresh tables, and a gathered line: what it means is played.
+use mathlib.Core.Path.{_≡_, ap, _∙_}
+use mathlib.Core.Bool.{true}
+use mathlib.Core.List.{List}
+use Prim.Native.Nat.{ℕ, _≤_}
+use native.Mathlib.Omega.{arith}
+use borrow.Author.Tests.{eq-eqb}
+use borrow.Author.Needs.{needs}
+use lib.ListN.{length, take}
+use lib.Seq.{length-take-le}
+use Rattle.rules.specs.Entries.{start-accepts, start-if, start-entry}
+use Rattle.rules.specs.Theorem.{Lent}
+use Rattle.answers.specs.declared.Done.{Done}
+use Rattle.answers.specs.Answers.{done, outcome}
+use Rattle.play_commands.specs.declared.Command.{Command}
+use Rattle.play_lines.specs.declared.Line.{Line}
+use Rattle.play_commands.specs.Forms.{meaning, name-start, Says}
+use Rattle.play_lines.specs.InputLines.{keeps, Room, meant-kept}
+use Rattle.play_calls.specs.Plays.{Played, played, lent}
+use Rattle.play_session.specs.Sessions.{Lengths, fresh}
+
+-- start accepts lockplay's sizes
+pub started-fresh : (ws ss ds es : List ℕ) (r : Done) → Lengths ws ss → outcome (done r) ds es ≡ start-entry ws ss 4 8 → lent ds es ≡ fresh
+unfolding start-entry start-if start-accepts
+started-fresh ws ss ds es r h e =
+    let q : start-entry ws ss 4 8 ≡ start-if true ws ss 4 8 =
+    rw (eq-eqb (length ws) 112 (h .words-long), eq-eqb (length ss) 384 (h .slots-long))
+    in
+    λ i. record { words = (e ∙ q) i .words; slots = (e ∙ q) i .slots }
+
+pub ruleset start-rules = (needs, started-fresh)
+
+-- a gathered line
+module _ (xs : List ℕ) (s : Line) {r : Command} where
+  pub gathered-within : {m : _} → Says (take (s .len) xs) r m → name-start r ≤ length (take (s .len) xs)
+  gathered-within w = w .within
+
+  pub gathered-played : (t : Lent) {p : Played} → Says (take (s .len) xs) r (meant-kept (keeps xs s)) → p ≡ played (meaning (take (s .len) xs) r) t → p ≡ played (meant-kept (keeps xs s)) t
+  gathered-played t w q = q ∙ ap (λ m. played m t) (w .means)
+
+pub gathered-long : (xs : List ℕ) (s : Line) → Room xs s → s .len ≡ length (take (s .len) xs)
+gathered-long xs s h = rw (length-take-le (s .len) xs (omega arith))
+
+pub ruleset gathered-rules = (needs, gathered-within, gathered-played, gathered-long)

@@ -1,0 +1,3 @@
+pub mod GatheredLine
+pub mod Sessions
+pub mod Chunks

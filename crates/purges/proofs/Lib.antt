@@ -1,5 +1,0 @@
-pub mod Ahead
-pub mod Spoiling
-pub mod Purging
-pub mod Settling
-pub mod Changing

@@ -1,2 +1,0 @@
-pub mod Purging
-pub mod Settling

@@ -1,4 +1,0 @@
-pub mod Runs
-pub mod Tests
-pub mod Passing
-pub mod Standing

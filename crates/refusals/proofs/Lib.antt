@@ -1,4 +1,0 @@
-pub mod Placing
-pub mod Standing
-pub mod Arguments
-pub mod Rooming

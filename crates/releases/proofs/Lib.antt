@@ -1,3 +1,0 @@
-pub mod Locks
-pub mod Releasing
-pub mod Restoring

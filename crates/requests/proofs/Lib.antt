@@ -1,3 +1,0 @@
-pub mod Housing
-pub mod Entering
-pub mod Requesting

@@ -1,0 +1,263 @@
+-- Started tables are valid; every call keeps a valid state valid, and says how many locks it takes and frees.
+use mathlib.Core.Path.{_≡_, refl, ap, _∙_}
+use mathlib.Core.Logic.{_≢_}
+use mathlib.Core.Bool.{Bool, true, false, _&&_, cond, and-true, and-false}
+use mathlib.Core.List.{List, [], _∷_}
+use Prim.Native.Nat.{ℕ, zero, suc, _+_, _≤_}
+use native.Mathlib.Omega.{arith}
+use lib.ListN.{length, replicate, length-replicate, getD-replicate}
+use lib.Dec.{eqb, eqb·suc-zero}
+use borrow.Author.Tests.{ltb-true}
+use Rattle.tables.specs.Lists.{nth, within, count, bit, keep, first-that, first, null, from}
+use Rattle.tables.specs.State.{Resource, Tables, no-lock, no-resource, lock, resource, started, converting, LockChain, chain, belongs, grants, converts, waits, free-locks, denied, blocked, notices, queue}
+use Rattle.tables.specs.Grants.{admits}
+use Rattle.tables.proofs.Cases.{by-cases, clash}
+use Rattle.tables.proofs.Counts.{nth-out, count-nil, count-from}
+use Rattle.tables.proofs.Valid.{used, line, idle, Valid}
+use Rattle.rules.specs.Queues.{find}
+use Rattle.rules.specs.Deadlock.{victim}
+use Rattle.rules.specs.Calls.{Step, refused-or, resource-for, with-resource, request-on, request-change, request-refusal, request, in-place, convert-change, convert-refusal, convert, release-change, release-refusal, release, cancel-change, cancel-refusal, cancel, purge-change, purge-refusal, purge, deny-victim, break, poll-notice, poll-change, poll-refusal, poll}
+use Rattle.rules.specs.Entries.{Call, step-of, to-request, to-convert, to-release, to-cancel, to-purge, to-break, to-poll}
+use Rattle.rules.specs.Theorem.{requests, releases, cancelled, purged, polled-denials}
+use Rattle.rules.proofs.ResourceChanges.{no-value-length}
+use Rattle.rules.proofs.AcceptedCalls.{Requestable, Releasable, Convertible, Cancellable, Purgeable, request-passed, convert-passed, release-passed, cancel-passed, purge-passed}
+use Rattle.rules.proofs.CallsKeepSound.{After, release-after, cancel-after, poll-after, break-after, convert-after}
+use Rattle.rules.proofs.RequestKeepsSound.{request-after}
+use Rattle.rules.proofs.PurgeKeepsSound.{purge-after}
+use Rattle.rules.proofs.ChainLengths.{used-locks, release-count, cancel-count, convert-count, poll-count, break-count, purge-count, request-count}
+
+fresh : {A : Type 0} (d : A) (n k : ℕ) → nth (replicate n d) k d ≡ d
+fresh d n k =
+    by-cases (within (length (replicate n d)) k)
+    (λ w. inside k w)
+    (λ w. nth-out d (replicate n d) k w)
+  where
+    inside : (k : ℕ) → within (length (replicate n d)) k ≡ true → nth (replicate n d) k d ≡ d
+    inside zero w = refl
+    inside (suc k) w = getD-replicate n k d d (rw (length-replicate n d) at (ltb-true k (length (replicate n d)) w))
+
+keep-none : (p : ℕ → Bool) (xs : List ℕ) → ((j : ℕ) → p j ≡ false) → keep p xs ≡ []
+unfolding keep
+keep-none p [] h = refl
+keep-none p (x ∷ xs) h = rw (h x) (keep-none p xs h)
+
+module _ (r l : ℕ) where
+  started-lock : (k : ℕ) → lock (started r l) k ≡ no-lock
+  unfolding lock started
+  started-lock k = fresh no-lock l k
+
+  started-resource : (s : ℕ) → resource (started r l) s ≡ no-resource
+  unfolding resource started
+  started-resource s = fresh no-resource r s
+
+  none : (c : LockChain) (k : ℕ) → chain (started r l) c ≡ [] → belongs c no-lock ≡ false → count k (chain (started r l) c) ≡ bit (within (length (started r l .locks)) k && belongs c (lock (started r l) k))
+  none c k e b = rw (started-lock k, b, and-false, e) (count-nil k)
+
+  started-linked : (c : LockChain) (k : ℕ) → count k (chain (started r l) c) ≡ bit (within (length (started r l .locks)) k && belongs c (lock (started r l) k))
+  started-linked free-locks k = rw (started-lock k, and-true) (unfold started in count-from l k ∙ rw (length-replicate l no-lock))
+  started-linked denied k = none denied k (unfold started in refl) refl
+  started-linked blocked k = none blocked k (unfold started in refl) refl
+  started-linked notices k = none notices k (unfold started in refl) refl
+  started-linked (queue s grants) k = none (queue s grants) k (ap (λ (x : Resource). x .grant) (started-resource s)) refl
+  started-linked (queue s converts) k = none (queue s converts) k (ap (λ (x : Resource). x .convert) (started-resource s)) refl
+  started-linked (queue s waits) k = none (queue s waits) k (ap (λ (x : Resource). x .wait) (started-resource s)) refl
+
+  unused : (s : ℕ) → used (started r l) s ≡ false
+  unfolding used
+  unused s = rw (started-resource s)
+
+  started-idle : (s : ℕ) → idle (started r l) s (line (started r l) s) ≡ true
+  unfolding line idle
+  started-idle s = rw (started-resource s)
+
+  started-spare : (s : ℕ) → count s (started r l .free-resources) ≡ bit (within (length (started r l .resources)) s && null (resource (started r l) s .name))
+  started-spare s = rw (started-resource s, and-true) (unfold started in count-from r s ∙ rw (length-replicate r no-resource))
+
+  sizes : (length (started r l .locks) ≡ l) × (length (started r l .resources) ≡ r)
+  unfolding started
+  sizes = (length-replicate l no-lock, length-replicate r no-resource)
+
+  pub started-valid : 1 ≤ r → r ≤ 256 → 1 ≤ l → l ≤ 1024 → Valid (started r l)
+  started-valid a b c d =
+      record {
+        core = record {
+          resources-low = rw (sizes .1) a;
+          resources-high = rw (sizes .1) b;
+          locks-low = rw (sizes .0) c;
+          locks-high = rw (sizes .0) d;
+          linked = started-linked;
+          spare = started-spare;
+          lock-ok = λ k. rw (started-lock k) refl;
+          resource-ok = λ s. rw (started-resource s) (record { name-length = omega arith; value-length = no-value-length; flag = omega arith; unused = λ z. refl; unused-value = λ z. refl });
+          names = λ s s′ n u. clash (used (started r l) s) u (unused s);
+          agree = λ j k n h. clash false (rw (started-lock j) at h) refl;
+        };
+        settled = λ s. record { still = started-idle s; peopled = λ u. clash (used (started r l) s) u (unused s) };
+      }
+
+  pub started-none : used-locks (started r l) ≡ 0
+  unfolding used-locks
+  started-none = ap length (keep-none _ (from 1 (length (started r l .locks))) (λ k. rw (started-lock k)))
+
+-- what a call adds to the two sides of the sum: requests accepted; releases, requests cancelled, locks purged, polled denials
+abbrev pub gains : Call → Step → ℕ
+gains c s = requests c (s .refusal) (s .answer)
+
+abbrev pub losses : Call → Step → ℕ
+losses c s =
+    releases c (s .refusal) (s .answer) + cancelled c (s .refusal) (s .answer) + purged c (s .refusal) (s .answer) + polled-denials c (s .refusal) (s .answer)
+
+-- what a call leaves of a valid state t
+pub record Kept (c : Call) (t : Tables) (s : Step) : Type 0 where
+  pub valid : Valid (s .tables)
+  pub resources-are : length (s .tables .resources) ≡ length (t .resources)
+  pub locks-are : length (s .tables .locks) ≡ length (t .locks)
+  pub unchanged : s .refusal ≢ 0 → s .tables ≡ t
+  pub no-answer : s .refusal ≢ 0 → s .answer ≡ 0
+  pub no-number : s .refusal ≢ 0 → s .number ≡ 0
+  pub balance : used-locks (s .tables) + losses c s ≡ used-locks t + gains c s
+
+accepted-kept : (c : Call) (t : Tables) (s : Step) (fs : List ℕ) → s .refusal ≡ 0 → After t (s .tables) fs →
+    used-locks (s .tables) + losses c s ≡ used-locks t + gains c s → Kept c t s
+accepted-kept c t s fs e a b =
+    record {
+      valid = a .valid;
+      resources-are = a .resources-are;
+      locks-are = a .locks-are;
+      unchanged = λ z. absurd (z e);
+      no-answer = λ z. absurd (z e);
+      no-number = λ z. absurd (z e);
+      balance = b;
+    }
+
+-- a refused call adds nothing
+nothing : (n : ℕ) (c : Call) (t : Tables) →
+    used-locks t + losses c (record { refusal = suc n; answer = 0; number = 0; tables = t }) ≡ used-locks t + gains c (record { refusal = suc n; answer = 0; number = 0; tables = t })
+unfolding requests releases cancelled purged polled-denials
+nothing n (to-request c m f x) t = rw (eqb·suc-zero n)
+nothing n (to-convert c k m f v) t = refl
+nothing n (to-release c k f v) t = rw (eqb·suc-zero n)
+nothing n (to-cancel c k) t = refl
+nothing n (to-purge c) t = refl
+nothing n to-break t = refl
+nothing n (to-poll c) t = refl
+
+refused-kept : (c : Call) (t : Tables) (n : ℕ) (s : Step) → Valid t → (n ≡ 0 → Kept c t s) → Kept c t (refused-or n s t)
+unfolding refused-or
+refused-kept c t zero s val h = h refl
+refused-kept c t (suc n) s val h =
+    record {
+      valid = val;
+      resources-are = refl;
+      locks-are = refl;
+      unchanged = λ z. refl;
+      no-answer = λ z. refl;
+      no-number = λ z. refl;
+      balance = nothing n c t;
+    }
+
+-- REQUEST
+pub request-accepted : (c m : ℕ) (n : List ℕ) (t : Tables) → request-change c m n t .refusal ≡ 0
+unfolding request-change
+request-accepted c m n t = on (resource-for (find n t) t) (first (t .free-locks)) (with-resource (find n t) n t)
+  where
+    on : (r k : ℕ) (t′ : Tables) → request-on r k c m t′ .refusal ≡ 0
+    on r k t′ = unfold request-on in by-cases (admits t′ r m) (λ h. rw (h, request-on)) (λ h. rw (h, request-on))
+
+requested : (c m f : ℕ) (n : List ℕ) (t : Tables) → Requestable c m n t → Kept (to-request c m f n) t (request-change c m n t)
+unfolding requests releases cancelled purged polled-denials
+requested c m f n t p =
+    accepted-kept (to-request c m f n) t (request-change c m n t) _ (request-accepted c m n t)
+    (request-after c m n t (p .valid) (p .client-low) (p .client-high) (p .mode) (p .some) (p .short) (p .room) (p .lock-left))
+    (rw (request-accepted c m n t) (omega (arith, request-count t (p .valid) c m n (p .client-low) (p .client-high) (p .mode) (p .some) (p .short) (p .room) (p .lock-left))))
+
+-- CONVERT
+pub convert-accepted : (k m f : ℕ) (v : List ℕ) (t : Tables) → convert-change k m f v t .refusal ≡ 0
+unfolding convert-change
+convert-accepted k m f v t = by-cases (in-place k m t) (λ h. rw (h, convert-change)) (λ h. rw (h, convert-change))
+
+converted : (c k m f : ℕ) (v : List ℕ) (t : Tables) → Convertible k m f v t → Kept (to-convert c k m f v) t (convert-change k m f v t)
+unfolding requests releases cancelled purged polled-denials
+converted c k m f v t p =
+    accepted-kept (to-convert c k m f v) t (convert-change k m f v t) _ (convert-accepted k m f v t)
+    (convert-after k m f v t (p .valid) (p .is-granted) (p .mode) (p .right)) (omega (arith, convert-count t (p .valid) k m f v (p .is-granted) (p .mode) (p .right)))
+
+-- RELEASE
+pub release-accepted : (k f : ℕ) (v : List ℕ) (t : Tables) → release-change k f v t .refusal ≡ 0
+unfolding release-change
+release-accepted k f v t = refl
+
+let-go : (c k f : ℕ) (v : List ℕ) (t : Tables) → Releasable k f v t → Kept (to-release c k f v) t (release-change k f v t)
+unfolding requests releases cancelled purged polled-denials
+let-go c k f v t p =
+    accepted-kept (to-release c k f v) t (release-change k f v t) _ (release-accepted k f v t)
+    (release-after k f v t (p .valid) (p .is-granted) (p .right)) (rw (release-accepted k f v t) (omega (arith, release-count t (p .valid) k f v (p .is-granted) (p .right))))
+
+-- CANCEL
+pub cancel-accepted : (k : ℕ) (t : Tables) → cancel-change k t .refusal ≡ 0
+unfolding cancel-change
+cancel-accepted k t = by-cases (converting (lock t k)) (λ h. rw (h, cancel-change)) (λ h. rw (h, cancel-change))
+
+cancel-answer : (k : ℕ) (t : Tables) → _≡_ {A = ℕ} (bit (eqb (cancel-change k t .answer) 2)) (cond (converting (lock t k)) 0 1)
+unfolding cancel-change
+cancel-answer k t = by-cases (converting (lock t k)) (λ h. rw (h, cancel-change)) (λ h. rw (h, cancel-change))
+
+given-up : (c k : ℕ) (t : Tables) → Cancellable k t → Kept (to-cancel c k) t (cancel-change k t)
+unfolding requests releases cancelled purged polled-denials
+given-up c k t p =
+    accepted-kept (to-cancel c k) t (cancel-change k t) _ (cancel-accepted k t)
+    (cancel-after k t (p .valid) (p .is-blocked)) (rw (cancel-answer k t) (omega (arith, cancel-count t (p .valid) k (p .is-blocked))))
+
+-- PURGE
+pub purge-accepted : (c : ℕ) (t : Tables) → purge-change c t .refusal ≡ 0
+unfolding purge-change
+purge-accepted c t = refl
+
+cleared : (c : ℕ) (t : Tables) → Purgeable c t → Kept (to-purge c) t (purge-change c t)
+unfolding requests releases cancelled purged polled-denials
+cleared c t p =
+    accepted-kept (to-purge c) t (purge-change c t) _ (purge-accepted c t) (purge-after c t (p .client-low) (p .valid))
+    (omega (arith, purge-count t (p .valid) c (p .client-low)))
+
+-- BREAK
+pub break-accepted : (t : Tables) → break t .refusal ≡ 0
+unfolding break
+break-accepted t = go (victim t)
+  where
+    go : (n : ℕ) → deny-victim n t .refusal ≡ 0
+    go zero = unfold deny-victim in refl
+    go (suc k) = unfold deny-victim in refl
+
+broken : (t : Tables) → Valid t → Kept to-break t (break t)
+unfolding requests releases cancelled purged polled-denials
+broken t val = accepted-kept to-break t (break t) _ (break-accepted t) (break-after t val) (omega (arith, break-count t val))
+
+-- POLL
+pub poll-accepted : (c : ℕ) (t : Tables) → poll-change c t .refusal ≡ 0
+unfolding poll-change
+poll-accepted c t = go (first-that (λ k. eqb (lock t k .client) c) (t .notices))
+  where
+    go : (n : ℕ) → poll-notice n t .refusal ≡ 0
+    go zero = unfold poll-notice in refl
+    go (suc k) = unfold poll-notice in refl
+
+bit-cond : (b : Bool) → _≡_ {A = ℕ} (bit b) (cond b 1 0)
+bit-cond true = refl
+bit-cond false = refl
+
+polled : (c : ℕ) (t : Tables) → Valid t → Kept (to-poll c) t (poll-change c t)
+unfolding requests releases cancelled purged polled-denials
+polled c t val =
+    accepted-kept (to-poll c) t (poll-change c t) _ (poll-accepted c t) (poll-after c t val)
+    (omega (arith, poll-count t val c, bit-cond (eqb (poll-change c t .answer) 2)))
+
+-- EVERY CALL
+pub stepped : (c : Call) (t : Tables) → Valid t → Kept c t (step-of c t)
+unfolding request convert release cancel purge poll
+stepped (to-request c m f n) t val = refused-kept (to-request c m f n) t (request-refusal c m f n t) (request-change c m n t) val (λ h. requested c m f n t (request-passed t val c m f n h))
+stepped (to-convert c k m f v) t val = refused-kept (to-convert c k m f v) t (convert-refusal c k m f v t) (convert-change k m f v t) val (λ h. converted c k m f v t (convert-passed t val c k m f v h))
+stepped (to-release c k f v) t val = refused-kept (to-release c k f v) t (release-refusal c k f v t) (release-change k f v t) val (λ h. let-go c k f v t (release-passed t val c k f v h))
+stepped (to-cancel c k) t val = refused-kept (to-cancel c k) t (cancel-refusal c k t) (cancel-change k t) val (λ h. given-up c k t (cancel-passed t val c k h))
+stepped (to-purge c) t val = refused-kept (to-purge c) t (purge-refusal c) (purge-change c t) val (λ h. cleared c t (purge-passed t val c h))
+stepped to-break t val = broken t val
+stepped (to-poll c) t val = refused-kept (to-poll c) t (poll-refusal c) (poll-change c t) val (λ h. polled c t val)

@@ -1,0 +1,198 @@
+-- A request keeps a state sound.
+use mathlib.Core.Path.{_≡_, refl, sym, ap, _∙_}
+use mathlib.Core.Logic.{_≢_}
+use mathlib.Core.Bool.{true, false, _||_, not}
+use mathlib.Core.List.{List, [], _∷_, _++_, append-assoc}
+use Prim.Native.Nat.{ℕ, zero, suc, _≤_}
+use native.Mathlib.Omega.{arith}
+use lib.ListN.{length, drop}
+use lib.Dec.{eqb, leb}
+use borrow.Author.Tests.{leb-true, leb-false, not-true}
+use Rattle.tables.specs.declared.Lock.{Lock}
+use Rattle.tables.specs.Lists.{within, count, remove, first, null, from, same}
+use Rattle.tables.specs.State.{Resource, Tables, no-lock, lock, resource, holds, LockChain, chain, shift, relist, move, move-resource, grants, converts, waits, free-locks, queue}
+use Rattle.tables.specs.Grants.{fits, admits}
+use Rattle.tables.proofs.Cases.{by-cases, clash, eqb-same, and-right, and-intro}
+use Rattle.tables.proofs.Counts.{count-same, remove-head, count-from, nil-of-counts, same-eq, same-refl, first-passes, first-none}
+use Rattle.tables.proofs.Valid.{used, LockOk, ok-at, Core, line, idle, Settled, Valid, absent, used-within, lock-same, resource-same, locks-length, Near, Fits, core-move}
+use Rattle.tables.proofs.ChainMembers.{and-bit, on-chain, chain-has, chain-once, on-grants, on-converts, on-waits, fits-true, wait-fits}
+use Rattle.rules.specs.Queues.{find}
+use Rattle.rules.specs.Calls.{new-resource, resource-for, with-resource, holding, queued, request-on, request-change}
+use Rattle.rules.proofs.ResourceChanges.{changed, resources-kept, used-changed, SameChains, core-resource, settled-kept, no-value-length}
+use Rattle.rules.proofs.CallsKeepSound.{After, free-taken, then-stop, full-of, granted-full, fits-alone, Grows, grows-move, head-still, head-new, still-stays}
+
+front-nil : (xs ys : List ℕ) → xs ++ ys ≡ [] → xs ≡ []
+front-nil [] ys e = refl
+front-nil (x ∷ xs) ys e = absurd (omega (arith, ap length e))
+
+-- a free lock enters on a resource in use
+module _ (t : Tables) (co : Core t) (r k c m : ℕ) (ks : List ℕ) (rest : (s : ℕ) → s ≢ r → Settled t s) (u : used t r ≡ true) (i : idle t r (line t r) ≡ true)
+    (frees : t .free-locks ≡ k ∷ ks) (low : 1 ≤ c) (high : c ≤ 255) (mode : m ≤ 5) where
+  mem : 1 ≤ count k (chain t free-locks)
+  mem = rw (frees, count-same) (omega arith)
+
+  w : within (length (t .locks)) k ≡ true
+  w = on-chain t (co .linked) free-locks k mem .0
+
+  none : lock t k ≡ no-lock
+  none = ok-at (used t) (lock t k) 0 (co .lock-ok k) (on-chain t (co .linked) free-locks k mem .1)
+
+  takes : (l : Lock) → eqb (l .state) 0 ≡ false → move r k l t .free-locks ≡ ks
+  takes l h =
+      free-taken r k l t (on-chain t (co .linked) free-locks k mem .1) h
+      ∙ ap (remove k) frees ∙ remove-head k ks (omega (arith, rw (frees, count-same) at (chain-once t (co .linked) free-locks k)))
+
+  grow : (l : Lock) → Grows t (move r k l t) r
+  grow l = grows-move t r k l w (λ o e. clash false (rw none at o) refl)
+
+  near : Near r (lock t k)
+  near z = absurd (z (ap (λ (l : Lock). l .resource) none))
+
+  -- it is compared with every held mode
+  alone : fits t r 0 m ≡ fits t r k m
+  alone = wait-fits t co r k m (rw none)
+
+  pub enter-granted : admits t r m ≡ true → After t (move r k (holding r c m) t) ks
+  unfolding admits
+  enter-granted h =
+      let l = holding r c m in
+      let ok : LockOk (used t) l = record {
+        place = record { in-use = u; client-low = low; client-high = high; held-mode = mode; asked-mode = omega arith };
+        asks = refl;
+        notice = omega arith;
+        not-denied = omega arith;
+      } in
+      let fit : holds l ≡ true → Fits t r k m = λ z. fits-true t (co .linked) r k m (sym alone ∙ and-right (null (resource t r .convert)) _ h) in
+      let c1 = core-move r k l t co w near (λ z. refl) ok fit in
+      then-stop t co r k l rest w near (λ z. refl) ok fit ks (takes l refl)
+      (record {
+        still = still-stays t co r k l c1 w (rw none) (grow l) (used-within t r u) refl i;
+        peopled = λ z. granted-full t r k l c1 w refl refl;
+      })
+
+  pub enter-waiting : admits t r m ≡ false → After t (move r k (queued r c m) t) ks
+  unfolding admits
+  enter-waiting h =
+      then-stop t co r k l rest w near (λ z. refl) ok fit ks (takes l refl)
+      (record {
+        still = go (line t r) refl;
+        peopled = λ z. full-of _ k (omega (arith, chain-has (move r k l t) (c1 .linked) (queue r waits) k (rw (locks-length r k l t) w) (rw (lock-same r k l t w, eqb-same r))));
+      })
+    where
+      l : Lock
+      l = queued r c m
+
+      ok : LockOk (used t) l
+      ok = record {
+        place = record { in-use = u; client-low = low; client-high = high; held-mode = omega arith; asked-mode = mode };
+        notice = refl;
+        holds = refl;
+      }
+
+      fit : holds l ≡ true → Fits t r k 0
+      fit z = clash false z refl
+
+      c1 : Core (move r k l t)
+      c1 = core-move r k l t co w near (λ z. refl) ok fit
+
+      joins : line (move r k l t) r ≡ line t r ++ (k ∷ [])
+      joins = unfold line relist shift in rw (resource-same r k l t (used-within t r u), none, append-assoc)
+
+      go : (qs : List ℕ) → line t r ≡ qs → idle (move r k l t) r (line (move r k l t) r) ≡ true
+      go [] e =
+          let z : resource t r .convert ≡ [] = front-nil _ (resource t r .wait) (unfold line in e) in
+          head-new t co r k l c1 w (rw none) (grow l) [] (joins ∙ rw e) (sym alone ∙ (rw z at h))
+      go (x ∷ xs) e = head-still t co r k l c1 w (rw none) (grow l) x xs (xs ++ (k ∷ [])) e (joins ∙ rw e) i
+
+-- a name that is found, and one that is not
+pub found : (n : List ℕ) (t : Tables) (r : ℕ) → find n t ≡ suc r → resource t (suc r) .name ≡ n
+unfolding find
+found n t r e = same-eq (resource t (suc r) .name) n (first-passes _ (from 1 (length (t .resources))) r e)
+
+pub missing : (n : List ℕ) (t : Tables) → find n t ≡ 0 → (s : ℕ) → within (length (t .resources)) s ≡ true → resource t s .name ≢ n
+unfolding find
+missing n t e s w q =
+    let has : 1 ≤ count s (from 1 (length (t .resources))) = rw (count-from (length (t .resources)) s, w) (omega arith) in
+    clash (same (resource t s .name) n) (rw (q, same-refl n))
+    (first-none (λ r. same (resource t r .name) n) (from 1 (length (t .resources))) e (count-from (length (t .resources)) 0) s has)
+
+-- a resource that is not in use has no locks
+pub unused-chains : (t : Tables) → Core t → (r : ℕ) → used t r ≡ false → (n : List ℕ) → SameChains (new-resource n) (resource t r)
+unused-chains t c r u n =
+    record {
+      grant = sym (nil-of-counts (resource t r .grant) (λ j. nobody-on (queue r grants) j (λ h. rw (on-grants t (c .linked) r j h .1) at (ok-at (used t) (lock t j) 1 (c .lock-ok j) (on-grants t (c .linked) r j h .0) .place .in-use))));
+      convert = sym (nil-of-counts (resource t r .convert) (λ j. nobody-on (queue r converts) j (λ h. rw (on-converts t (c .linked) r j h .1) at (ok-at (used t) (lock t j) 2 (c .lock-ok j) (on-converts t (c .linked) r j h .0) .place .in-use))));
+      wait = sym (nil-of-counts (resource t r .wait) (λ j. nobody-on (queue r waits) j (λ h. rw (on-waits t (c .linked) r j h .1) at (ok-at (used t) (lock t j) 3 (c .lock-ok j) (on-waits t (c .linked) r j h .0) .place .in-use))));
+    }
+  where
+    nobody-on : (x : LockChain) (j : ℕ) → (1 ≤ count j (chain t x) → used t r ≡ true) → count j (chain t x) ≡ 0
+    nobody-on x j h =
+        by-cases (leb 1 (count j (chain t x)))
+        (λ y. clash (used t r) (h (leb-true 1 (count j (chain t x)) y)) u)
+        (λ y. omega (arith, leb-false 1 (count j (chain t x)) y))
+
+pub first-member : (xs : List ℕ) → null xs ≡ false → 1 ≤ count (first xs) xs
+first-member [] h = clash true refl h
+first-member (x ∷ xs) h = rw count-same (omega arith)
+
+-- an accepted request takes the first free lock
+module _ (c m : ℕ) (n : List ℕ) (t : Tables) (val : Valid t) (low : 1 ≤ c) (high : c ≤ 255) (mode : m ≤ 5) (some : null n ≡ false) (short : length n ≤ 64) where
+  on-old : (r k : ℕ) (ks : List ℕ) → find n t ≡ suc r → t .free-locks ≡ k ∷ ks → After t (request-on (suc r) k c m t .tables) ks
+  unfolding request-on
+  on-old r k ks e frees =
+      let u : used t (suc r) ≡ true = unfold used in rw (found n t r e, some) in
+      by-cases (admits t (suc r) m)
+      (λ h. rw (h, request-on) (enter-granted t (val .core) (suc r) k c m ks (λ s i. val .settled s) u (val .settled (suc r) .still) frees low high mode h))
+      (λ h. rw (h, request-on) (enter-waiting t (val .core) (suc r) k c m ks (λ s i. val .settled s) u (val .settled (suc r) .still) frees low high mode h))
+
+  -- on a new name it is always granted
+  module _ (r : ℕ) (e : find n t ≡ 0) (spare : 1 ≤ count r (t .free-resources)) where
+    abbrev x : Resource
+    x = new-resource n
+
+    abbrev t0 : Tables
+    t0 = move-resource r x t
+
+    b : (within (length (t .resources)) r ≡ true) × (null (resource t r .name) ≡ true)
+    b = and-bit (within (length (t .resources)) r) (null (resource t r .name)) (rw (val .core .spare r) at spare)
+
+    same-chains : SameChains x (resource t r)
+    same-chains = unused-chains t (val .core) r (unfold used in rw (b .1)) n
+
+    new : (s : ℕ) → s ≢ r → null n ≡ false → n ≢ resource t s .name
+    new s i z q = by-cases (within (length (t .resources)) s) (λ h. missing n t e s h (sym q)) (λ h. clash (null n) (rw (q, absent t s h)) some)
+
+    core0 : Core t0
+    core0 = core-resource r x t (val .core) (b .0) same-chains
+        (record { name-length = short; value-length = no-value-length; flag = omega arith; unused = λ z. clash (null n) (rw z) some; unused-value = λ z. clash (null n) (rw z) some })
+        new (λ z. clash (null n) z some)
+
+    used0 : used t0 r ≡ true
+    used0 = used-changed r x t (b .0) ∙ (rw some)
+
+    line0 : line t0 r ≡ []
+    line0 = unfold line in rw (changed r x t (b .0))
+
+    pub new-admits : admits t0 r m ≡ true
+    unfolding admits
+    new-admits = and-intro (null (resource t0 r .convert)) (fits t0 r 0 m) (rw (changed r x t (b .0))) (fits-alone t0 r 0 m (rw (changed r x t (b .0))) (rw (changed r x t (b .0))))
+
+    moved-on : {t′ : Tables} {fs : List ℕ} → After t0 t′ fs → After t t′ fs
+    moved-on a = record { valid = a .valid; free-is = a .free-is; locks-are = a .locks-are ∙ (unfold move-resource in refl); resources-are = a .resources-are ∙ resources-kept r x t }
+
+    on-new : (k : ℕ) (ks : List ℕ) → t .free-locks ≡ k ∷ ks → After t (request-on r k c m (move-resource r (new-resource n) t) .tables) ks
+    unfolding request-on
+    on-new k ks frees =
+        rw (new-admits, request-on)
+        (moved-on (enter-granted t0 core0 r k c m ks (λ s i. settled-kept r x t (b .0) same-chains s i (val .settled s)) used0 (rw line0 (unfold idle in refl)) (unfold move-resource in frees) low high mode new-admits))
+
+  pub request-after : (not (eqb (find n t) 0) || not (null (t .free-resources))) ≡ true → null (t .free-locks) ≡ false →
+      After t (request-change c m n t .tables) (drop 1 (t .free-locks))
+  unfolding request-change resource-for with-resource
+  request-after room lock-left = go (find n t) (t .free-locks) refl refl room lock-left
+    where
+      go : (a : ℕ) (ks : List ℕ) → find n t ≡ a → t .free-locks ≡ ks → (not (eqb a 0) || not (null (t .free-resources))) ≡ true → null ks ≡ false →
+          After t (request-on (resource-for a t) (first ks) c m (with-resource a n t) .tables) (drop 1 ks)
+      go a [] e g y z = clash true refl z
+      go zero (k ∷ ks) e g y z = on-new (first (t .free-resources)) e (first-member (t .free-resources) (not-true (null (t .free-resources)) y)) k ks g
+      go (suc r) (k ∷ ks) e g y z = on-old r k ks e g

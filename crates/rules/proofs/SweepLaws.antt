@@ -1,0 +1,178 @@
+-- Granting and sweeping keep a state sound, and leave other resources as they were.
+use mathlib.Core.Path.{_≡_, refl, sym, _∙_}
+use mathlib.Core.Logic.{_≢_}
+use mathlib.Core.Bool.{true, false, and-true}
+use mathlib.Core.List.{List, [], _∷_, _++_}
+use Prim.Native.Nat.{ℕ, _+_, _≤_}
+use native.Mathlib.Omega.{arith}
+use lib.ListN.{length}
+use lib.Dec.{eqb}
+use Rattle.tables.specs.declared.Lock.{Lock}
+use Rattle.tables.specs.Lists.{put, count, remove, null}
+use Rattle.tables.specs.State.{Tables, lock, resource, converting, waiting, shift, shift-front, relist, move, converts, waits, queue}
+use Rattle.tables.specs.Grants.{convert-grantable, wait-grantable, empty}
+use Rattle.tables.proofs.Cases.{by-cases, eqb-same}
+use Rattle.tables.proofs.Counts.{count-same, count-append, remove-absent, remove-head, remove-append, shift-off}
+use Rattle.tables.proofs.Valid.{Core, line, idle, Settled, used-within, resource-same, locks-length, resources-length, Near, core-move}
+use Rattle.tables.proofs.ChainMembers.{fits-true, blocked-place, settled-other, line-once, not-granted, wait-behind, wait-head}
+use Rattle.rules.specs.Queues.{granted-lock, grant-lock, grant-while, grant-converts, grant-waits, sweep}
+
+module _ (t : Tables) (c : Core t) where
+  pub grant-core : (r k : ℕ) → 1 ≤ count k (line t r) → convert-grantable t r k ≡ true → Core (grant-lock r k t)
+  unfolding grant-lock granted-lock convert-grantable
+  grant-core r k m g =
+      let b = blocked-place t c r k m in
+      core-move r k (granted-lock (lock t k)) t c (b .2) (λ z. b .1) (λ z. b .1)
+      (record {
+        place = record { in-use = b .0 .in-use; client-low = b .0 .client-low; client-high = b .0 .client-high; held-mode = b .0 .asked-mode; asked-mode = omega arith };
+        asks = refl;
+        notice = omega arith;
+        not-denied = omega arith;
+      })
+      (λ z. rw (b .1) (fits-true t (c .linked) r k (lock t k .asked) g))
+
+  -- a blocked lock is granted: it leaves its chain
+  module _ (r k : ℕ) (m : 1 ≤ count k (line t r)) where
+    left : resource (grant-lock r k t) r ≡ relist k (lock t k) (granted-lock (lock t k)) (resource t r)
+    unfolding grant-lock
+    left = let b = blocked-place t c r k m in resource-same r k (granted-lock (lock t k)) t (used-within t r (rw (b .1) at (b .0 .in-use)))
+
+    pub grant-converts-left : resource (grant-lock r k t) r .convert ≡ remove k (resource t r .convert)
+    unfolding relist granted-lock
+    grant-converts-left =
+        let b = blocked-place t c r k m in
+        rw left (shift-off (converting (lock t k)) k (resource t r .convert) (c .linked (queue r converts) k ∙ rw (b .2, b .1, eqb-same r, and-true)))
+
+    pub grant-waits-left : resource (grant-lock r k t) r .wait ≡ remove k (resource t r .wait)
+    unfolding relist granted-lock
+    grant-waits-left =
+        let b = blocked-place t c r k m in
+        rw left (shift-off (waiting (lock t k)) k (resource t r .wait) (c .linked (queue r waits) k ∙ rw (b .2, b .1, eqb-same r, and-true)))
+
+  -- the head of the line is granted: the rest is the line
+  module _ (r k : ℕ) (ks : List ℕ) where
+    head-in : line t r ≡ k ∷ ks → 1 ≤ count k (line t r)
+    head-in e = rw (e, count-same) (omega arith)
+
+    once : line t r ≡ k ∷ ks → count k ks ≡ 0
+    once e = omega (arith, rw (e, count-same) at (line-once t c r k))
+
+    pub grant-line : line t r ≡ k ∷ ks → line (grant-lock r k t) r ≡ ks
+    unfolding line
+    grant-line e = rw (grant-converts-left r k (head-in e), grant-waits-left r k (head-in e), ← remove-append, e) (remove-head k ks (once e))
+
+-- what sweeping does
+pub record Swept (r : ℕ) (t t′ : Tables) : Type 0 where
+  pub core : Core t′
+  pub still : idle t′ r (line t′ r) ≡ true
+  pub others : (s : ℕ) → s ≢ r → Settled t s → Settled t′ s
+  pub peopled : empty (resource t r) ≡ false → empty (resource t′ r) ≡ false
+  pub free-same : t′ .free-locks ≡ t .free-locks
+  pub locks-same : length (t′ .locks) ≡ length (t .locks)
+  pub resources-same : length (t′ .resources) ≡ length (t .resources)
+
+-- a step before a sweep that leaves the other resources alone
+pub step-swept : (r k : ℕ) (m : Lock) (t t′ : Tables) → Core t → Near r (lock t k) → (empty (resource t r) ≡ false → empty (resource (move r k m t) r) ≡ false) →
+    move r k m t .free-locks ≡ t .free-locks → Swept r (move r k m t) t′ → Swept r t t′
+step-swept r k m t t′ c near full same s =
+    record {
+      core = s .core;
+      still = s .still;
+      others = λ q n h. s .others q n (settled-other t c r k m near q n h);
+      peopled = λ h. s .peopled (full h);
+      free-same = s .free-same ∙ same;
+      locks-same = s .locks-same ∙ locks-length r k m t;
+      resources-same = s .resources-same ∙ resources-length r k m t;
+    }
+
+pub free-kept : (r k : ℕ) (m : Lock) (t : Tables) → eqb (lock t k .state) 0 ≡ false → eqb (m .state) 0 ≡ false → move r k m t .free-locks ≡ t .free-locks
+unfolding move shift-front
+free-kept r k m t p q = rw (p, q)
+
+pub full-grant : (xs : List ℕ) (k : ℕ) → null (xs ++ (k ∷ [])) ≡ false
+full-grant [] k = refl
+full-grant (x ∷ xs) k = refl
+
+pub grant-full : (t : Tables) (c : Core t) (r k : ℕ) → 1 ≤ count k (line t r) → empty (resource (grant-lock r k t) r) ≡ false
+unfolding empty relist granted-lock shift
+grant-full t c r k m = rw (left t c r k m, not-granted t c r k m .0) (rw (full-grant (resource t r .grant) k))
+
+-- one loop over the line: convert heads, then wait heads, by the convert heads' test
+abbrev pub sweep-line : ℕ → List ℕ → Tables → Tables
+sweep-line r qs t = grant-while convert-grantable r qs t
+
+pub swept : (r : ℕ) (qs : List ℕ) (t : Tables) → Core t → line t r ≡ qs → Swept r t (sweep-line r qs t)
+unfolding grant-while grant-lock
+swept r [] t c e =
+    record { core = c; still = rw e (unfold idle in refl); others = λ s n h. h; peopled = λ h. h; free-same = refl; locks-same = refl; resources-same = refl }
+swept r (k ∷ ks) t c e =
+    let m : 1 ≤ count k (line t r) = rw (e, count-same) (omega arith) in
+    let l : Lock = granted-lock (lock t k) in
+    by-cases (convert-grantable t r k)
+    (λ g. rw (g, grant-while) (step-swept r k l t _ c (λ z. blocked-place t c r k m .1) (λ z. grant-full t c r k m) (free-kept r k l t (not-granted t c r k m .1) (unfold granted-lock in refl)) (swept r ks (grant-lock r k t) (grant-core t c r k m g) (grant-line t c r k ks e))))
+    (λ g. rw (g, grant-while) (record { core = c; still = rw e (unfold idle in rw g); others = λ s n h. h; peopled = λ h. h; free-same = refl; locks-same = refl; resources-same = refl }))
+
+-- the paper's two loops are that one: on an empty convert chain the tests are the same, and behind a convert head no wait head is granted
+waits-line : (r : ℕ) (ws : List ℕ) (t : Tables) → Core t → resource t r .convert ≡ [] → resource t r .wait ≡ ws →
+    grant-while wait-grantable r ws t ≡ sweep-line r ws t
+unfolding grant-while
+waits-line r [] t c e f = refl
+waits-line r (k ∷ ks) t c e f =
+    let i : 1 ≤ count k (resource t r .wait) = rw (f, count-same) (omega arith) in
+    let whole : line t r ≡ k ∷ ks = unfold line in rw (e, f) in
+    let m = head-in t c r k ks whole in
+    by-cases (convert-grantable t r k)
+    (λ g. rw (wait-head t c r k e i, g, grant-while)
+    (waits-line r ks (grant-lock r k t) (grant-core t c r k m g)
+    (grant-converts-left t c r k m ∙ rw e (unfold remove in refl))
+    (grant-waits-left t c r k m ∙ rw f (remove-head k ks (once t c r k ks whole)))))
+    (λ g. rw (wait-head t c r k e i, g, grant-while))
+
+held-up : (r j : ℕ) (js ws : List ℕ) (t : Tables) → resource t r .convert ≡ j ∷ js → grant-while wait-grantable r ws t ≡ t
+unfolding grant-while
+held-up r j js [] t e = refl
+held-up r j js (k ∷ ks) t e = rw (wait-behind t r k j js e, grant-while)
+
+loops-line : (r : ℕ) (cs ws : List ℕ) (t : Tables) → Core t → resource t r .convert ≡ cs → resource t r .wait ≡ ws →
+    grant-waits r (grant-while convert-grantable r cs t) ≡ sweep-line r (cs ++ ws) t
+unfolding grant-waits grant-while
+loops-line r [] ws t c e f = rw f (waits-line r ws t c e f)
+loops-line r (k ∷ ks) ws t c e f =
+    let whole : line t r ≡ k ∷ (ks ++ ws) = unfold line in rw (e, f) in
+    let m = head-in t c r k (ks ++ ws) whole in
+    let z : count k ks + count k ws ≡ 0 = sym (count-append k ks ws) ∙ once t c r k (ks ++ ws) whole in
+    by-cases (convert-grantable t r k)
+    (λ g. rw (g, grant-while)
+    (loops-line r ks ws (grant-lock r k t) (grant-core t c r k m g)
+    (grant-converts-left t c r k m ∙ rw e (remove-head k ks (omega arith)))
+    (grant-waits-left t c r k m ∙ rw f (remove-absent k ws (omega arith)))))
+    (λ g. rw (g, grant-while) (held-up r k ks (resource t r .wait) t e))
+
+pub sweep-is-line : (r : ℕ) (t : Tables) → Core t → sweep r t ≡ sweep-line r (line t r) t
+unfolding sweep grant-converts line
+sweep-is-line r t c = loops-line r (resource t r .convert) (resource t r .wait) t c refl refl
+
+pub sweep-swept : (r : ℕ) (t : Tables) → Core t → Swept r t (sweep r t)
+sweep-swept r t c = rw (sweep-is-line r t c) (swept r (line t r) t c refl)
+
+-- a move written out, where the states are known: a conversion is granted
+pub grant-converting : (r k : ℕ) (t : Tables) → lock t k .state ≡ 2 → lock t k .completion ≡ 0 →
+    grant-lock r k t ≡
+    record {
+      resources = put (t .resources) r (record {
+        name = resource t r .name;
+        value = resource t r .value;
+        valid = resource t r .valid;
+        grant = resource t r .grant ++ (k ∷ []);
+        convert = remove k (resource t r .convert);
+        wait = resource t r .wait;
+      });
+      locks = put (t .locks) k (granted-lock (lock t k));
+      free-resources = t .free-resources;
+      free-locks = t .free-locks;
+      denied = t .denied;
+      blocked = remove k (t .blocked);
+      notices = t .notices ++ (k ∷ []);
+    }
+unfolding grant-lock move relist shift shift-front granted-lock
+grant-converting r k t s c = rw (s, c)

@@ -1,0 +1,129 @@
+-- The cells of a chain of a state: where code can walk them, and which places and bounds they are.
+use mathlib.Core.Path.{_≡_, refl, sym, _∙_, ap, ap₂, subst}
+use mathlib.Core.Logic.{_≢_}
+use mathlib.Core.List.{List}
+use Prim.Native.Nat.{ℕ, _+_, _*_, _-_, _<_, _≤_}
+use native.Mathlib.Omega.{arith}
+use lib.ListN.{getD, length}
+use Rattle.tables.specs.State.{Tables, free-locks, denied, blocked, notices, queue, Chain, free-resources, of-locks, chain-of}
+use Rattle.tables.specs.Layout.{Address, place, size, head, link, cell, words, resources-in, locks-in, most}
+use Rattle.tables.proofs.Links.{Absent, each-on}
+use Rattle.tables.proofs.Grid.{Within, place-size}
+use Rattle.tables.proofs.Chains.{In}
+use Rattle.tables.proofs.WordChanges.{length-words, Stands, Threaded}
+use Rattle.tables.proofs.ChainWalk.{Safe, walk-safe}
+use Rattle.tables.proofs.ReadBack.{resources-word, locks-word, chain-most}
+use Rattle.tables.proofs.WordSteps.{cell-place, cells-are}
+use Rattle.table_fields.specs.Sizes.{Sized, Kept}
+use Rattle.table_chains.specs.declared.Cells.{Cells}
+use Rattle.table_chains.specs.Cells.{cell-of, cells-at, lock-cells, Walks, Leaves, Pushes}
+use Rattle.table_chains.proofs.CellWalks.{cell-positive}
+
+pub kept-trans : (a b d : List ℕ) → Kept a b → Kept b d → Kept a d
+kept-trans a b d h k = record { sized = k .sized; same-resources = k .same-resources ∙ h .same-resources; same-locks = k .same-locks ∙ h .same-locks }
+
+-- the two chains beside the homes
+pub blocked-cells : (ws : List ℕ) → lock-cells 5 1 ws ≡ cells-at (of-locks blocked) ws
+unfolding lock-cells cells-at
+blocked-cells ws = refl
+
+pub notice-cells : (ws : List ℕ) → lock-cells 6 2 ws ≡ cells-at (of-locks notices) ws
+unfolding lock-cells cells-at
+notice-cells ws = refl
+
+-- no cell of a chain stands among the two counts
+head-past : (r : ℕ) (c : Chain) → 2 ≤ place r (head c)
+head-past r free-resources = omega arith
+head-past r (of-locks free-locks) = omega arith
+head-past r (of-locks denied) = omega arith
+head-past r (of-locks blocked) = omega arith
+head-past r (of-locks notices) = omega arith
+head-past r (of-locks (queue s q)) = omega arith
+
+first-past : (r : ℕ) (c : Chain) → 2 ≤ place r (link c 1)
+first-past r free-resources = omega arith
+first-past r (of-locks free-locks) = omega arith
+first-past r (of-locks denied) = omega arith
+first-past r (of-locks blocked) = omega arith
+first-past r (of-locks notices) = omega arith
+first-past r (of-locks (queue s q)) = omega arith
+
+-- cells as places and bounds
+module _ (c : Chain) (ws : List ℕ) (cs : Cells) (e : cs ≡ cells-at c ws) where
+  cells-now : cell-of cs ≡ cell-place (resources-in ws) c
+  unfolding cells-at
+  cells-now = ap cell-of e ∙ cells-are (resources-in ws) c
+
+  most-now : cs .most ≡ most (resources-in ws) (locks-in ws) c
+  unfolding cells-at
+  most-now = ap (λ (x : Cells). x .most) e
+
+  pub by-cells : {A : Type 0} (f : (ℕ → ℕ) → ℕ → A) → f (cell-of cs) (cs .most) ≡ f (cell-place (resources-in ws) c) (most (resources-in ws) (locks-in ws) c)
+  by-cells f = ap₂ f cells-now most-now
+
+  cells-head-past : 2 ≤ cs .head
+  unfolding cells-at
+  cells-head-past = rw e (head-past (resources-in ws) c)
+
+  cells-first-past : 2 ≤ cs .first
+  unfolding cells-at
+  cells-first-past = rw e (first-past (resources-in ws) c)
+
+-- the words of a state
+module _ (t : Tables) (ws : List ℕ) (is : ws ≡ words t) where
+  pub resources-is : resources-in ws ≡ length (t .resources)
+  resources-is = ap (λ (x : List ℕ). getD x 0 0) is ∙ resources-word t
+
+  pub locks-is : locks-in ws ≡ length (t .locks)
+  locks-is = ap (λ (x : List ℕ). getD x 1 0) is ∙ locks-word t
+
+  pub sized-is : length (t .resources) ≤ 256 → length (t .locks) ≤ 1024 → Sized ws
+  sized-is p q =
+      record {
+        long = ap length is ∙ length-words t ∙ ap₂ size (sym resources-is) (sym locks-is);
+        few-resources = omega (arith, resources-is);
+        few-locks = omega (arith, locks-is);
+      }
+
+  -- an address of the state, by what the words say
+  pub within-words : (a : Address) → In t a → Within (resources-in ws) (locks-in ws) a
+  within-words a h = rw (resources-is, locks-is) h
+
+  inside : (a : Address) → In t a → place (resources-in ws) a < length ws
+  inside a h = rw (is, length-words t) (rw (resources-word t) (place-size (length (t .resources)) (length (t .locks)) a h))
+
+  module _ (c : Chain) (h : Threaded t c) (cs : Cells) (e : cs ≡ cells-at c ws) (sized : Sized ws) where
+    walk-at : (k : ℕ) → (k ≢ 0 → Absent k (chain-of c t) → ⊥) → Safe ws (cell-of cs) k (cs .most) (cs .head)
+    walk-at k o =
+        let bound : length (chain-of c t) ≤ cs .most = omega (arith, chain-most t c h, most-now c ws cs e ∙ ap₂ (λ (r l : ℕ). most r l c) resources-is locks-is) in
+        let cells : cell-of cs ≡ cell-place (length (t .resources)) c = cells-now c ws cs e ∙ ap (λ (r : ℕ). cell-place r c) resources-is in
+        subst (λ (x : List ℕ). Safe x (cell-of cs) k (cs .most) (cs .head)) (sym is)
+        (subst (λ (f : ℕ → ℕ). Safe (words t) f k (cs .most) (f 0)) (sym cells) (walk-safe t c h k (cs .most) bound o))
+
+    pub chain-walks : (k : ℕ) → (k ≢ 0 → Absent k (chain-of c t) → ⊥) → Walks ws cs k
+    chain-walks k o = record { sized = sized; head-past = cells-head-past c ws cs e; first-past = cells-first-past c ws cs e; walk = walk-at k o }
+
+    pub chain-joins : Walks ws cs 0
+    chain-joins = chain-walks 0 (λ z a. z refl)
+
+    own-inside : (k : ℕ) → Stands t c k → cs .first + cs .width * (k - 1) < length ws
+    own-inside k s = rw (← (cell-positive cs k (s .0)), ap (λ (f : ℕ → ℕ). f k) (cells-now c ws cs e)) (inside (cell c k) (s .1 .inside))
+
+    pub chain-leaves : (k : ℕ) → (Absent k (chain-of c t) → ⊥) → Leaves ws cs k
+    chain-leaves k o =
+        let s : Stands t c k = each-on (Stands t c) (chain-of c t) k (h .members) o in
+        record { walks = chain-walks k (λ z. o); low = s .0; inside = own-inside k s }
+
+    head-inside : cs .head < length ws
+    head-inside = rw (ap (λ (f : ℕ → ℕ). f 0) (cells-now c ws cs e)) (inside (head c) (h .present))
+
+    pub chain-pushes : (k : ℕ) → Stands t c k → Pushes ws cs k
+    chain-pushes k s =
+        record {
+          sized = sized;
+          head-past = cells-head-past c ws cs e;
+          first-past = cells-first-past c ws cs e;
+          head-inside = head-inside;
+          low = s .0;
+          inside = own-inside k s;
+        }

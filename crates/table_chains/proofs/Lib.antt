@@ -1,0 +1,6 @@
+pub mod CellWalks
+pub mod HeadCells
+pub mod ChainCells
+pub mod LockMoves
+pub mod ResourceWords
+pub mod MoveByResource

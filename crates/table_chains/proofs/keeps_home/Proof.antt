@@ -1,0 +1,12 @@
+use Rattle.tables.proofs.MoveSteps.{stays}
+use Rattle.table_chains.proofs.keeps_home.Statement.{statement}
+use Rattle.table_chains.proofs.keeps_home.Tie as tie
+use Rattle.table_chains.proofs.keeps_home.Reads as reads
+use Rattle.table_chains.proofs.keeps_home.Lts as lts
+
+returns : tie.Need-returns
+unfolding stays
+returns c = cc
+
+pub keeps-home-spec : {M : Type 1} → statement M
+keeps-home-spec = tie.close (tie.spec returns)

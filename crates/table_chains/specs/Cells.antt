@@ -1,0 +1,78 @@
+-- The cells of a chain among the words, as code finds them.
+use mathlib.Core.Path.{_≡_}
+use mathlib.Core.Bool.{Bool, true}
+use mathlib.Core.List.{List}
+use Prim.Native.Nat.{ℕ, _+_, _-_, _*_, _<_, _≤_}
+use lib.ListN.{length}
+use Rattle.tables.specs.declared.Lock.{Lock}
+use Rattle.tables.specs.State.{blocked-lock, told, blocked, notices, Chain, of-locks, home-at}
+use Rattle.tables.specs.Layout.{of-lock, place, head, link, lock-width, resources-in, locks-in, most}
+use Rattle.tables.proofs.Grid.{Within}
+use Rattle.tables.proofs.ChainWalk.{cell-at, Safe}
+use Rattle.tables.proofs.WordSteps.{stride, cell-place}
+use Rattle.tables.proofs.MoveSteps.{shift-cells}
+use Rattle.table_fields.specs.Sizes.{Sized}
+use Rattle.table_chains.specs.declared.Cells.{Cells}
+
+-- where the cell of a record stands (0: the chain's head)
+abbrev pub cell-of : Cells → ℕ → ℕ
+cell-of c = cell-at (c .head) (c .first) (c .width)
+
+-- the cells of a chain; of one of locks, whose head stands at hd, and which goes by the field f
+unfoldable pub cells-at : Chain → List ℕ → Cells
+cells-at c ws =
+    record {
+      head = place (resources-in ws) (head c);
+      first = place (resources-in ws) (link c 1);
+      width = stride c;
+      most = most (resources-in ws) (locks-in ws) c;
+    }
+
+unfoldable pub lock-cells : ℕ → ℕ → List ℕ → Cells
+lock-cells hd f ws = record { head = hd; first = place (resources-in ws) (of-lock 1 f); width = lock-width; most = locks-in ws }
+
+-- the chain's cells can be walked as far as the one that holds k (0: to the end)
+pub record Walks (ws : List ℕ) (c : Cells) (k : ℕ) : Type 0 where
+  pub sized : Sized ws
+  pub head-past : 2 ≤ c .head
+  pub first-past : 2 ≤ c .first
+  pub walk : Safe ws (cell-of c) k (c .most) (c .head)
+
+-- k can leave the chain; k can join it in front
+pub record Leaves (ws : List ℕ) (c : Cells) (k : ℕ) : Type 0 where
+  pub walks : Walks ws c k
+  pub low : 1 ≤ k
+  pub inside : c .first + c .width * (k - 1) < length ws
+
+pub record Pushes (ws : List ℕ) (c : Cells) (k : ℕ) : Type 0 where
+  pub sized : Sized ws
+  pub head-past : 2 ≤ c .head
+  pub first-past : 2 ≤ c .first
+  pub head-inside : c .head < length ws
+  pub low : 1 ≤ k
+  pub inside : c .first + c .width * (k - 1) < length ws
+
+-- k is on the chain or not, and can leave it or join it: at its end; in front
+pub record Shifts (was : Bool) (ws : List ℕ) (c : Cells) (k : ℕ) : Type 0 where
+  pub leaves : was ≡ true → Leaves ws c k
+  pub joins : Walks ws c 0
+
+pub record Fronts (was : Bool) (ws : List ℕ) (c : Cells) (k : ℕ) : Type 0 where
+  pub leaves : was ≡ true → Leaves ws c k
+  pub pushes : Pushes ws c k
+
+-- k can join the chain in front or at its end
+pub record Arrives (ws : List ℕ) (c : Cells) (k : ℕ) : Type 0 where
+  pub pushes : Pushes ws c k
+  pub joins : Walks ws c 0
+
+-- the chain that is home to a state on a resource is there
+pub record Housed (s r : ℕ) (ws : List ℕ) : Type 0 where
+  pub sized : Sized ws
+  pub some-lock : 1 ≤ locks-in ws
+  pub inside : Within (resources-in ws) (locks-in ws) (head (of-locks (home-at s r)))
+
+-- what becoming m does to the lock k, which is o, on the blocked chain and then on the notice chain
+unfoldable pub side-cells : ℕ → ℕ → ℕ → Lock → Lock → List ℕ → List ℕ
+side-cells r l k o m ws =
+    shift-cells (told o) (told m) (cell-place r (of-locks notices)) l k (shift-cells (blocked-lock o) (blocked-lock m) (cell-place r (of-locks blocked)) l k ws)

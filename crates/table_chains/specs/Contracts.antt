@@ -1,0 +1,98 @@
+-- What a function is told, and says, of the state whose words it is lent.
+use mathlib.Core.Path.{_≡_}
+use mathlib.Core.Bool.{true}
+use mathlib.Core.List.{List}
+use Prim.Native.Nat.{ℕ, _≤_}
+use lib.ListN.{length}
+use Rattle.tables.specs.declared.Lock.{Lock}
+use Rattle.tables.specs.Lists.{within}
+use Rattle.tables.specs.State.{Resource, Tables, lock, resource, Queue, queue-of, of-locks, chain-of, home, move, move-resource}
+use Rattle.tables.specs.Layout.{words, slots, locks-in}
+use Rattle.tables.proofs.Links.{Absent}
+use Rattle.tables.proofs.Chains.{Present}
+use Rattle.tables.proofs.HomeChange.{Sane}
+use Rattle.tables.proofs.MoveSteps.{Whole}
+use Rattle.tables.proofs.Valid.{used, LockOk, Core, Near}
+use Rattle.table_fields.specs.Sizes.{Sized}
+
+-- these are the words of a state of which P holds
+pub record Some (P : Tables → Type 0) (ws : List ℕ) : Type 0 where
+  pub state : Tables
+  pub good : P state
+  pub is : ws ≡ words state
+
+-- the words of a state of which P holds became those of f of it
+pub record Turns (P : Tables → Type 0) (f : Tables → Tables) (a b : List ℕ) : Type 0 where
+  pub then : (t : Tables) → P t → a ≡ words t → b ≡ words (f t)
+
+-- x is what g says of the state
+pub record Tells {ℓ} {A : Type ℓ} (P : Tables → Type 0) (g : Tables → A) (ws : List ℕ) (x : A) : Type ℓ where
+  pub then : (t : Tables) → P t → ws ≡ words t → x ≡ g t
+
+-- both
+pub record Answers {ℓ} {A : Type ℓ} (P : Tables → Type 0) (g : Tables → A) (f : Tables → Tables) (a b : List ℕ) (x : A) : Type ℓ where
+  pub then : (t : Tables) → P t → a ≡ words t → (x ≡ g t) × (b ≡ words (f t))
+
+-- words and slots both became those of f of the state
+pub record Changes (P : Tables → Type 0) (f : Tables → Tables) (a sa b sb : List ℕ) : Type 0 where
+  pub then : (t : Tables) → P t → a ≡ words t → sa ≡ slots t → (b ≡ words (f t)) × (sb ≡ slots (f t))
+
+-- MOVES. On the chains of the resource r the lock k may become m
+pub record Movable (r k : ℕ) (m : Lock) (t : Tables) : Type 0 where
+  pub core : Core t
+  pub in-range : within (length (t .locks)) k ≡ true
+  pub near-old : Near r (lock t k)
+  pub near-new : Near r m
+  pub ok : LockOk (used t) m
+
+-- these are the words of a state in which it may
+pub record Moving (k : ℕ) (m : Lock) (ws : List ℕ) : Type 0 where
+  pub state : Tables
+  pub resource : ℕ
+  pub good : Movable resource k m state
+  pub is : ws ≡ words state
+
+-- it became m
+pub record Moved (k : ℕ) (m : Lock) (a b : List ℕ) : Type 0 where
+  pub then : (r : ℕ) (t : Tables) → Movable r k m t → a ≡ words t → b ≡ words (move r k m t)
+
+-- the resource r is there
+pub record Resourced (r : ℕ) (t : Tables) : Type 0 where
+  pub core : Core t
+  pub in-range : within (length (t .resources)) r ≡ true
+
+-- x is r with another name, of n bytes, with another value, and with the flag v
+pub record Refilled (r n v : ℕ) (x : Resource) (t : Tables) : Type 0 where
+  pub core : Core t
+  pub in-range : within (length (t .resources)) r ≡ true
+  pub queues : (q : Queue) → queue-of q x ≡ queue-of q (resource t r)
+  pub name-is : length (x .name) ≡ n
+  pub valid-is : x .valid ≡ v
+
+-- r became such an x
+pub record ResourceMoved (r n v : ℕ) (a b : List ℕ) : Type 0 where
+  pub then : (t : Tables) (x : Resource) → Refilled r n v x t → a ≡ words t → b ≡ words (move-resource r x t)
+
+-- STEPS of a move. The lock k is o and may become m: every lock stands where its record says
+pub record Sided (k : ℕ) (o m : Lock) (ws : List ℕ) : Type 0 where
+  pub sized : Sized ws
+  pub low : 1 ≤ k
+  pub high : k ≤ locks-in ws
+  pub state : Tables
+  pub whole : Whole (length (state .resources)) (length (state .locks)) state
+  pub here : lock state k ≡ o
+  pub new : Present state (of-locks (home m))
+  pub is : ws ≡ words state
+
+-- k stands on the home of o and may go to that of m
+pub record Homing (k : ℕ) (o m : Lock) (ws : List ℕ) : Type 0 where
+  pub sized : Sized ws
+  pub low : 1 ≤ k
+  pub high : k ≤ locks-in ws
+  pub state : Tables
+  pub sane : Sane (length (state .resources)) (length (state .locks)) state
+  pub here : lock state k ≡ o
+  pub old : Present state (of-locks (home o))
+  pub on-home : Absent k (chain-of (of-locks (home o)) state) → ⊥
+  pub new : Present state (of-locks (home m))
+  pub is : ws ≡ words state

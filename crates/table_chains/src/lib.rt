@@ -1,0 +1,278 @@
+// Changes of the words in place: the cells of a chain, a lock that becomes another, the words of a resource.
+use table_fields::ResourceFields;
+use table_fields::put_lock;
+use table_fields::wide;
+use tables::Lock;
+ghost use mathlib.Core.Path.{_≡_};
+ghost use mathlib.Core.Bool.{false};
+ghost use Prim.Native.Nat.{_+_, _*_, _-_, _<_, _≤_};
+ghost use lib.ListN.{getD};
+ghost use Rattle.tables.specs.State.{home, «home-at», «blocked-lock», told, blocked, notices, «free-resources», «of-locks»};
+ghost use Rattle.tables.specs.Layout.{place, head, «lock-width», «resources-in», «locks-in»};
+ghost use Rattle.tables.proofs.ChainWalk.{«cell-holding»};
+ghost use Rattle.tables.proofs.WordSteps.{«push-cells», «leave-cells», «join-cells»};
+ghost use Rattle.tables.proofs.MoveSteps.{stays, «shift-cells», «arrive-cells», «resettle-cells»};
+ghost use Rattle.tables.proofs.ResourceMoved.{«front-cells»};
+ghost use Rattle.table_fields.specs.Sizes.{Sized, Kept};
+ghost use Rattle.table_chains.specs.Cells.{«cell-of», «cells-at», «lock-cells», «side-cells», Walks, Leaves, Pushes, Shifts, Fronts, Arrives, Housed};
+ghost use Rattle.table_chains.specs.Contracts.{Some, Moving, Moved, Resourced, ResourceMoved, Sided, Homing};
+
+// The cells of a chain: each names the record that follows, the last one 0. The head's place, that of record 1's
+// cell, how far apart the records' cells stand, and how many records there can be.
+pub struct Cells {
+    pub head: usize,
+    pub first: usize,
+    pub width: usize,
+    pub most: usize,
+}
+
+// The cells of a chain of locks, from the place of its head and the field that it goes by.
+pub fn lock_cells(words: &[u32], head: usize, link: usize) -> Cells
+    requires { ⌜ Sized (now words) ⌝ }
+    requires { ⌜ 1 ≤ locks-in (now words) ⌝ }
+    requires { ⌜ link < lock-width ⌝ }
+    ensures { λ r. ⌜ r ≡ lock-cells head link (now (words .entry)) ⌝ }
+{
+    Cells {
+        head: head,
+        first: table_fields::lock_start(words, 1) + link,
+        width: table_fields::LOCK_WORDS,
+        most: wide(table_fields::lock_count(words)),
+    }
+}
+
+// The cells of the free resources.
+pub fn resource_cells(words: &[u32]) -> Cells
+    requires { ⌜ Sized (now words) ⌝ }
+    requires { ⌜ 1 ≤ resources-in (now words) ⌝ }
+    ensures { λ r. ⌜ r ≡ cells-at free-resources (now (words .entry)) ⌝ }
+{
+    Cells {
+        head: table_fields::FREE_RESOURCES,
+        first: table_fields::resource_start(words, 1) + table_fields::RESOURCE_NEXT,
+        width: table_fields::RESOURCE_WORDS,
+        most: wide(table_fields::resource_count(words)),
+    }
+}
+
+// The place of the head of the chain that is home to a state on a resource. A resource's queues are numbered as
+// the states.
+fn home_head(words: &[u32], state: u32, resource: u32) -> usize
+    requires { ⌜ Housed state resource (now words) ⌝ }
+    ensures { λ x. ⌜ x ≡ place (resources-in (now (words .entry))) (head (of-locks (home-at state resource))) ⌝ }
+{
+    if state == table_fields::STATE_FREE {
+        return table_fields::FREE_LOCKS;
+    }
+    if state >= table_fields::STATE_DENIED {
+        return table_fields::DENIED;
+    }
+    table_fields::resource_start(words, resource) + wide(state)
+}
+
+// The cells of the home of a lock.
+pub fn home_cells(words: &[u32], l: Lock) -> Cells
+    requires { ⌜ Housed (l .state) (l .resource) (now words) ⌝ }
+    ensures { λ r. ⌜ r ≡ cells-at (of-locks (home l)) (now (words .entry)) ⌝ }
+{
+    let head = home_head(words, l.state, l.resource);
+    lock_cells(words, head, table_fields::LOCK_NEXT)
+}
+
+// The cell that holds k (0: the last one).
+pub fn holding(words: &[u32], cells: Cells, k: u32) -> usize
+    requires { ⌜ Walks (now words) cells k ⌝ }
+    ensures { λ r. ⌜ r ≡ cell-holding (now (words .entry)) (cell-of cells) k (cells .most) (cells .head) ⌝ }
+{
+    let first = cells.first;
+    let width = cells.width;
+    let mut at = cells.head;
+    let mut left = cells.most;
+    while left > 0 {
+        let x = words[at];
+        if x == k {
+            return at;
+        }
+        at = first + width * (wide(x) - 1);
+        left -= 1;
+    }
+    at
+}
+
+// The record k joins a chain in front.
+pub fn push(words: &mut [u32], cells: Cells, k: u32)
+    requires { ⌜ Pushes (now words) cells k ⌝ }
+    ensures { λ _. ⌜ now (words .exit) ≡ push-cells (cell-of cells) k (now (words .entry)) ⌝ }
+    ensures { λ _. ⌜ Kept (now (words .entry)) (now (words .exit)) ⌝ }
+{
+    let head = cells.head;
+    let own = cells.first + cells.width * (k as usize - 1);
+    words[own] = words[head];
+    words[head] = k;
+}
+
+// The record k joins a chain at its end.
+pub fn join(words: &mut [u32], cells: Cells, k: u32)
+    requires { ⌜ Walks (now words) cells 0 ⌝ }
+    ensures { λ _. ⌜ now (words .exit) ≡ join-cells (cell-of cells) (cells .most) k (now (words .entry)) ⌝ }
+    ensures { λ _. ⌜ Kept (now (words .entry)) (now (words .exit)) ⌝ }
+{
+    let at = holding(words, cells, 0);
+    words[at] = k;
+}
+
+// The record k leaves a chain.
+pub fn leave(words: &mut [u32], cells: Cells, k: u32)
+    requires { ⌜ Leaves (now words) cells k ⌝ }
+    ensures { λ _. ⌜ now (words .exit) ≡ leave-cells (cell-of cells) (cells .most) k (now (words .entry)) ⌝ }
+    ensures { λ _. ⌜ Kept (now (words .entry)) (now (words .exit)) ⌝ }
+{
+    let at = holding(words, cells, k);
+    let own = cells.first + cells.width * (k as usize - 1);
+    words[at] = words[own];
+    words[own] = 0;
+}
+
+// The first record leaves a chain that has one.
+pub fn pop(words: &mut [u32], cells: Cells) -> u32
+    requires { ⌜ Leaves (now words) cells (getD (now words) (cells .head) 0) ⌝ }
+    ensures { λ r. ⌜ r ≡ getD (now (words .entry)) (cells .head) 0 ⌝ }
+    ensures { λ r. ⌜ now (words .exit) ≡ leave-cells (cell-of cells) (cells .most) r (now (words .entry)) ⌝ }
+    ensures { λ _. ⌜ Kept (now (words .entry)) (now (words .exit)) ⌝ }
+{
+    let head = cells.head;
+    let k = words[head];
+    let cell = cells.first + cells.width * (wide(k) - 1);
+    words[head] = words[cell];
+    words[cell] = 0;
+    k
+}
+
+// The record k was on a chain or not, and is to be: it enters at the end.
+fn shift(words: &mut [u32], cells: Cells, was: bool, is: bool, k: u32)
+    requires { ⌜ Shifts was (now words) cells k ⌝ }
+    ensures { λ _. ⌜ now (words .exit) ≡ shift-cells was is (cell-of cells) (cells .most) k (now (words .entry)) ⌝ }
+    ensures { λ _. ⌜ Kept (now (words .entry)) (now (words .exit)) ⌝ }
+{
+    if was {
+        if is {
+            return;
+        }
+        leave(words, cells, k);
+        return;
+    }
+    if is {
+        join(words, cells, k);
+    }
+}
+
+// The same on a chain of free records: it enters in front.
+fn shift_front(words: &mut [u32], cells: Cells, was: bool, is: bool, k: u32)
+    requires { ⌜ Fronts was (now words) cells k ⌝ }
+    ensures { λ _. ⌜ now (words .exit) ≡ front-cells was is (cell-of cells) (cells .most) k (now (words .entry)) ⌝ }
+    ensures { λ _. ⌜ Kept (now (words .entry)) (now (words .exit)) ⌝ }
+{
+    if was {
+        if is {
+            return;
+        }
+        leave(words, cells, k);
+        return;
+    }
+    if is {
+        push(words, cells, k);
+    }
+}
+
+// The record k joins a chain, in front or at its end.
+fn arrive(words: &mut [u32], cells: Cells, front: bool, k: u32)
+    requires { ⌜ Arrives (now words) cells k ⌝ }
+    ensures { λ _. ⌜ now (words .exit) ≡ arrive-cells front (cell-of cells) (cells .most) k (now (words .entry)) ⌝ }
+    ensures { λ _. ⌜ Kept (now (words .entry)) (now (words .exit)) ⌝ }
+{
+    if front {
+        push(words, cells, k);
+    } else {
+        join(words, cells, k);
+    }
+}
+
+// What a lock's record says of it.
+pub fn is_blocked(l: Lock) -> bool
+    ensures { λ r. ⌜ r ≡ blocked-lock l ⌝ }
+{
+    (l.state == table_fields::STATE_CONVERTING) | (l.state == table_fields::STATE_WAITING)
+}
+
+pub fn is_told(l: Lock) -> bool
+    ensures { λ r. ⌜ r ≡ told l ⌝ }
+{
+    l.completion != table_fields::COMPLETION_NONE
+}
+
+fn keeps_home(l: Lock, m: Lock) -> bool
+    ensures { λ r. ⌜ r ≡ stays l m ⌝ }
+{
+    (l.state == m.state) & (l.resource == m.resource)
+}
+
+// The lock k, which is o and is to be m, on the blocked chain and on the notice chain.
+fn shift_sides(words: &mut [u32], k: u32, o: Lock, m: Lock)
+    requires { ⌜ Sided k o m (now words) ⌝ }
+    ensures { λ _. ⌜ now (words .exit) ≡ side-cells (resources-in (now (words .entry))) (locks-in (now (words .entry))) k o m (now (words .entry)) ⌝ }
+    ensures { λ _. ⌜ Kept (now (words .entry)) (now (words .exit)) ⌝ }
+{
+    let blocked = lock_cells(
+        words,
+        table_fields::BLOCKED,
+        table_fields::LOCK_NEXT_BLOCKED,
+    );
+    shift(words, blocked, is_blocked(o), is_blocked(m), k);
+    let notices = lock_cells(words, table_fields::NOTICES, table_fields::LOCK_NEXT_NOTICE);
+    shift(words, notices, is_told(o), is_told(m), k);
+}
+
+// The lock k, which is o, becomes m, which has another home.
+fn rehome(words: &mut [u32], k: u32, o: Lock, m: Lock)
+    requires { ⌜ Homing k o m (now words) ⌝ }
+    ensures { λ _. ⌜ now (words .exit) ≡ resettle-cells false (resources-in (now (words .entry))) (locks-in (now (words .entry))) k o m (now (words .entry)) ⌝ }
+    ensures { λ _. ⌜ Kept (now (words .entry)) (now (words .exit)) ⌝ }
+{
+    let old = home_cells(words, o);
+    leave(words, old, k);
+    put_lock(words, k, m);
+    let new = home_cells(words, m);
+    arrive(words, new, m.state == table_fields::STATE_FREE, k);
+}
+
+// The lock k becomes m: it leaves each chain on which it no longer belongs, and joins each on which it now belongs.
+pub fn move_lock(words: &mut [u32], k: u32, m: Lock)
+    requires { ⌜ Moving k m (now words) ⌝ }
+    ensures { λ _. ⌜ Moved k m (now (words .entry)) (now (words .exit)) ⌝ }
+    ensures { λ _. ⌜ Kept (now (words .entry)) (now (words .exit)) ⌝ }
+{
+    let o = table_fields::lock_at(words, k);
+    shift_sides(words, k, o, m);
+    if keeps_home(o, m) {
+        put_lock(words, k, m);
+    } else {
+        rehome(words, k, o, m);
+    }
+}
+
+// The resource r gets another name length and flag: it leaves the free resources or joins them in front, as its
+// length was and is (0: free).
+pub fn move_resource_words(words: &mut [u32], r: u32, name_length: u32, valid: u32)
+    requires { ⌜ Some (Resourced r) (now words) ⌝ }
+    ensures { λ _. ⌜ ResourceMoved r «name_length» valid (now (words .entry)) (now (words .exit)) ⌝ }
+    ensures { λ _. ⌜ Kept (now (words .entry)) (now (words .exit)) ⌝ }
+{
+    let old = table_fields::resource_at(words, r);
+    let free = resource_cells(words);
+    shift_front(words, free, old.bytes == 0, name_length == 0, r);
+    let new = ResourceFields {
+        bytes: name_length,
+        valid: valid,
+    };
+    table_fields::put_resource(words, r, new);
+}

@@ -1,0 +1,6 @@
+pub mod NumberRuns
+pub mod Spans
+pub mod FourBytes
+pub mod SlotParts
+pub mod SlotStores
+pub mod StateNames

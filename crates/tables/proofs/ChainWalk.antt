@@ -1,0 +1,112 @@
+-- Following a chain through the words.
+use mathlib.Core.Path.{_≡_, refl, sym, _∙_, ap}
+use mathlib.Core.Logic.{_≢_}
+use mathlib.Core.Bool.{true, false}
+use mathlib.Core.List.{List, [], _∷_}
+use Prim.Native.Nat.{ℕ, zero, suc, _+_, _*_, _<_, _≤_}
+use native.Mathlib.Omega.{arith}
+use native.Mathlib.Decide.{ℕ-discrete}
+use lib.ListN.{getD, length}
+use lib.Dec.{eqb}
+use borrow.Author.Tests.{eq-eqb, ne-eqb}
+use Rattle.tables.specs.Lists.{next}
+use Rattle.tables.specs.State.{Tables, Chain, chain-of}
+use Rattle.tables.specs.Layout.{cell, value, words, follow}
+use Rattle.tables.proofs.Links.{holder, Absent, Distinct, Each, each-map, holder-here, holder-past, next-here, next-past}
+use Rattle.tables.proofs.Grid.{place-size}
+use Rattle.tables.proofs.Chains.{spot}
+use Rattle.tables.proofs.WordChanges.{Stands, Linked, linked-head, Threaded, no-zero, length-words, read-word, holding}
+
+-- f leads from y through ys, and from the last to 0
+abbrev pub Leads : (ℕ → ℕ) → ℕ → List ℕ → Type 0
+Leads f y [] = f y ≡ 0
+Leads f y (x ∷ xs) = (f y ≡ x) × Leads f x xs
+
+-- from a cell on, the cell that holds k, at most n cells further; place k: where the cell of the record k stands
+unfoldable pub cell-holding : List ℕ → (ℕ → ℕ) → ℕ → ℕ → ℕ → ℕ
+cell-holding ws place k zero at-cell = at-cell
+cell-holding ws place k (suc n) at-cell = elim (eqb k (getD ws at-cell 0)) [ true ↦ at-cell | false ↦ cell-holding ws place k n (place (getD ws at-cell 0)) ]
+
+-- a chain's cells, where its head stands at one place and its links a width apart
+abbrev pub cell-at : ℕ → ℕ → ℕ → ℕ → ℕ
+cell-at head first width zero = head
+cell-at head first width (suc k) = first + width * k
+
+-- the walk stays inside the words, and a cell on the way that does not hold k names a record
+abbrev pub Safe : List ℕ → (ℕ → ℕ) → ℕ → ℕ → ℕ → Type 0
+Safe ws place k zero cell = cell < length ws
+Safe ws place k (suc n) cell = (cell < length ws) × (getD ws cell 0 ≢ k → (1 ≤ getD ws cell 0) × Safe ws place k n (place (getD ws cell 0)))
+
+absent-each : (k : ℕ) (xs : List ℕ) → Absent k xs → Each (λ j. j ≢ k) xs
+absent-each k [] a = tt
+absent-each k (x ∷ xs) a = (omega arith, absent-each k xs (a .1))
+
+pub leads-same : (f g : ℕ → ℕ) (y : ℕ) (xs : List ℕ) → Each (λ j. g j ≡ f j) (y ∷ xs) → Leads f y xs → Leads g y xs
+leads-same f g y [] e h = e .0 ∙ h
+leads-same f g y (x ∷ xs) e h = (e .0 ∙ h .0, leads-same f g x xs (e .1) (h .1))
+
+pub next-leads : (y : ℕ) (xs : List ℕ) → Distinct (y ∷ xs) → Leads (λ j. next j (y ∷ xs)) y xs
+unfolding next
+next-leads y [] d = next-here y y [] refl
+next-leads y (x ∷ xs) d = (
+  next-here y y (x ∷ xs) refl,
+  leads-same (λ j. next j (x ∷ xs)) (λ j. next j (y ∷ x ∷ xs)) x xs (each-map (λ j. j ≢ y) _ (λ j n. next-past j y (x ∷ xs) n) (x ∷ xs) (absent-each y (x ∷ xs) (d .0)))
+      (next-leads x xs (d .1)),
+)
+
+pub holding-leads : (ws : List ℕ) (place : ℕ → ℕ) (k n y : ℕ) (xs : List ℕ)
+    → Leads (λ j. getD ws (place j) 0) y xs → length xs ≤ n → (k ≢ 0 → Absent k xs → ⊥)
+    → cell-holding ws place k n (place y) ≡ place (holder y k xs)
+unfolding cell-holding holder
+holding-leads ws place k zero y [] h p o = refl
+holding-leads ws place k zero y (x ∷ xs) h p o = absurd (omega arith)
+holding-leads ws place k (suc n) y [] h p o =
+    elim (ℕ-discrete k 0) [
+      | yes e ↦ rw (h, eq-eqb k 0 e, cell-holding)
+      | no m ↦ absurd (o m tt)
+    ]
+holding-leads ws place k (suc n) y (x ∷ xs) h p o =
+    elim (ℕ-discrete k x) [
+      | yes e ↦ rw (holder-here k x y xs e, h .0, eq-eqb k x e, cell-holding)
+      | no m ↦ rw (holder-past k x y xs m, h .0, ne-eqb k x m, cell-holding) (rw (h .0) (holding-leads ws place k n x xs (h .1) (omega arith) (λ z a. o z (m, a))))
+    ]
+
+pub safe-leads : (ws : List ℕ) (place : ℕ → ℕ) (k n y : ℕ) (xs : List ℕ)
+    → Leads (λ j. getD ws (place j) 0) y xs → Each (λ j. place j < length ws) (y ∷ xs) → Absent 0 xs → length xs ≤ n → (k ≢ 0 → Absent k xs → ⊥) → Safe ws place k n (place y)
+safe-leads ws place k zero y xs h i z p o = i .0
+safe-leads ws place k (suc n) y [] h i z p o = (i .0, λ m. absurd (o (λ e. m (h ∙ sym e)) tt))
+safe-leads ws place k (suc n) y (x ∷ xs) h i z p o =
+    (i .0, λ m. rw (h .0) (let q = z .0 in omega arith, safe-leads ws place k n x xs (h .1) (i .1) (z .1) (omega arith) (λ b a. o b (λ e. m (h .0 ∙ sym e), a))))
+
+pub follow-leads : (f : ℕ → ℕ) (n y : ℕ) (xs : List ℕ) → Leads f y xs → Absent 0 xs → length xs ≤ n → follow f n (f y) ≡ xs
+unfolding follow
+follow-leads f zero y [] h a p = refl
+follow-leads f zero y (x ∷ xs) h a p = absurd (omega arith)
+follow-leads f (suc n) y [] h a p = rw h
+follow-leads f (suc n) y (zero ∷ xs) h a p = absurd (a .0 refl)
+follow-leads f (suc n) y (suc x ∷ xs) h a p = rw (h .0) (ap (λ (ys : List ℕ). suc x ∷ ys) (follow-leads f n (suc x) xs (h .1) (a .1) (omega arith)))
+
+module _ (t : Tables) (c : Chain) (h : Threaded t c) where
+  pub words-lead : Leads (λ j. getD (words t) (spot t (cell c j)) 0) 0 (chain-of c t)
+  words-lead =
+      leads-same (λ j. next j (0 ∷ chain-of c t)) _ 0 (chain-of c t)
+      (cell-word 0 (linked-head t c (h .present)), each-map (Stands t c) _ (λ j s. cell-word j (s .1)) (chain-of c t) (h .members))
+      (next-leads 0 (chain-of c t) (no-zero t c h, h .distinct))
+    where
+      cell-word : (j : ℕ) → Linked t c j → getD (words t) (spot t (cell c j)) 0 ≡ next j (0 ∷ chain-of c t)
+      cell-word j l = read-word t (cell c j) (l .inside) ∙ ap (value t) (l .says)
+
+  -- the walk from the head stays inside the words
+  pub walk-safe : (k n : ℕ) → length (chain-of c t) ≤ n → (k ≢ 0 → Absent k (chain-of c t) → ⊥) → Safe (words t) (λ j. spot t (cell c j)) k n (spot t (cell c 0))
+  walk-safe k n p o =
+      safe-leads (words t) (λ j. spot t (cell c j)) k n 0 (chain-of c t) words-lead
+      (inside 0 (linked-head t c (h .present)), each-map (Stands t c) _ (λ j s. inside j (s .1)) (chain-of c t) (h .members)) (no-zero t c h) p o
+    where
+      inside : (j : ℕ) → Linked t c j → spot t (cell c j) < length (words t)
+      inside j l = rw (length-words t) (place-size _ _ (cell c j) (l .inside))
+
+  -- the walk from the head finds the cell that names k, or the end of the chain (k = 0)
+  pub walk-holds : (k n : ℕ) → length (chain-of c t) ≤ n → (k ≢ 0 → Absent k (chain-of c t) → ⊥)
+      → cell-holding (words t) (λ j. spot t (cell c j)) k n (spot t (cell c 0)) ≡ holding t c k
+  unfolding holding
+  walk-holds k n p o = holding-leads (words t) (λ j. spot t (cell c j)) k n 0 (chain-of c t) words-lead p o

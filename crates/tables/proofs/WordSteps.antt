@@ -1,0 +1,80 @@
+-- The steps that code makes on the words, and the steps on a state that they are.
+use mathlib.Core.Path.{_≡_, refl, sym, _∙_, ap, ap₂, fun-ext}
+use mathlib.Core.List.{List, [], _∷_, _++_}
+use Prim.Native.Nat.{ℕ, zero, suc, _+_, _*_, _≤_}
+use native.Mathlib.Omega.{arith}
+use lib.ListN.{getD, set, length}
+use Rattle.tables.specs.Lists.{remove, next}
+use Rattle.tables.specs.State.{Tables, free-locks, denied, blocked, notices, queue, Chain, free-resources, of-locks, chain-of}
+use Rattle.tables.specs.Layout.{resource-width, lock-width, place, head, link, cell, value, words}
+use Rattle.tables.proofs.Links.{Absent, each-on, next-past}
+use Rattle.tables.proofs.Chains.{with-chain, spot}
+use Rattle.tables.proofs.WordChanges.{Stands, Linked, linked-head, linked-on, Threaded, read-word, append-words, remove-words, push-words}
+use Rattle.tables.proofs.ChainWalk.{cell-holding, cell-at, walk-holds}
+
+-- on a state: k joins a chain at its end, or in front, or leaves it
+unfoldable pub join : Chain → ℕ → Tables → Tables
+join c k t = with-chain c (chain-of c t ++ (k ∷ [])) t
+
+unfoldable pub push : Chain → ℕ → Tables → Tables
+push c k t = with-chain c (k ∷ chain-of c t) t
+
+unfoldable pub leave : Chain → ℕ → Tables → Tables
+leave c k t = with-chain c (remove k (chain-of c t)) t
+
+-- on words: at k says where the cell of k stands (k = 0: the chain's head), and n bounds the walk
+unfoldable pub join-cells : (ℕ → ℕ) → ℕ → ℕ → List ℕ → List ℕ
+join-cells at-cell n k ws = set ws (cell-holding ws at-cell 0 n (at-cell 0)) k
+
+unfoldable pub push-cells : (ℕ → ℕ) → ℕ → List ℕ → List ℕ
+push-cells at-cell k ws = set (set ws (at-cell k) (getD ws (at-cell 0) 0)) (at-cell 0) k
+
+unfoldable pub leave-cells : (ℕ → ℕ) → ℕ → ℕ → List ℕ → List ℕ
+leave-cells at-cell n k ws = set (set ws (cell-holding ws at-cell k n (at-cell 0)) (getD ws (at-cell k) 0)) (at-cell k) 0
+
+-- where the cell of k stands, with r resources
+abbrev pub cell-place : ℕ → Chain → ℕ → ℕ
+cell-place r c k = place r (cell c k)
+
+-- how far apart the links of a chain stand; so code finds its cells from two places and that width
+abbrev pub stride : Chain → ℕ
+stride free-resources = resource-width
+stride (of-locks c) = lock-width
+
+link-place : (r : ℕ) (c : Chain) (k : ℕ) → place r (link c 1) + stride c * k ≡ place r (link c (suc k))
+link-place r free-resources k = omega arith
+link-place r (of-locks free-locks) k = omega arith
+link-place r (of-locks denied) k = omega arith
+link-place r (of-locks blocked) k = omega arith
+link-place r (of-locks notices) k = omega arith
+link-place r (of-locks (queue s q)) k = omega arith
+
+pub cells-are : (r : ℕ) (c : Chain) → cell-at (place r (head c)) (place r (link c 1)) (stride c) ≡ cell-place r c
+cells-are r c = fun-ext at-each
+  where
+    at-each : (k : ℕ) → cell-at (place r (head c)) (place r (link c 1)) (stride c) k ≡ cell-place r c k
+    at-each zero = refl
+    at-each (suc k) = link-place r c k
+
+module _ (t : Tables) (r : ℕ) (size : length (t .resources) ≡ r) (c : Chain) (h : Threaded t c) where
+  cell-word : (k : ℕ) → Linked t c k → getD (words t) (spot t (cell c k)) 0 ≡ next k (0 ∷ chain-of c t)
+  cell-word k l = read-word t (cell c k) (l .inside) ∙ ap (value t) (l .says)
+
+  pub join-is : (n k : ℕ) → length (chain-of c t) ≤ n → join-cells (cell-place r c) n k (words t) ≡ words (join c k t)
+  unfolding join join-cells
+  join-is n k p =
+      rw (← size) (ap (λ (i : ℕ). set (words t) i k) (walk-holds t c h 0 n p (λ z a. z refl)) ∙ sym (append-words t c h k))
+
+  pub push-is : (k : ℕ) → Stands t c k → push-cells (cell-place r c) k (words t) ≡ words (push c k t)
+  unfolding push push-cells next
+  push-is k s =
+      rw (← size) (ap (λ (v : ℕ). set (set (words t) (spot t (cell c k)) v) (spot t (cell c 0)) k) (cell-word 0 (linked-head t c (h .present))) ∙ sym (push-words t c h k s))
+
+  pub leave-is : (n k : ℕ) → length (chain-of c t) ≤ n → (Absent k (chain-of c t) → ⊥) → leave-cells (cell-place r c) n k (words t) ≡ words (leave c k t)
+  unfolding leave leave-cells
+  leave-is n k p o =
+      let s = each-on (Stands t c) (chain-of c t) k (h .members) o .0 in
+      rw (← size)
+      (ap₂ (λ (i v : ℕ). set (set (words t) i v) (spot t (cell c k)) 0) (walk-holds t c h k n p (λ z. o))
+      (cell-word k (linked-on t c h k (λ a. o (a .1))) ∙ next-past k 0 (chain-of c t) (omega arith))
+      ∙ sym (remove-words t c h k o))
