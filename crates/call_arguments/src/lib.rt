@@ -1,41 +1,14 @@
-// The arguments of a call: the client, the flags, the name, the value, and whose lock a number is.
-use queues::spoils;
-use queues::stores;
+// The arguments of a call: the client, the name, the value, and whose lock a number is. Flags are in the crate `flags`.
 ghost use mathlib.Core.Path.{_≡_};
 ghost use Rattle.tables.specs.Sound.{«client-right»};
 ghost use Rattle.tables.proofs.Valid.{Core};
-ghost use Rattle.rules.specs.Calls.{«no-queue», «request-flags», «convert-flags», «release-flags», «name-right», «value-right», own};
+ghost use Rattle.rules.specs.Calls.{«name-right», «value-right», own};
 ghost use Rattle.table_chains.specs.Contracts.{Some, Tells};
 
 pub fn client_right(client: u32) -> bool
     ensures { λ r. ⌜ r ≡ client-right client ⌝ }
 {
     (1 <= client) & (client <= table_fields::LAST_CLIENT)
-}
-
-// Flag 4: don't queue.
-pub fn no_queue(flags: u32) -> bool
-    ensures { λ r. ⌜ r ≡ no-queue flags ⌝ }
-{
-    flags / 4 % 2 == 1
-}
-
-pub fn request_flags(flags: u32) -> bool
-    ensures { λ r. ⌜ r ≡ request-flags flags ⌝ }
-{
-    (flags == 0) | (flags == 4)
-}
-
-pub fn convert_flags(flags: u32) -> bool
-    ensures { λ r. ⌜ r ≡ convert-flags flags ⌝ }
-{
-    (flags < 8) & !(stores(flags) & spoils(flags))
-}
-
-pub fn release_flags(flags: u32) -> bool
-    ensures { λ r. ⌜ r ≡ release-flags flags ⌝ }
-{
-    (flags < 4) & !(stores(flags) & spoils(flags))
 }
 
 pub fn name_right(name: &[u8]) -> bool
@@ -48,7 +21,7 @@ pub fn name_right(name: &[u8]) -> bool
 pub fn value_right(flags: u32, value: &[u8]) -> bool
     ensures { λ r. ⌜ r ≡ value-right flags (now (value .entry)) ⌝ }
 {
-    !stores(flags) | (value.len() == table_names::VALUE_BYTES)
+    !flags::stores(flags) | (value.len() == table_names::VALUE_BYTES)
 }
 
 // Whether k is a lock in use, and the client's.

@@ -16,7 +16,7 @@ use Rattle.rules.specs.Calls.{leave-value, held-at, asking}
 use Rattle.rules.proofs.ResourceChanges.{Quiet, leave-quiet}
 use Rattle.table_chains.specs.Contracts.{Movable, Resourced}
 use Rattle.queues.specs.Contracts.{Valued}
-use Rattle.call_refusals.specs.Contracts.{Held}
+use Rattle.queues.specs.Contracts.{Held}
 use Rattle.call_convert.specs.Contracts.{Asks, Placed}
 
 module _ (k : ℕ) (t : Tables) (p : Held k t) where

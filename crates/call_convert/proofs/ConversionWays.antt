@@ -16,7 +16,7 @@ use Rattle.answers.proofs.Steps.{stepped}
 use Rattle.answers.specs.declared.Converted.the-variants.{Granted, Waiting}
 use Rattle.answers.specs.Answers.{converted}
 use Rattle.answers.specs.Contracts.{Makes}
-use Rattle.call_refusals.specs.Contracts.{Held}
+use Rattle.queues.specs.Contracts.{Held}
 use Rattle.call_convert.specs.Contracts.{lowers, granted-in-place, on-convert-queue, Asks, Placed}
 
 module _ (k m f : ℕ) (v a sa : List ℕ) where

@@ -16,7 +16,7 @@ use Rattle.table_chains.specs.Contracts.{Some, Turns, Changes, Movable, Moving,
 use Rattle.table_chains.proofs.ChainCells.{locks-is, sized-is}
 use Rattle.queues.specs.Contracts.{Lent, Valued}
 use Rattle.queues.proofs.ResourceRecord.{slots-sweep}
-use Rattle.call_refusals.specs.Contracts.{Held}
+use Rattle.queues.specs.Contracts.{Held}
 use Rattle.call_convert.specs.Contracts.{lowers, granted-in-place, on-convert-queue, Asks, Placed}
 use Rattle.call_convert.proofs.AskingLock.{held-range, asking-movable, placed-valued, placed-movable, placed-resourced}
 

@@ -8,7 +8,7 @@ use lib.Dec.{ltb}
 use Rattle.tables.specs.State.{Tables, value-width, lock, move}
 use Rattle.rules.specs.Queues.{sweep}
 use Rattle.rules.specs.Calls.{stores, strong, leave-value, held-at, asking, in-place}
-use Rattle.call_refusals.specs.Contracts.{Held}
+use Rattle.queues.specs.Contracts.{Held}
 
 -- from PW or EX to a smaller mode
 unfoldable pub lowers : ℕ → ℕ → Bool

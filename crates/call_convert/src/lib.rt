@@ -86,7 +86,7 @@ pub fn convert_change(
     requires { ⌜ Lent (Convertible k mode flags (now value)) (now words) (now slots) ⌝ }
     ensures { λ r. ⌜ Makes (Convertible k mode flags (now (value .entry))) (convert-change k mode flags (now (value .entry))) (now (words .entry)) (now (slots .entry)) (now (words .exit)) (now (slots .exit)) (converted r) ⌝ }
 {
-    if call_refusals::in_place(words, k, mode) {
+    if queues::in_place(words, k, mode) {
         convert_in_place(words, slots, k, mode, flags, value);
         return Converted::Granted;
     }

@@ -12,7 +12,8 @@ use Rattle.tables.proofs.Valid.{Core}
 use Rattle.rules.specs.Calls.{unless, own, no-queue, request-flags, convert-flags, release-flags, name-right, value-right, in-place, request-refusal, convert-refusal, release-refusal}
 use Rattle.rules.proofs.AcceptedCalls.{passed, next-test}
 use Rattle.table_chains.specs.Contracts.{Some, Tells}
-use Rattle.call_refusals.specs.Contracts.{Held, ResourceOrNone, Finds}
+use Rattle.call_refusals.specs.Contracts.{ResourceOrNone, Finds}
+use Rattle.queues.specs.Contracts.{Held}
 use Rattle.call_refusals.specs.Rests.{granted-refusal, conversion-refusal, room-refusal}
 use Rattle.call_refusals.proofs.RequestRoom.{finds-resource}
 

@@ -1,4 +1,3 @@
-pub mod ConversionInPlace
 pub mod LockRefusals
 pub mod Arguments
 pub mod RequestRoom

@@ -5,14 +5,9 @@ use mathlib.Core.List.{List}
 use Prim.Native.Nat.{ℕ}
 use lib.ListN.{length}
 use Rattle.tables.specs.Lists.{within}
-use Rattle.tables.specs.State.{Tables, lock, granted}
+use Rattle.tables.specs.State.{Tables}
 use Rattle.tables.proofs.Valid.{Core}
 use Rattle.rules.specs.Queues.{find}
-
--- the lock k is granted
-pub record Held (k : ℕ) (t : Tables) : Type 0 where
-  pub core : Core t
-  pub is-granted : granted (lock t k) ≡ true
 
 -- r is a resource that is there, or 0
 pub record ResourceOrNone (r : ℕ) (t : Tables) : Type 0 where

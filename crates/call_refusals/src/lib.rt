@@ -1,15 +1,14 @@
 // Why a call is turned down: for each call the number of the first refusal that fits, or 0 if none does.
 use call_arguments::client_right;
-use call_arguments::no_queue;
 use call_arguments::own;
 use table_fields::resource_word;
 ghost use mathlib.Core.Path.{_≡_};
 ghost use Prim.Native.Nat.{_<_};
 ghost use Rattle.tables.proofs.Valid.{Core};
-ghost use Rattle.rules.specs.Calls.{«in-place», «request-refusal», «convert-refusal», «release-refusal», «cancel-refusal», «purge-refusal»};
+ghost use Rattle.rules.specs.Calls.{«request-refusal», «convert-refusal», «release-refusal», «cancel-refusal», «purge-refusal»};
 ghost use Rattle.rules.specs.Entries.{«look-refusal»};
 ghost use Rattle.table_chains.specs.Contracts.{Some, Tells};
-ghost use Rattle.call_refusals.specs.Contracts.{Held, ResourceOrNone, Finds};
+ghost use Rattle.call_refusals.specs.Contracts.{ResourceOrNone, Finds};
 ghost use Rattle.call_refusals.specs.Rests.{«granted-refusal», «conversion-refusal», «room-refusal»};
 
 // The tables aren't sound (not start or load), or the image lent to load or holder isn't the image of sound tables.
@@ -53,23 +52,6 @@ pub const BLOCKS: u32 = 13;
 
 // Image's area or load's tables have the wrong length.
 pub const LENGTHS: u32 = 14;
-
-// Whether the lock k, which is granted, can take the mode in place: down, or no conversion waits there and it fits the
-// other holders.
-pub fn in_place(words: &[u32], k: u32, mode: u32) -> bool
-    requires { ⌜ Some (Held k) (now words) ⌝ }
-    requires { ⌜ mode < 6 ⌝ }
-    ensures { λ x. ⌜ Tells (Held k) (in-place k mode) (now (words .entry)) x ⌝ }
-{
-    let lock = table_fields::lock_at(words, k);
-    if modes::down(lock.held, mode) {
-        return true;
-    }
-    if resource_word(words, lock.resource, table_fields::RESOURCE_CONVERT) != 0 {
-        return false;
-    }
-    queues::fits(words, lock.resource, k, mode)
-}
 
 // Purge and poll have the client as their only argument.
 pub fn client_refusal(client: u32) -> u32
@@ -148,7 +130,7 @@ pub fn release_refusal(words: &[u32], client: u32, k: u32, flags: u32, value: &[
     if !client_right(client) {
         return CLIENT;
     }
-    if !call_arguments::release_flags(flags) {
+    if !flags::release_flags(flags) {
         return FLAGS;
     }
     if !call_arguments::value_right(flags, value) {
@@ -167,10 +149,10 @@ fn conversion_refusal(words: &[u32], client: u32, k: u32, mode: u32, flags: u32)
     if refusal != 0 {
         return refusal;
     }
-    if !no_queue(flags) {
+    if !flags::no_queue(flags) {
         return 0;
     }
-    if in_place(words, k, mode) {
+    if queues::in_place(words, k, mode) {
         return 0;
     }
     BLOCKS
@@ -193,7 +175,7 @@ pub fn convert_refusal(
     if table_fields::LAST_MODE < mode {
         return MODE;
     }
-    if !call_arguments::convert_flags(flags) {
+    if !flags::convert_flags(flags) {
         return FLAGS;
     }
     if !call_arguments::value_right(flags, value) {
@@ -215,7 +197,7 @@ fn room_refusal(words: &[u32], found: u32, mode: u32, flags: u32) -> u32
     if words[table_fields::FREE_LOCKS] == 0 {
         return NO_LOCK;
     }
-    if (found == 0) | !no_queue(flags) {
+    if (found == 0) | !flags::no_queue(flags) {
         return 0;
     }
     if queues::admits(words, found, mode) {
@@ -243,7 +225,7 @@ pub fn request_refusal(
     if table_fields::LAST_MODE < mode {
         return MODE;
     }
-    if !call_arguments::request_flags(flags) {
+    if !flags::request_flags(flags) {
         return FLAGS;
     }
     if !call_arguments::name_right(name) {

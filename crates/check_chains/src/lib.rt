@@ -5,10 +5,7 @@
 // function: a call for each run was measured to be slower on full tables, where runs are short.
 use check_locks::stands_denied;
 use check_locks::stands_free;
-use check_locks::stands_waiting;
 use check_resources::in_use;
-use table_chains::is_blocked;
-use table_chains::is_told;
 use table_fields::BLOCKED;
 use table_fields::DENIED;
 use table_fields::FREE_LOCKS;
@@ -19,8 +16,9 @@ use table_fields::LOCK_NEXT_NOTICE;
 use table_fields::LOCKS;
 use table_fields::NOTICES;
 use table_fields::RESOURCE_NEXT;
-use table_fields::RESOURCE_WAIT;
 use table_fields::RESOURCES;
+use table_fields::is_blocked;
+use table_fields::is_told;
 use table_fields::lock_at;
 use table_fields::lock_word;
 use table_fields::resource_word;
@@ -211,40 +209,6 @@ pub fn denied_met(words: &[u32]) -> u32
         }
         k = lock_word(words, k, LOCK_NEXT);
         met += 1;
-    }
-    met
-}
-
-// The same of the wait chain of resource r, which is in use.
-pub fn waiting_met(words: &[u32], r: u32) -> u32
-    requires { ⌜ Sized (now words) ⌝ }
-    requires { ⌜ (1 ≤ r) × (r ≤ resources-in (now words)) ⌝ }
-    requires { ⌜ named (now words) r ≡ true ⌝ }
-    ensures { λ x. ⌜ (x ≡ home-steps (now (words .entry)) 3 r (word-in (now (words .entry)) (of-resource r 3))) × (x ≤ locks-in (now (words .entry)) + 1) ⌝ }
-{
-    let n = words[LOCKS];
-    let mut k = resource_word(words, r, RESOURCE_WAIT);
-    let mut met = 0;
-    while k != 0 {
-        loop {
-            if n <= met {
-                return n + 1;
-            }
-            if n < k {
-                return n + 1;
-            }
-            if !stands_waiting(words, r, k) {
-                return n + 1;
-            }
-            let beside = k + 1;
-            let next = lock_word(words, k, LOCK_NEXT);
-            met += 1;
-            if next != beside {
-                k = next;
-                break;
-            }
-            k = beside;
-        }
     }
     met
 }

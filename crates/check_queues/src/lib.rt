@@ -1,8 +1,8 @@
 // One resource's queues: each lock on them is fine, the held modes go together, and no head can be granted.
-use check_chains::waiting_met;
 use check_laws::Held;
 use check_locks::stands_converting;
 use check_locks::stands_granted;
+use check_locks::stands_waiting;
 use check_resources::bit;
 use table_fields::COMPLETION_NONE;
 use table_fields::LOCK_ASKED;
@@ -17,13 +17,13 @@ use table_fields::lock_word;
 use table_fields::resource_word;
 ghost use mathlib.Core.Path.{_≡_};
 ghost use mathlib.Core.Bool.{true};
-ghost use Prim.Native.Nat.{_-_, _<_, _≤_};
+ghost use Prim.Native.Nat.{_+_, _-_, _<_, _≤_};
 ghost use Rattle.tables.specs.Lists.{bit};
 ghost use Rattle.tables.specs.State.{told};
-ghost use Rattle.tables.specs.Layout.{«resources-in», «locks-in», «read-lock»};
+ghost use Rattle.tables.specs.Layout.{«of-resource», «word-in», «resources-in», «locks-in», «read-lock»};
 ghost use Rattle.table_fields.specs.Sizes.{Sized};
 ghost use Rattle.table_names.specs.Names.{named};
-ghost use Rattle.check_laws.specs.Check.{«tail-steps», «convert-from», «convert-walk», «heads-wait»};
+ghost use Rattle.check_laws.specs.Check.{«home-steps», «tail-steps», «convert-from», «convert-walk», «heads-wait»};
 ghost use Rattle.check_resources.specs.Passes.{Fine};
 ghost use Rattle.check_queues.specs.QueueWalks.{over, «grants-over», «queues-over», «fits-beside», Walked, Granting, Heads, Counted};
 
@@ -215,6 +215,41 @@ fn convert_walk(words: &[u32], r: u32, granted: u32) -> Held
         };
     }
     convert_from(words, r, c, granted)
+}
+
+// How many locks the wait chain of r has; one more than there are if it does not end, or has another. It has an inner
+// loop for a run of records, as the walks of `check_chains` have.
+pub fn waiting_met(words: &[u32], r: u32) -> u32
+    requires { ⌜ Sized (now words) ⌝ }
+    requires { ⌜ (1 ≤ r) × (r ≤ resources-in (now words)) ⌝ }
+    requires { ⌜ named (now words) r ≡ true ⌝ }
+    ensures { λ x. ⌜ (x ≡ home-steps (now (words .entry)) 3 r (word-in (now (words .entry)) (of-resource r 3))) × (x ≤ locks-in (now (words .entry)) + 1) ⌝ }
+{
+    let n = words[LOCKS];
+    let mut k = resource_word(words, r, RESOURCE_WAIT);
+    let mut met = 0;
+    while k != 0 {
+        loop {
+            if n <= met {
+                return n + 1;
+            }
+            if n < k {
+                return n + 1;
+            }
+            if !stands_waiting(words, r, k) {
+                return n + 1;
+            }
+            let beside = k + 1;
+            let next = lock_word(words, k, LOCK_NEXT);
+            met += 1;
+            if next != beside {
+                k = next;
+                break;
+            }
+            k = beside;
+        }
+    }
+    met
 }
 
 // The convert head is kept out by the others' modes; where there is none, the wait head by the granted ones.

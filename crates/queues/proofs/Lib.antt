@@ -4,3 +4,4 @@ pub mod QueueReads
 pub mod GrantTurns
 pub mod ResourceRecord
 pub mod StateAfter
+pub mod ConversionInPlace

@@ -5,7 +5,7 @@ use mathlib.Core.List.{List}
 use Prim.Native.Nat.{ℕ, _≤_}
 use lib.ListN.{length}
 use Rattle.tables.specs.Lists.{within, first}
-use Rattle.tables.specs.State.{Tables, name-width, value-width, resource}
+use Rattle.tables.specs.State.{Tables, name-width, value-width, lock, resource, granted}
 use Rattle.tables.specs.Layout.{words, slots}
 use Rattle.tables.specs.Grants.{convert-grantable, grantable-head, empty}
 use Rattle.tables.proofs.Valid.{used, Core, line}
@@ -16,6 +16,11 @@ use Rattle.rules.specs.Calls.{stores}
 pub record Locked (k : ℕ) (t : Tables) : Type 0 where
   pub core : Core t
   pub in-range : within (length (t .locks)) k ≡ true
+
+-- the lock k is granted
+pub record Held (k : ℕ) (t : Tables) : Type 0 where
+  pub core : Core t
+  pub is-granted : granted (lock t k) ≡ true
 
 -- ONE TURN of a sweep: the line of r, its convert chain and then its wait chain, has a head that can be granted; it is granted
 unfoldable pub ready : ℕ → Tables → Bool

@@ -10,10 +10,10 @@ ghost use Rattle.tables.specs.State.{«no-resource», resource, «move-resource
 ghost use Rattle.tables.specs.Grants.{fits, admits, empty};
 ghost use Rattle.tables.proofs.Valid.{line};
 ghost use Rattle.rules.specs.Queues.{«granted-lock», sweep, «free-lock», settle};
-ghost use Rattle.rules.specs.Calls.{stores, spoils, «leave-value», «new-resource»};
+ghost use Rattle.rules.specs.Calls.{«in-place», «leave-value», «new-resource»};
 ghost use Rattle.table_chains.specs.Contracts.{Some, Turns, Tells, Answers, Changes, Resourced};
 ghost use Rattle.queues.specs.Holders.{«with-holder», «with-holders», others, «held-in», «locks-from», Joined, Row};
-ghost use Rattle.queues.specs.Contracts.{Locked, ready, advance, Lent, Vacant, Takes, Valued};
+ghost use Rattle.queues.specs.Contracts.{Locked, Held, ready, advance, Lent, Vacant, Takes, Valued};
 
 // The set with the mode that lock j holds, unless j is k.
 fn with_holder(words: &[u32], set: u32, j: u32, k: u32) -> u32
@@ -70,6 +70,23 @@ pub fn admits(words: &[u32], r: u32, mode: u32) -> bool
         return false;
     }
     fits(words, r, 0, mode)
+}
+
+// Whether the lock k, which is granted, can take the mode in place: down, or no conversion waits there and it fits the
+// other holders.
+pub fn in_place(words: &[u32], k: u32, mode: u32) -> bool
+    requires { ⌜ Some (Held k) (now words) ⌝ }
+    requires { ⌜ mode < 6 ⌝ }
+    ensures { λ x. ⌜ Tells (Held k) (in-place k mode) (now (words .entry)) x ⌝ }
+{
+    let lock = table_fields::lock_at(words, k);
+    if modes::down(lock.held, mode) {
+        return true;
+    }
+    if resource_word(words, lock.resource, table_fields::RESOURCE_CONVERT) != 0 {
+        return false;
+    }
+    fits(words, lock.resource, k, mode)
 }
 
 // The lock that is next to be granted on r, or 0: the convert head, or else the wait head.
@@ -163,19 +180,6 @@ pub fn take_resource(words: &mut [u32], slots: &mut [u8], r: u32, name: &[u8])
     table_names::store_name(slots, r, name);
 }
 
-// Flag 1: store the value. Flag 2: make it not valid.
-pub fn stores(flags: u32) -> bool
-    ensures { λ x. ⌜ x ≡ stores flags ⌝ }
-{
-    flags % 2 == 1
-}
-
-pub fn spoils(flags: u32) -> bool
-    ensures { λ x. ⌜ x ≡ spoils flags ⌝ }
-{
-    flags / 2 % 2 == 1
-}
-
 // Where `acts` says so, flags 1 and 2 do what they say to the value of r. Storing makes it valid.
 pub fn leave_value(
     words: &mut [u32],
@@ -192,12 +196,12 @@ pub fn leave_value(
         return;
     }
     let length = resource_word(words, r, table_fields::RESOURCE_NAME_LENGTH);
-    if stores(flags) {
+    if flags::stores(flags) {
         table_chains::move_resource_words(words, r, length, 1);
         table_names::store_value(slots, r, value);
         return;
     }
-    if spoils(flags) {
+    if flags::spoils(flags) {
         table_chains::move_resource_words(words, r, length, 0);
     }
 }

@@ -160,28 +160,6 @@ module _ (ws : List ℕ) (c : Cells) (k : ℕ) (h : Leaves ws c k) where
 
 pub ruleset leave-laws = (needs, leave-walks, leave-low, leave-inside, left-inside, left, left-kept)
 
--- the first record
-module _ (ws : List ℕ) (c : Cells) (h : Leaves ws c (getD ws (c .head) 0)) (x : ℕ) (e : (x ≡ getD ws (c .head) 0) × (x < 2 ^ 32)) where
-  first-found : c .head ≡ cell-holding ws (cell-of c) (getD ws (c .head) 0) (c .most) (c .head)
-  first-found = sym (holding-found ws (cell-of c) (getD ws (c .head) 0) (c .most) (c .head) refl)
-
-  pub pop-low : 1 ≤ x
-  pop-low = rw (e .0) (h .low)
-
-  pub pop-inside : c .first + c .width * (x - 1) < length ws
-  pop-inside = rw (e .0) (h .inside)
-
-  pub popped : set (set ws (c .head) (getD ws (c .first + c .width * (x - 1)) 0)) (c .first + c .width * (x - 1)) 0 ≡ leave-cells (cell-of c) (c .most) (getD ws (c .head) 0) ws
-  popped = rw (e .0) (left ws c (getD ws (c .head) 0) h (c .head) first-found)
-
-  pub popped-kept : (u v : ℕ) → Kept ws (set (set ws (c .head) u) (c .first + c .width * (x - 1)) v)
-  popped-kept u v = rw (e .0) (left-kept ws c (getD ws (c .head) 0) h (c .head) first-found u v)
-
-pub pop-head : (ws : List ℕ) (c : Cells) → Leaves ws c (getD ws (c .head) 0) → c .head < length ws
-pop-head ws c h = safe-cell ws (cell-of c) (getD ws (c .head) 0) (c .most) (c .head) (h .walks .walk)
-
-pub ruleset pop-laws = (needs, pop-head, pop-low, pop-inside, popped, popped-kept)
-
 module _ (ws : List ℕ) (c : Cells) (k : ℕ) (h : Pushes ws c k) where
   pub pushed : set (set ws (c .first + c .width * (k - 1)) (getD ws (c .head) 0)) (c .head) k ≡ push-cells (cell-of c) k ws
   unfolding push-cells

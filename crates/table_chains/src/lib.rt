@@ -1,13 +1,14 @@
 // Changes of the words in place: the cells of a chain, a lock that becomes another, the words of a resource.
 use table_fields::ResourceFields;
+use table_fields::is_blocked;
+use table_fields::is_told;
 use table_fields::put_lock;
 use table_fields::wide;
 use tables::Lock;
 ghost use mathlib.Core.Path.{_≡_};
 ghost use mathlib.Core.Bool.{false};
 ghost use Prim.Native.Nat.{_+_, _*_, _-_, _<_, _≤_};
-ghost use lib.ListN.{getD};
-ghost use Rattle.tables.specs.State.{home, «home-at», «blocked-lock», told, blocked, notices, «free-resources», «of-locks»};
+ghost use Rattle.tables.specs.State.{home, «home-at», blocked, notices, «free-resources», «of-locks»};
 ghost use Rattle.tables.specs.Layout.{place, head, «lock-width», «resources-in», «locks-in»};
 ghost use Rattle.tables.proofs.ChainWalk.{«cell-holding»};
 ghost use Rattle.tables.proofs.WordSteps.{«push-cells», «leave-cells», «join-cells»};
@@ -133,21 +134,6 @@ pub fn leave(words: &mut [u32], cells: Cells, k: u32)
     words[own] = 0;
 }
 
-// The first record leaves a chain that has one.
-pub fn pop(words: &mut [u32], cells: Cells) -> u32
-    requires { ⌜ Leaves (now words) cells (getD (now words) (cells .head) 0) ⌝ }
-    ensures { λ r. ⌜ r ≡ getD (now (words .entry)) (cells .head) 0 ⌝ }
-    ensures { λ r. ⌜ now (words .exit) ≡ leave-cells (cell-of cells) (cells .most) r (now (words .entry)) ⌝ }
-    ensures { λ _. ⌜ Kept (now (words .entry)) (now (words .exit)) ⌝ }
-{
-    let head = cells.head;
-    let k = words[head];
-    let cell = cells.first + cells.width * (wide(k) - 1);
-    words[head] = words[cell];
-    words[cell] = 0;
-    k
-}
-
 // The record k was on a chain or not, and is to be: it enters at the end.
 fn shift(words: &mut [u32], cells: Cells, was: bool, is: bool, k: u32)
     requires { ⌜ Shifts was (now words) cells k ⌝ }
@@ -195,19 +181,6 @@ fn arrive(words: &mut [u32], cells: Cells, front: bool, k: u32)
     } else {
         join(words, cells, k);
     }
-}
-
-// What a lock's record says of it.
-pub fn is_blocked(l: Lock) -> bool
-    ensures { λ r. ⌜ r ≡ blocked-lock l ⌝ }
-{
-    (l.state == table_fields::STATE_CONVERTING) | (l.state == table_fields::STATE_WAITING)
-}
-
-pub fn is_told(l: Lock) -> bool
-    ensures { λ r. ⌜ r ≡ told l ⌝ }
-{
-    l.completion != table_fields::COMPLETION_NONE
 }
 
 fn keeps_home(l: Lock, m: Lock) -> bool

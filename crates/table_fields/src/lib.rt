@@ -3,6 +3,7 @@
 use tables::Lock;
 ghost use mathlib.Core.Path.{_≡_};
 ghost use Prim.Native.Nat.{_+_, _*_, _-_, _<_, _≤_, _^_};
+ghost use Rattle.tables.specs.State.{«blocked-lock», told};
 ghost use Rattle.tables.specs.Layout.{«header-width», «resource-width», «lock-width», «of-header», «of-resource», «of-lock»};
 ghost use Rattle.tables.specs.Layout.{«resources-in», «locks-in», «word-in», «read-lock»};
 ghost use Rattle.tables.proofs.MoveSteps.{«set-cells»};
@@ -228,4 +229,17 @@ pub fn put_resource(words: &mut [u32], r: u32, x: ResourceFields)
     let start = resource_start(words, r);
     words[start + RESOURCE_NAME_LENGTH] = x.bytes;
     words[start + RESOURCE_VALID] = x.valid;
+}
+
+// What a lock's record says of it.
+pub fn is_blocked(l: Lock) -> bool
+    ensures { λ r. ⌜ r ≡ blocked-lock l ⌝ }
+{
+    (l.state == STATE_CONVERTING) | (l.state == STATE_WAITING)
+}
+
+pub fn is_told(l: Lock) -> bool
+    ensures { λ r. ⌜ r ≡ told l ⌝ }
+{
+    l.completion != COMPLETION_NONE
 }

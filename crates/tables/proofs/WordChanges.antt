@@ -199,15 +199,6 @@ module _ (t : Tables) (c : Chain) (h : Threaded t c) where
       chain-words t c _ k 0 _ k (h .present) (s .1) (linked-head t c (h .present))
       (λ n. next-past k 0 _ n ∙ next-here k k _ refl) (next-here 0 0 _ refl) (λ j m n. next-push-past j 0 k _ n m)
 
-  pub pop-words : (k : ℕ) (ks : List ℕ) → chain-of c t ≡ k ∷ ks → words (with-chain c ks t) ≡ set (set (words t) (spot t (cell c 0)) (first ks)) (spot t (cell c k)) 0
-  unfolding holding
-  pop-words k ks e =
-      let d : Distinct (k ∷ ks) = rw e at (h .distinct) in
-      let rest : remove k (chain-of c t) ≡ ks = rw e (remove-here k k ks refl ∙ without k ks (d .0)) in
-      let before : holder 0 k (chain-of c t) ≡ 0 = rw e (holder-here k k 0 ks refl) in
-      let then : next k (chain-of c t) ≡ first ks = rw e (next-here k k ks refl) in
-      rw (rest, before, then) at (remove-words k (rw e (λ a. a .0 refl)))
-
 -- a record changes in its fields: of its words, those from the m-th on are the numbers vs, and those before, its links, keep their values
 module _ (t u : Tables) (resources : length (u .resources) ≡ length (t .resources)) (locks : length (u .locks) ≡ length (t .locks))
     (chains : (c : Chain) → chain-of c u ≡ chain-of c t)

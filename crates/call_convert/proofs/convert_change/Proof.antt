@@ -6,7 +6,7 @@ use Rattle.call_convert.proofs.convert_change.Reads as reads
 use Rattle.call_convert.proofs.convert_change.Lts as lts
 use Rattle.call_convert.proofs.convert_in_place.Reads as convert-in-place-reads
 use Rattle.call_convert.proofs.queue_conversion.Reads as queue-conversion-reads
-use Rattle.call_refusals.proofs.in_place.Reads as in-place-reads
+use Rattle.queues.proofs.in_place.Reads as in-place-reads
 
 -- src/lib.rt:89:8
 in-place-requires : tie.Need-in-place-requires

@@ -4,9 +4,9 @@ use Rattle.call_refusals.proofs.conversion_refusal.Statement.{statement
 use Rattle.call_refusals.proofs.conversion_refusal.Tie as tie
 use Rattle.call_refusals.proofs.conversion_refusal.Reads as reads
 use Rattle.call_refusals.proofs.conversion_refusal.Lts as lts
-use Rattle.call_arguments.proofs.no_queue.Reads as no-queue-reads
+use Rattle.flags.proofs.no_queue.Reads as no-queue-reads
 use Rattle.call_refusals.proofs.granted_refusal.Reads as granted-refusal-reads
-use Rattle.call_refusals.proofs.in_place.Reads as in-place-reads
+use Rattle.queues.proofs.in_place.Reads as in-place-reads
 
 -- src/lib.rt:163:9
 granted-refusal-requires : tie.Need-granted-refusal-requires

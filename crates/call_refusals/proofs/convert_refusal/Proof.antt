@@ -5,7 +5,7 @@ use Rattle.call_refusals.proofs.convert_refusal.Tie as tie
 use Rattle.call_refusals.proofs.convert_refusal.Reads as reads
 use Rattle.call_refusals.proofs.convert_refusal.Lts as lts
 use Rattle.call_arguments.proofs.client_right.Reads as client-right-reads
-use Rattle.call_arguments.proofs.convert_flags.Reads as convert-flags-reads
+use Rattle.flags.proofs.convert_flags.Reads as convert-flags-reads
 use Rattle.call_arguments.proofs.value_right.Reads as value-right-reads
 use Rattle.call_refusals.proofs.conversion_refusal.Reads as conversion-refusal-reads
 

@@ -5,7 +5,7 @@ use Rattle.call_refusals.proofs.release_refusal.Tie as tie
 use Rattle.call_refusals.proofs.release_refusal.Reads as reads
 use Rattle.call_refusals.proofs.release_refusal.Lts as lts
 use Rattle.call_arguments.proofs.client_right.Reads as client-right-reads
-use Rattle.call_arguments.proofs.release_flags.Reads as release-flags-reads
+use Rattle.flags.proofs.release_flags.Reads as release-flags-reads
 use Rattle.call_arguments.proofs.value_right.Reads as value-right-reads
 use Rattle.call_refusals.proofs.granted_refusal.Reads as granted-refusal-reads
 

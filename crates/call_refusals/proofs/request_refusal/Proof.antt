@@ -6,7 +6,7 @@ use Rattle.call_refusals.proofs.request_refusal.Reads as reads
 use Rattle.call_refusals.proofs.request_refusal.Lts as lts
 use Rattle.call_arguments.proofs.client_right.Reads as client-right-reads
 use Rattle.call_arguments.proofs.name_right.Reads as name-right-reads
-use Rattle.call_arguments.proofs.request_flags.Reads as request-flags-reads
+use Rattle.flags.proofs.request_flags.Reads as request-flags-reads
 use Rattle.call_refusals.proofs.room_refusal.Reads as room-refusal-reads
 
 -- src/lib.rt:236:9

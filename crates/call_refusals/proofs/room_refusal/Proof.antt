@@ -4,7 +4,7 @@ use Rattle.call_refusals.proofs.room_refusal.Statement.{statement}
 use Rattle.call_refusals.proofs.room_refusal.Tie as tie
 use Rattle.call_refusals.proofs.room_refusal.Reads as reads
 use Rattle.call_refusals.proofs.room_refusal.Lts as lts
-use Rattle.call_arguments.proofs.no_queue.Reads as no-queue-reads
+use Rattle.flags.proofs.no_queue.Reads as no-queue-reads
 use Rattle.queues.proofs.admits.Reads as admits-reads
 
 -- src/lib.rt:208:24

@@ -7,8 +7,8 @@ use Rattle.queues.proofs.leave_value.Lts as lts
 use Rattle.table_chains.proofs.move_resource_words.Reads as move-resource-words-reads
 use Rattle.table_fields.proofs.resource_word.Reads as resource-word-reads
 use Rattle.table_names.proofs.store_value.Reads as store-value-reads
-use Rattle.queues.proofs.spoils.Reads as spoils-reads
-use Rattle.queues.proofs.stores.Reads as stores-reads
+use Rattle.flags.proofs.spoils.Reads as spoils-reads
+use Rattle.flags.proofs.stores.Reads as stores-reads
 
 -- src/lib.rt:185:9
 returns : tie.Need-returns

@@ -3,8 +3,8 @@ use Rattle.table_chains.proofs.shift_sides.Statement.{statement}
 use Rattle.table_chains.proofs.shift_sides.Tie as tie
 use Rattle.table_chains.proofs.shift_sides.Reads as reads
 use Rattle.table_chains.proofs.shift_sides.Lts as lts
-use Rattle.table_chains.proofs.is_blocked.Reads as is-blocked-reads
-use Rattle.table_chains.proofs.is_told.Reads as is-told-reads
+use Rattle.table_fields.proofs.is_blocked.Reads as is-blocked-reads
+use Rattle.table_fields.proofs.is_told.Reads as is-told-reads
 use Rattle.table_chains.proofs.lock_cells.Reads as lock-cells-reads
 use Rattle.table_chains.proofs.shift.Reads as shift-reads
 

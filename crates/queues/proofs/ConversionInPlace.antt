@@ -22,8 +22,8 @@ use Rattle.table_fields.specs.Sizes.{Sized}
 use Rattle.rules.specs.Calls.{in-place}
 use Rattle.table_chains.specs.Contracts.{Some, Tells, Resourced}
 use Rattle.table_chains.proofs.ChainCells.{locks-is, sized-is}
 use Rattle.queues.proofs.QueueReads.{here-low, here-high, head-null}
-use Rattle.call_refusals.specs.Contracts.{Held}
+use Rattle.queues.specs.Contracts.{Held}
 
 -- a granted lock stands on a resource that is there
 module _ (k : ℕ) (t : Tables) (p : Held k t) where

@@ -1,7 +1,7 @@
 use borrow.Author.Needs.{needs}
 use Rattle.rules.specs.Calls.{release-flags}
-use Rattle.call_arguments.proofs.release_flags.Statement.{statement}
-use Rattle.call_arguments.proofs.release_flags.Tie as tie
+use Rattle.flags.proofs.release_flags.Statement.{statement}
+use Rattle.flags.proofs.release_flags.Tie as tie
 
 returns : tie.Need-returns
 unfolding release-flags

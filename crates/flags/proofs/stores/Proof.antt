@@ -1,9 +1,9 @@
 use borrow.Author.Needs.{needs}
 use Rattle.rules.specs.Calls.{stores}
-use Rattle.queues.proofs.stores.Statement.{statement}
-use Rattle.queues.proofs.stores.Tie as tie
-use Rattle.queues.proofs.stores.Reads as reads
-use Rattle.queues.proofs.stores.Lts as lts
+use Rattle.flags.proofs.stores.Statement.{statement}
+use Rattle.flags.proofs.stores.Tie as tie
+use Rattle.flags.proofs.stores.Reads as reads
+use Rattle.flags.proofs.stores.Lts as lts
 
 -- src/lib.rt:167:1
 returns : tie.Need-returns

@@ -1,7 +1,7 @@
 use borrow.Author.Needs.{needs}
 use Rattle.rules.specs.Calls.{convert-flags}
-use Rattle.call_arguments.proofs.convert_flags.Statement.{statement}
-use Rattle.call_arguments.proofs.convert_flags.Tie as tie
+use Rattle.flags.proofs.convert_flags.Statement.{statement}
+use Rattle.flags.proofs.convert_flags.Tie as tie
 
 returns : tie.Need-returns
 unfolding convert-flags

@@ -1,6 +1,6 @@
 use Rattle.rules.specs.Calls.{no-queue}
-use Rattle.call_arguments.proofs.no_queue.Statement.{statement}
-use Rattle.call_arguments.proofs.no_queue.Tie as tie
+use Rattle.flags.proofs.no_queue.Statement.{statement}
+use Rattle.flags.proofs.no_queue.Tie as tie
 
 returns : tie.Need-returns
 unfolding no-queue

@@ -1,6 +1,6 @@
 use Rattle.rules.specs.Calls.{request-flags}
-use Rattle.call_arguments.proofs.request_flags.Statement.{statement}
-use Rattle.call_arguments.proofs.request_flags.Tie as tie
+use Rattle.flags.proofs.request_flags.Statement.{statement}
+use Rattle.flags.proofs.request_flags.Tie as tie
 
 returns : tie.Need-returns
 unfolding request-flags

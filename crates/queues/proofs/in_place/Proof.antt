@@ -1,12 +1,12 @@
-use Rattle.call_refusals.proofs.ConversionInPlace.{placing, held-mode, place-down, place-behind, held-resourced, place-fits}
-use Rattle.call_refusals.proofs.in_place.Statement.{statement}
-use Rattle.call_refusals.proofs.in_place.Tie as tie
-use Rattle.call_refusals.proofs.in_place.Reads as reads
-use Rattle.call_refusals.proofs.in_place.Lts as lts
+use Rattle.queues.proofs.ConversionInPlace.{placing, held-mode, place-down, place-behind, held-resourced, place-fits}
+use Rattle.queues.proofs.in_place.Statement.{statement}
+use Rattle.queues.proofs.in_place.Tie as tie
+use Rattle.queues.proofs.in_place.Reads as reads
+use Rattle.queues.proofs.in_place.Lts as lts
 use Rattle.table_fields.proofs.lock_at.Reads as lock-at-reads
 use Rattle.table_fields.proofs.resource_word.Reads as resource-word-reads
 use Rattle.modes.proofs.down.Reads as down-reads
 use Rattle.queues.proofs.fits.Reads as fits-reads
 
 -- src/lib.rt:65:9
 lock-at-requires : tie.Need-lock-at-requires

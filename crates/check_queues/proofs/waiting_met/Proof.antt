@@ -3,13 +3,13 @@ use Prim.Native.Nat.{_≤_, _-_}
 use mathlib.Core.Path.{_≡_}
 use Rattle.tables.specs.Layout.{of-resource, of-lock, word-in}
 use Rattle.check_laws.specs.Check.{stands, home-steps}
 use Rattle.check_chains.specs.Walks.{left}
 use Rattle.check_chains.proofs.ChainWalk.{walk-other, walk-loop}
 use Rattle.check_chains.proofs.WalkStarts.{starts}
 use native.Mathlib.Omega.{arith}
 use borrow.Author.Needs.{needs}
-use Rattle.check_chains.proofs.waiting_met.Statement.{statement}
-use Rattle.check_chains.proofs.waiting_met.Tie as tie
+use Rattle.check_queues.proofs.waiting_met.Statement.{statement}
+use Rattle.check_queues.proofs.waiting_met.Tie as tie
 
 abbrev Inv-loop : tie.InvT-loop
 Inv-loop words r n k₀ met₀ k met = (met ≤ n) × (home-steps words 3 r (word-in words (of-resource r 3)) ≡ left (λ j. word-in words (of-lock j 0)) (stands words 3 r) n met k)
