@@ -1,8 +1,28 @@
 # The commands of this repository. `make test` is the gate.
+.PHONY: help install uninstall test-install
 .PHONY: test check fmt play lib test-c test-takeover test-rust test-readme compare soak bench
+.PHONY: compare-program expect test-pages test-expected test-bench test-lockplay
 .DELETE_ON_ERROR:
 
 SOURCES := crates.txt $(shell find crates -name '*.rt' -o -name '*.antt')
+
+# The version has its one place in the file VERSION. tests/install.sh holds the header and the Rust crate to it.
+VERSION := $(shell cat VERSION)
+MAJOR := $(firstword $(subst ., ,$(VERSION)))
+
+# A path that the user gives starts in this folder. Cargo runs in rust/, and a pkg-config file needs whole paths.
+whole = $(if $(filter /%,$(1)),$(1),$(CURDIR)/$(1))
+ifneq ($(ZAMGYORUD_LIB),)
+override ZAMGYORUD_LIB := $(call whole,$(ZAMGYORUD_LIB))
+export ZAMGYORUD_LIB
+endif
+
+# List these commands.
+# A command's line here is the first sentence of the comment that stands above its target.
+help:
+	@awk '/^#/ && text == "" { text = substr($$0, 3) } \
+	    /^[a-z-]+:/ && text != "" { sub(/:.*/, ""); sub(/\. .*/, ".", text); printf "make %-14s %s\n", $$0, text } \
+	    /^[a-z-]+:/ || /^$$/ { text = "" }' $(firstword $(MAKEFILE_LIST))
 
 # Prove every crate from nothing, try the must-fail edits, run the programs, then what is compared by running. Its last line is 'N passed, 0 failed'.
 test:
@@ -12,12 +32,12 @@ test:
 check:
 	@rt check
 
+# Lay out every source file.
 fmt:
 	@rt fmt
 
-# Play a script of calls on fresh tables, each line beside its answer. SCRIPT=- plays standard input as it is, for use by hand.
+# Play SCRIPT (examples/failover.txt) on fresh tables, each line beside its answer. SCRIPT=- plays standard input as it is, for use by hand.
 SCRIPT ?= examples/failover.txt
-
 play: target/bin/lockplay
 ifeq ($(SCRIPT),-)
 	@target/bin/lockplay
@@ -28,17 +48,54 @@ endif
 
 # Proves what lockplay stands on, where that is not done yet: some minutes the first time.
 target/bin/lockplay: $(SOURCES)
+	@$(call want,rt)
 	@rt check lockplay </dev/null >&2
 	@touch $@
 
-# The library for C programs: target/lib/libzamgyorud.a, and its header.
-lib: target/lib/libzamgyorud.a
+# Build the library for C programs, libzamgyorud.a and its header, in target/lib.
+lib: target/lib/libzamgyorud.a target/lib/zamgyorud.h
+	@echo 'target/lib has libzamgyorud.a and zamgyorud.h, version $(VERSION)' >&2
 
-target/lib/libzamgyorud.a: include/zamgyorud.h $(SOURCES)
-	@rt staticlib capi >&2
+# `rt staticlib` proves what c_api uses one crate after the other. `rt check` does it two or more at a time.
+target/lib/libzamgyorud.a: $(SOURCES)
+	@$(call want,rt)
+	@rt check $(shell sed -n 's/^c_api: *//p' crates.txt) >&2
+	@rt staticlib c_api >&2
 	@mkdir -p target/lib
-	@cp include/zamgyorud.h target/lib/zamgyorud.h
-	@cp target/staticlib/libcapi.a $@
+	@cp target/staticlib/libc_api.a $@
+
+target/lib/zamgyorud.h: include/zamgyorud.h
+	@mkdir -p target/lib
+	@cp $< $@
+
+# The same objects, which are position-independent, as a shared library. Their only global names are the header's functions.
+SHARED := target/lib/libzamgyorud.so.$(VERSION)
+$(SHARED): target/lib/libzamgyorud.a
+	@$(call want,$(CC))
+	@$(CC) $(LDFLAGS) -shared -Wl,-soname,libzamgyorud.so.$(MAJOR) -Wl,-z,defs -Wl,--whole-archive $< -Wl,--no-whole-archive -o $@
+
+# Install the header, the archive, the shared library and the pkg-config file below PREFIX (/usr/local). DESTDIR is put in front of every path.
+# INCLUDEDIR, LIBDIR and PKGCONFIGDIR may be given too.
+PREFIX ?= /usr/local
+prefix := $(call whole,$(PREFIX))
+INCLUDEDIR ?= $(prefix)/include
+LIBDIR ?= $(prefix)/lib
+PKGCONFIGDIR ?= $(LIBDIR)/pkgconfig
+install: lib $(SHARED)
+	@install -d '$(DESTDIR)$(INCLUDEDIR)' '$(DESTDIR)$(LIBDIR)' '$(DESTDIR)$(PKGCONFIGDIR)'
+	@install -m 644 include/zamgyorud.h '$(DESTDIR)$(INCLUDEDIR)'
+	@install -m 644 target/lib/libzamgyorud.a '$(DESTDIR)$(LIBDIR)'
+	@install -m 755 $(SHARED) '$(DESTDIR)$(LIBDIR)'
+	@ln -sfn $(notdir $(SHARED)) '$(DESTDIR)$(LIBDIR)/libzamgyorud.so.$(MAJOR)'
+	@ln -sfn libzamgyorud.so.$(MAJOR) '$(DESTDIR)$(LIBDIR)/libzamgyorud.so'
+	@sed -e 's|@PREFIX@|$(prefix)|' -e 's|@LIBDIR@|$(LIBDIR)|' -e 's|@INCLUDEDIR@|$(INCLUDEDIR)|' -e 's|@VERSION@|$(VERSION)|' \
+	    include/zamgyorud.pc.in | install -m 644 /dev/stdin '$(DESTDIR)$(PKGCONFIGDIR)/zamgyorud.pc'
+	@echo 'installed version $(VERSION) below $(DESTDIR)$(prefix)'
+
+# Remove what `make install` put below the same PREFIX.
+uninstall:
+	@rm -f '$(DESTDIR)$(INCLUDEDIR)/zamgyorud.h' '$(DESTDIR)$(LIBDIR)/libzamgyorud.a' '$(DESTDIR)$(PKGCONFIGDIR)/zamgyorud.pc' \
+	    '$(DESTDIR)$(LIBDIR)/libzamgyorud.so' '$(DESTDIR)$(LIBDIR)/libzamgyorud.so.$(MAJOR)' '$(DESTDIR)$(LIBDIR)/$(notdir $(SHARED))'
 
 # A C program that calls each function of the library. Its last line is 'capi: N checks passed'.
 test-c: lib
@@ -56,12 +113,47 @@ test-takeover: lib
 test-rust: lib
 	@$(call want,cargo)
 	@cd rust && cargo test --release --offline --quiet --workspace
+	@sh tests/rust_lib.sh
 
-# The C and the Rust program that the README shows.
-test-readme: lib
+# The commands and programs that the README shows.
+test-readme: lib target/bin/lockplay
 	@$(call want,$(CC))
 	@$(call want,cargo)
-	@sh tests/readme.sh target/lib README.md
+	@sh tests/readme.sh
+
+# The README's C program with an installed library, static and shared.
+test-install: lib
+	@$(call want,pkg-config)
+	@sh tests/install.sh
+
+# Checks that the pages and the picture of the layers say what is there.
+test-pages:
+	@$(call want,python3)
+	@tests/pages.py
+	@docs/layers.py --check
+
+# The comparison program without the library, for what needs the model alone.
+COMPARE := $(CURDIR)/rust/target/release/compare
+compare-program:
+	@$(call want,cargo)
+	@cd rust && cargo build --release --offline --quiet -p compare
+
+# Writes again what lockplay is to print for its script in the gate and for the bench sequences: by the independent model.
+expect: compare-program
+	@sh tests/expected.sh write $(COMPARE)
+
+# What is stored of that is what the model prints, and lockplay's script has every kind of line.
+test-expected: compare-program
+	@sh tests/expected.sh check $(COMPARE)
+
+# Document 01's bench sequences, played by lockplay. Its last line says how many.
+test-bench: target/bin/lockplay
+	@sh tests/bench.sh $(CURDIR)/target/bin/lockplay
+
+# Lockplay against the model on its script, the examples, chosen inputs and RUNS random ones.
+RUNS ?= 1000
+test-lockplay: compare-program target/bin/lockplay
+	@$(COMPARE) lockplay target/bin/lockplay --runs $(RUNS) --seed $(SEED) crates/lockplay/stdin examples/*.txt examples/bench/*.txt
 
 # The library against the independent model: every answer, word and slot byte after every call.
 CALLS ?= 200000
@@ -70,11 +162,11 @@ compare: lib
 	@$(call want,cargo)
 	@cd rust && cargo run --release --offline --quiet -p compare --features library -- --calls $(CALLS) --seed $(SEED)
 
-# The same for a long time.
+# The same comparison with ten million calls.
 soak:
 	@$(MAKE) --no-print-directory compare CALLS=10000000 SEED=$(SEED)
 
-# Times the library beside a plain Rust manager over the same tables; writes docs/BENCHMARKS.md and its plot.
+# Time the library beside a plain Rust manager over the same tables, into docs/BENCHMARKS.md and its plot.
 bench: lib
 	@$(call want,cargo)
 	@cd rust && cargo run --release --offline --quiet -p bench

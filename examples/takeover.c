@@ -2,7 +2,7 @@
  *
  * usage: takeover UNIT IMAGE ADDRESS...
  *
- * UNIT is this unit's client number, IMAGE a file with an image (zamgyorud_image writes such bytes), and each ADDRESS the name of a lock. For
+ * UNIT is this unit's client number, IMAGE a file with an image (examples/image.c writes two), and each ADDRESS the name of a lock. For
  * each address one line says who holds it exclusively and what this unit would do. Nothing is changed: to take an address over, the unit
  * still has to request it.
  *

@@ -2,8 +2,8 @@
  *
  * The tables are the caller's: words (uint32_t) and slots (bytes), of the lengths that ZAMGYORUD_WORDS and ZAMGYORUD_SLOTS give for R resource
  * records (1 to 256) and L lock records (1 to 1024). Every function takes tables of any content and numbers, names and values of any kind: what
- * isn't right is refused, and a refused call changes nothing that is lent (but read, which answers zeros in its value). Areas that are lent are
- * valid and aligned for their length and do not overlap; a pointer may be null where its length is 0.
+ * isn't right is refused, and a refused call changes nothing that is lent. Areas that are lent are valid and aligned for their length and do not
+ * overlap; a pointer may be null where its length is 0.
  *
  * Answers are a uint64_t. A refusal has the highest bit set and its number (1 to 14) below: see ZAMGYORUD_REFUSED and ZAMGYORUD_REFUSAL. Where a
  * call is accepted, zamgyorud_request and zamgyorud_poll give two numbers, ZAMGYORUD_ANSWER and ZAMGYORUD_LOCK; all others give one, the
@@ -18,6 +18,12 @@
 #ifdef __cplusplus
 extern "C" {
 #endif
+
+/* The version of this header and of the library that comes with it. */
+#define ZAMGYORUD_VERSION "0.1.0"
+#define ZAMGYORUD_VERSION_MAJOR 0
+#define ZAMGYORUD_VERSION_MINOR 1
+#define ZAMGYORUD_VERSION_PATCH 0
 
 /* How long the tables are. */
 #define ZAMGYORUD_MOST_RESOURCES 256
@@ -59,6 +65,15 @@ extern "C" {
 #define ZAMGYORUD_STATE_GRANTED 1
 #define ZAMGYORUD_STATE_CONVERTING 2
 #define ZAMGYORUD_STATE_WAITING 3
+
+/* A lock, as list gives it. */
+struct zamgyorud_entry {
+    uint32_t number; /* the lock */
+    uint32_t client;
+    uint32_t state;
+    uint32_t held;  /* a mode; 0 if it waits */
+    uint32_t asked; /* a mode; 0 if it is granted */
+};
 
 /* Refusals, the first that fits. */
 #define ZAMGYORUD_UNSOUND 1      /* the tables aren't sound, or the image isn't that of sound tables */
@@ -109,14 +124,14 @@ uint64_t zamgyorud_break(uint32_t *words, size_t words_len, const uint8_t *slots
 /* Takes the client's first notice. Two numbers: the completion and the lock; 0 and 0 if there is none. */
 uint64_t zamgyorud_poll(uint32_t *words, size_t words_len, const uint8_t *slots, size_t slots_len, uint32_t client);
 
-/* The value block of a lock's resource into value, as much as fits, zeros where refused: 1 if it is valid, else 0. */
+/* The value block of a lock's resource into value, as much as fits: 1 if it is valid, else 0. */
 uint64_t zamgyorud_read(const uint32_t *words, size_t words_len, const uint8_t *slots, size_t slots_len, uint32_t client, uint32_t lock,
                         uint8_t *value, size_t value_len);
 
-/* The locks on a lock's resource in grant, convert, wait order, five words each (number, client, state, held, asked), as many as fit whole;
- * what is past these stays as it is. How many locks there are. */
+/* The locks on a lock's resource in grant, convert, wait order into entries, of which entries_len are lent: as many as fit. Entries past these
+ * stay as they are. How many locks there are. */
 uint64_t zamgyorud_list(const uint32_t *words, size_t words_len, const uint8_t *slots, size_t slots_len, uint32_t client, uint32_t lock,
-                        uint32_t *entries, size_t entries_len);
+                        struct zamgyorud_entry *entries, size_t entries_len);
 
 /* The tables as bytes, words little-endian and then the slots, into an area of ZAMGYORUD_IMAGE(R, L) bytes: 0. */
 uint64_t zamgyorud_image(const uint32_t *words, size_t words_len, const uint8_t *slots, size_t slots_len, uint8_t *area, size_t area_len);

@@ -155,8 +155,9 @@ static void test_refusals(void)
 /* Values, after test_takeover: client 2 holds EX on vip-7 with lock 2. */
 static void test_values(void)
 {
-    uint8_t stored[32], value[40], zeros[40] = {0};
+    uint8_t stored[32], value[40], sevens[40];
 
+    memset(sevens, 7, sizeof sevens);
     for (uint8_t i = 0; i < 32; i++)
         stored[i] = (uint8_t)(200 + i);
     keep();
@@ -181,10 +182,10 @@ static void test_values(void)
     IS(value[32], 7);
     IS(value[39], 7);
 
-    /* another's lock: zeros */
+    /* another's lock: the area stays */
+    memset(value, 7, sizeof value);
     IS(zamgyorud_read(words, WORDS, slots, SLOTS, 3, 2, value, 32), REFUSED(8));
-    SAME(value, zeros, 32);
-    IS(value[32], 7);
+    SAME(value, sevens, sizeof value);
 
     /* the lock that the purge freed is taken first. EX goes with the other's NL; down to PW it makes the value not valid. */
     IS(request(3, ZAMGYORUD_NL, 0, "vip-7"), WITH_LOCK(1, 1));
@@ -197,40 +198,43 @@ static void test_values(void)
 /* A list, after test_values: PW and NL are held. CR goes with both; EX waits; NL to EX joins the convert queue. */
 static void test_list(void)
 {
-    static const uint32_t expected[20] = {2, 2, 1, 4, 0, /* granted, PW */
-                                          3, 4, 1, 1, 0, /* granted, CR */
-                                          1, 3, 2, 0, 5, /* converting from NL to EX */
-                                          4, 5, 3, 0, 5}; /* waiting for EX */
-    uint32_t entries[25], sevens[25];
+    static const struct zamgyorud_entry expected[4] = {{2, 2, ZAMGYORUD_STATE_GRANTED, ZAMGYORUD_PW, 0},
+                                                       {3, 4, ZAMGYORUD_STATE_GRANTED, ZAMGYORUD_CR, 0},
+                                                       {1, 3, ZAMGYORUD_STATE_CONVERTING, ZAMGYORUD_NL, ZAMGYORUD_EX},
+                                                       {4, 5, ZAMGYORUD_STATE_WAITING, 0, ZAMGYORUD_EX}};
+    struct zamgyorud_entry entries[5], sevens[5];
 
-    for (size_t i = 0; i < 25; i++)
-        entries[i] = sevens[i] = 7;
+    IS(sizeof *entries, 20);
+    memset(entries, 7, sizeof entries);
+    memset(sevens, 7, sizeof sevens);
     IS(request(4, ZAMGYORUD_CR, 0, "vip-7"), WITH_LOCK(1, 3));
     IS(request(5, ZAMGYORUD_EX, 0, "vip-7"), WITH_LOCK(2, 4));
     IS(convert(3, 1, ZAMGYORUD_EX), ZAMGYORUD_WAITING);
-    IS(zamgyorud_list(words, WORDS, slots, SLOTS, 2, 2, entries, 13), 4);
-    SAME(entries, expected, 10 * sizeof *entries);
-    SAME(entries + 10, sevens, 15 * sizeof *entries);
-    IS(zamgyorud_list(words, WORDS, slots, SLOTS, 3, 1, entries, 25), 4);
+    IS(zamgyorud_list(words, WORDS, slots, SLOTS, 2, 2, entries, 2), 4);
+    SAME(entries, expected, 2 * sizeof *entries);
+    SAME(entries + 2, sevens, 3 * sizeof *entries);
+    IS(zamgyorud_list(words, WORDS, slots, SLOTS, 3, 1, entries, 5), 4);
     SAME(entries, expected, sizeof expected);
-    SAME(entries + 20, sevens, 5 * sizeof *entries);
+    SAME(entries + 4, sevens, sizeof *entries);
     IS(zamgyorud_list(words, WORDS, slots, SLOTS, 2, 2, NULL, 0), 4);
     memcpy(entries, sevens, sizeof entries);
-    IS(zamgyorud_list(words, WORDS, slots, SLOTS, 5, 4, entries, 25), REFUSED(10));
-    IS(zamgyorud_list(words, WORDS, slots, SLOTS, 5, 2, entries, 25), REFUSED(8));
+    IS(zamgyorud_list(words, WORDS, slots, SLOTS, 5, 4, entries, 5), REFUSED(10));
+    IS(zamgyorud_list(words, WORDS, slots, SLOTS, 5, 2, entries, 5), REFUSED(8));
     SAME(entries, sevens, sizeof entries);
 }
 
 /* Cancels and releases, after test_list. */
 static void test_cancel_and_release(void)
 {
-    static const uint32_t expected[15] = {2, 2, 1, 4, 0, 3, 4, 1, 1, 0, 1, 3, 1, 0, 0};
-    uint32_t entries[15];
+    static const struct zamgyorud_entry expected[3] = {{2, 2, ZAMGYORUD_STATE_GRANTED, ZAMGYORUD_PW, 0},
+                                                       {3, 4, ZAMGYORUD_STATE_GRANTED, ZAMGYORUD_CR, 0},
+                                                       {1, 3, ZAMGYORUD_STATE_GRANTED, ZAMGYORUD_NL, 0}};
+    struct zamgyorud_entry entries[3];
 
     IS(zamgyorud_cancel(words, WORDS, slots, SLOTS, 2, 2), REFUSED(10));
     IS(zamgyorud_cancel(words, WORDS, slots, SLOTS, 5, 4), ZAMGYORUD_REQUEST_CANCELLED);
     IS(zamgyorud_cancel(words, WORDS, slots, SLOTS, 3, 1), ZAMGYORUD_CONVERSION_CANCELLED);
-    IS(zamgyorud_list(words, WORDS, slots, SLOTS, 4, 3, entries, 15), 3);
+    IS(zamgyorud_list(words, WORDS, slots, SLOTS, 4, 3, entries, 3), 3);
     SAME(entries, expected, sizeof expected);
     keep();
     IS(zamgyorud_release(words, WORDS, slots, SLOTS, 4, 3, ZAMGYORUD_NO_QUEUE, NULL, 0), REFUSED(5));
@@ -302,8 +306,8 @@ static void test_deadlocks(void)
 /* Tables that aren't sound: each call but start and load is refused with 1, and nothing changes. */
 static void test_unsound(void)
 {
-    uint8_t value[32], zeros[32] = {0};
-    uint32_t entries[5] = {7, 7, 7, 7, 7};
+    uint8_t value[32];
+    struct zamgyorud_entry entries[1] = {{7, 7, 7, 7, 7}};
 
     start_afresh();
     IS(request(1, ZAMGYORUD_EX, 0, "A"), WITH_LOCK(1, 1));
@@ -320,9 +324,9 @@ static void test_unsound(void)
     IS(break_deadlock(), REFUSED(1));
     IS(poll(1), REFUSED(1));
     IS(zamgyorud_read(words, WORDS, slots, SLOTS, 1, 1, value, 32), REFUSED(1));
-    SAME(value, zeros, 32);
-    IS(zamgyorud_list(words, WORDS, slots, SLOTS, 1, 1, entries, 5), REFUSED(1));
-    IS(entries[0], 7);
+    IS(value[0], 7);
+    IS(zamgyorud_list(words, WORDS, slots, SLOTS, 1, 1, entries, 1), REFUSED(1));
+    IS(entries[0].number, 7);
     IS(zamgyorud_image(words, WORDS, slots, SLOTS, area, IMAGE), REFUSED(1));
     IS(area[0], 9);
     unchanged();

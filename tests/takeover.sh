@@ -1,5 +1,6 @@
 #!/bin/sh
-# Builds the takeover program with all warnings as errors and tries it on images that `compare` makes by the model's bytes.
+# Builds the takeover program with all warnings as errors and tries it on images that `compare` makes by the model's bytes. Then the program
+# that writes images for the README.
 #
 # usage: takeover.sh LIB   LIB is the folder that has libzamgyorud.a and, here or in ../include, zamgyorud.h
 # Further libraries to link may be given in LDLIBS, another compiler in CC.
@@ -10,20 +11,23 @@ work=$(mktemp -d)
 trap 'rm -rf "$work"' EXIT
 
 # The header beside the library, or in the repository's include folder.
-${CC:-cc} -std=c99 -pedantic -O2 -Wall -Wextra -Werror -I"$lib" -I"$here/../include" \
-    "$here/../examples/takeover.c" "$lib/libzamgyorud.a" ${LDLIBS:-} -o "$work/takeover"
+for program in takeover image; do
+    ${CC:-cc} -std=c99 -pedantic -O2 -Wall -Wextra -Werror -I"$lib" -I"$here/../include" \
+        "$here/../examples/$program.c" "$lib/libzamgyorud.a" ${LDLIBS:-} -o "$work/$program"
+done
 (cd "$here/../rust" && cargo build --release --offline --quiet -p compare)
 for scenario in pair lost empty unsound; do
     "$here/../rust/target/release/compare" image $scenario "$work/$scenario"
 done
 
-# Runs takeover and holds what it prints and its exit code against what is expected.
+# Runs a program and holds what it prints and its exit code against what is expected.
 failed=0
+program=takeover
 expect() {
     name=$1 code=$2 lines=$3
     shift 3
     got_code=0
-    got=$("$work/takeover" "$@" 2>&1) || got_code=$?
+    got=$("$work/$program" "$@" 2>&1) || got_code=$?
     if [ "$got" != "$lines" ] || [ "$got_code" != "$code" ]; then
         printf 'FAILED: %s\n  wanted (%s) %s\n  got (%s) %s\n' "$name" "$code" "$lines" "$got_code" "$got"
         failed=1
@@ -56,5 +60,14 @@ expect 'no address' 2 "$usage" 1 "$work/pair"
 for unit in 0 256 -1 one 1x '' 99999999999999999999; do
     expect "unit '$unit'" 2 "$usage" "$unit" "$work/pair" vip-7
 done
+
+program=image
+expect 'no files' 2 'usage: image BEFORE AFTER'
+expect 'no folder' 3 "$work/missing/before: No such file or directory" "$work/missing/before" "$work/after"
+expect 'a full disk' 3 '/dev/full: No space left on device' "$work/before" /dev/full
+expect 'two images' 0 '' "$work/before" "$work/after"
+program=takeover
+expect 'before unit 1 is lost' 0 'vip-7: client 1 holds it; unit 2 would not announce it' 2 "$work/before" vip-7
+expect 'after unit 1 is lost' 0 'vip-7: unit 2 holds it itself and goes on announcing it' 2 "$work/after" vip-7
 [ $failed = 0 ] && echo 'takeover: all as expected'
 exit $failed

@@ -1,85 +1,87 @@
--- Document 01's numbers for each case of each answer: the refusal, or 0; the answer; the lock number, where it gives one.
-use mathlib.Core.List.{List}
-use Prim.Native.Nat.{ℕ, zero, suc}
-use Rattle.rules.specs.Entries.{Outcome}
+-- What a call says, in document 01's numbers, for each case of each answer.
+use Prim.Native.Nat.{ℕ, zero, suc, _^_}
+use Rattle.tables.specs.State.{completion-none, completion-granted, completion-denied, completion-conversion-denied}
+use Rattle.rules.specs.Calls.{Said, accepted, refused}
 use Rattle.answers.specs.declared.Done.{Done}
 use Rattle.answers.specs.declared.Requested.{Requested}
 use Rattle.answers.specs.declared.Converted.{Converted}
+use Rattle.answers.specs.declared.Released.{Released}
 use Rattle.answers.specs.declared.Cancelled.{Cancelled}
 use Rattle.answers.specs.declared.Purged.{Purged}
 use Rattle.answers.specs.declared.Broken.{Broken}
 use Rattle.answers.specs.declared.Polled.{Polled}
+use Rattle.answers.specs.declared.Listed.{Listed}
 use Rattle.answers.specs.declared.Done.the-variants as done-cases
 use Rattle.answers.specs.declared.Requested.the-variants as requested-cases
 use Rattle.answers.specs.declared.Converted.the-variants as converted-cases
+use Rattle.answers.specs.declared.Released.the-variants as released-cases
 use Rattle.answers.specs.declared.Cancelled.the-variants as cancelled-cases
 use Rattle.answers.specs.declared.Purged.the-variants as purged-cases
 use Rattle.answers.specs.declared.Broken.the-variants as broken-cases
 use Rattle.answers.specs.declared.Polled.the-variants as polled-cases
+use Rattle.answers.specs.declared.Listed.the-variants as listed-cases
 
-pub record Numbers : Type 0 where
-  pub refusal : ℕ
-  pub answer : ℕ
-  pub number : ℕ
+-- the numbers of a case that no call may give: no refusal has a number that a u32 can't have
+abbrev pub never : Said
+never = refused (2 ^ 32)
 
-abbrev pub accepted : ℕ → ℕ → Numbers
-accepted a k = record { refusal = 0; answer = a; number = k }
+-- refusals are numbered from 1
+abbrev pub refused-with : ℕ → Said
+refused-with zero = never
+refused-with (suc n) = refused (suc n)
 
--- there is no refusal 15: these are the numbers of a case that no call may give
-abbrev pub never : Numbers
-never = record { refusal = 15; answer = 0; number = 0 }
-
--- "answered with zeros in all other fields". Refusals are numbered from 1.
-abbrev pub refused : ℕ → Numbers
-refused zero = never
-refused (suc n) = record { refusal = suc n; answer = 0; number = 0 }
-
--- "Start, image and load answer 0." Release "answers 0".
-abbrev pub done : Done → Numbers
+-- "Start, image and load answer 0."
+abbrev pub done : Done → Said
 done done-cases.Accepted = accepted 0 0
-done (done-cases.Refused n) = refused n
+done (done-cases.Refused n) = refused-with n
+
+-- "Answers 0."
+abbrev pub released : Released → Said
+released released-cases.Freed = accepted 0 0
+released (released-cases.Refused n) = refused-with n
 
 -- "Granted (answer 1) ..; else it waits (2). The lock number is returned."
-abbrev pub requested : Requested → Numbers
+abbrev pub requested : Requested → Said
 requested (requested-cases.Granted k) = accepted 1 k
 requested (requested-cases.Waiting k) = accepted 2 k
-requested (requested-cases.Refused n) = refused n
+requested (requested-cases.Refused n) = refused-with n
 
 -- "Both answer 1 and sweep. Otherwise it joins the convert chain .. (2)."
-abbrev pub converted : Converted → Numbers
+abbrev pub converted : Converted → Said
 converted converted-cases.Granted = accepted 1 0
 converted converted-cases.Waiting = accepted 2 0
-converted (converted-cases.Refused n) = refused n
+converted (converted-cases.Refused n) = refused-with n
 
 -- "A conversion goes back to the grant chain (1), a waiting request is freed (2)"
-abbrev pub cancelled : Cancelled → Numbers
+abbrev pub cancelled : Cancelled → Said
 cancelled cancelled-cases.Conversion = accepted 1 0
 cancelled cancelled-cases.Request = accepted 2 0
-cancelled (cancelled-cases.Refused n) = refused n
+cancelled (cancelled-cases.Refused n) = refused-with n
 
 -- "Answers the count."
-abbrev pub purged : Purged → Numbers
+abbrev pub purged : Purged → Said
 purged (purged-cases.Freed n) = accepted n 0
-purged (purged-cases.Refused n) = refused n
+purged (purged-cases.Refused n) = refused-with n
 
 -- "is denied and its number answered; 0 if there is none". Locks are numbered from 1.
-abbrev pub denied : ℕ → Numbers
-denied zero = never
-denied (suc k) = accepted (suc k) 0
+abbrev pub denial : ℕ → Said
+denial zero = never
+denial (suc k) = accepted (suc k) 0
 
-abbrev pub broken : Broken → Numbers
-broken (broken-cases.Denied k) = denied k
+abbrev pub broken : Broken → Said
+broken (broken-cases.Denied k) = denial k
 broken broken-cases.NoDeadlock = accepted 0 0
-broken (broken-cases.Refused n) = refused n
+broken (broken-cases.Refused n) = refused-with n
 
 -- "completion and lock; 0 and 0 if there is none"
-abbrev pub polled : Polled → Numbers
-polled (polled-cases.Granted k) = accepted 1 k
-polled (polled-cases.RequestDenied k) = accepted 2 k
-polled (polled-cases.ConversionDenied k) = accepted 3 k
-polled polled-cases.NoNotice = accepted 0 0
-polled (polled-cases.Refused n) = refused n
+abbrev pub polled : Polled → Said
+polled (polled-cases.Granted k) = accepted completion-granted k
+polled (polled-cases.RequestDenied k) = accepted completion-denied k
+polled (polled-cases.ConversionDenied k) = accepted completion-conversion-denied k
+polled polled-cases.NoNotice = accepted completion-none 0
+polled (polled-cases.Refused n) = refused-with n
 
--- the answer, and what the lent tables then hold
-abbrev pub outcome : Numbers → List ℕ → List ℕ → Outcome
-outcome x ws ss = record { refusal = x .refusal; answer = x .answer; number = x .number; words = ws; slots = ss }
+-- "and the true count"
+abbrev pub list-said : Listed → Said
+list-said (listed-cases.Count n) = accepted n 0
+list-said (listed-cases.Refused n) = refused-with n

@@ -4,14 +4,13 @@ use mathlib.Core.List.{List}
 use Prim.Native.Nat.{ℕ}
 use Rattle.tables.specs.State.{Tables}
 use Rattle.tables.specs.Layout.{words, slots}
-use Rattle.rules.specs.Calls.{Step}
-use Rattle.rules.proofs.QueueTheorem.{out-of}
-use Rattle.answers.specs.Answers.{Numbers, outcome}
+use Rattle.rules.specs.Calls.{Said, Step}
+use Rattle.rules.specs.Entries.{lent, outcome, written}
 
 -- the words and slots of a state of which P holds became those of its step s, and x is the step's answer
-pub record Makes (P : Tables → Type 0) (s : Tables → Step) (a sa b sb : List ℕ) (x : Numbers) : Type 0 where
-  pub then : (t : Tables) → P t → a ≡ words t → sa ≡ slots t → outcome x b sb ≡ out-of (s t)
+pub record Makes (P : Tables → Type 0) (s : Tables → Step) (a sa b sb : List ℕ) (x : Said) : Type 0 where
+  pub then : (t : Tables) → P t → a ≡ words t → sa ≡ slots t → outcome x (lent b sb) ≡ written (s t)
 
 -- the same of a step that leaves the slots alone
-pub record MakesWords (P : Tables → Type 0) (s : Tables → Step) (a b : List ℕ) (x : Numbers) : Type 0 where
-  pub then : (t : Tables) → P t → a ≡ words t → outcome x b (slots t) ≡ out-of (s t)
+pub record MakesWords (P : Tables → Type 0) (s : Tables → Step) (a b : List ℕ) (x : Said) : Type 0 where
+  pub then : (t : Tables) → P t → a ≡ words t → outcome x (lent b (slots t)) ≡ written (s t)

@@ -1,6 +1,6 @@
 // What the calls answer. specs/Answers.antt gives document 01's numbers for each case.
 
-// Start, release, image and load: done, or refused.
+// Start, image and load: done, or refused.
 pub enum Done {
     Accepted,
     Refused(u32),
@@ -17,6 +17,12 @@ pub enum Requested {
 pub enum Converted {
     Granted,
     Waiting,
+    Refused(u32),
+}
+
+// A release: the lock was freed.
+pub enum Released {
+    Freed,
     Refused(u32),
 }
 
@@ -46,5 +52,11 @@ pub enum Polled {
     RequestDenied(u32),
     ConversionDenied(u32),
     NoNotice,
+    Refused(u32),
+}
+
+// A list: how many locks stand on the resource.
+pub enum Listed {
+    Count(u32),
     Refused(u32),
 }

@@ -7,21 +7,26 @@ use borrow.Author.Needs.{needs}
 use borrow.Author.Tests.{le-leb, lt-leb}
 use lib.Dec.{leb}
 use Rattle.answers.specs.declared.Done.{Done}
+use Rattle.answers.specs.declared.Released.{Released}
 use Rattle.answers.specs.declared.Requested.{Requested}
 use Rattle.answers.specs.declared.Converted.{Converted}
 use Rattle.answers.specs.declared.Cancelled.{Cancelled}
 use Rattle.answers.specs.declared.Purged.{Purged}
 use Rattle.answers.specs.declared.Broken.{Broken}
 use Rattle.answers.specs.declared.Polled.{Polled}
+use Rattle.answers.specs.declared.Listed.{Listed}
 use Rattle.answers.specs.declared.Done.the-variants as done-cases
+use Rattle.answers.specs.declared.Released.the-variants as released-cases
 use Rattle.answers.specs.declared.Requested.the-variants as requested-cases
 use Rattle.answers.specs.declared.Converted.the-variants as converted-cases
 use Rattle.answers.specs.declared.Cancelled.the-variants as cancelled-cases
 use Rattle.answers.specs.declared.Purged.the-variants as purged-cases
 use Rattle.answers.specs.declared.Broken.the-variants as broken-cases
 use Rattle.answers.specs.declared.Polled.the-variants as polled-cases
-use Rattle.answers.specs.Answers.{accepted, never, refused, denied, done, requested, converted, cancelled, purged, broken, polled}
-use Rattle.c_answers.specs.PackedAnswers.{unpacked, unpacked-with-lock, answered}
+use Rattle.answers.specs.declared.Listed.the-variants as listed-cases
+use Rattle.rules.specs.Calls.{accepted}
+use Rattle.answers.specs.Answers.{refused-with, never, denial, done, released, requested, converted, cancelled, purged, broken, polled, list-said}
+use Rattle.c_answers.specs.PackedAnswers.{unpacked, unpacked-with-lock, refusal-or-answer}
 
 -- a refusal, a number, an answer with a lock
 past : (n : ℕ) → leb (2 ^ 63) (2 ^ 63 + n) ≡ true
@@ -31,11 +36,11 @@ taken : (n : ℕ) → 2 ^ 63 + n - 2 ^ 63 ≡ n
 taken n = omega arith
 
 module _ (n x : ℕ) (e : x ≡ 2 ^ 63 + n) where
-  pub refusal-reads : unpacked x ≡ refused n
+  pub refusal-reads : unpacked x ≡ refused-with n
   unfolding unpacked
   refusal-reads = rw (e, past n, taken n)
 
-  refusal-reads-beside : unpacked-with-lock x ≡ refused n
+  refusal-reads-beside : unpacked-with-lock x ≡ refused-with n
   unfolding unpacked-with-lock
   refusal-reads-beside = rw (e, past n, taken n)
 
@@ -65,6 +70,16 @@ module _ (x : Done) where
   undone-packs n r e h = rw e (refusal-reads n r h)
 
 pub ruleset done-laws = (needs, accepted-packs, undone-packs)
+
+module _ (x : Released) where
+  pub freed-lock-packs : x ≡ released-cases.Freed → unpacked 0 ≡ released x
+  unfolding unpacked
+  freed-lock-packs e = rw e
+
+  pub unreleased-packs : (n r : ℕ) → x ≡ released-cases.Refused n → r ≡ 2 ^ 63 + n → unpacked r ≡ released x
+  unreleased-packs n r e h = rw e (refusal-reads n r h)
+
+pub ruleset released-laws = (needs, freed-lock-packs, unreleased-packs)
 
 module _ (x : Requested) where
   pub granted-packs : (k r : ℕ) → x ≡ requested-cases.Granted k → unpacked-with-lock r ≡ accepted 1 k → unpacked-with-lock r ≡ requested x
@@ -115,7 +130,7 @@ module _ (x : Purged) where
 
 pub ruleset purged-laws = (needs, freed-packs, unpurged-packs)
 
-denied-is : (k : ℕ) → (denied k ≡ never → ⊥) → accepted k 0 ≡ denied k
+denied-is : (k : ℕ) → (denial k ≡ never → ⊥) → accepted k 0 ≡ denial k
 denied-is zero h = absurd (h refl)
 denied-is (suc k) h = refl
 
@@ -151,18 +166,25 @@ module _ (x : Polled) where
 
 pub ruleset polled-laws = (needs, was-granted-packs, request-denied-packs, conversion-denied-packs, no-notice-packs, unpolled-packs)
 
--- a refusal or a number
-pub refused-is : (n x : ℕ) → (n ≡ 0 → ⊥) → refused n ≡ answered n x
-unfolding answered
-refused-is zero x h = absurd (h refl)
-refused-is (suc n) x h = refl
+module _ (x : Listed) where
+  pub counted-packs : (n r : ℕ) → x ≡ listed-cases.Count n → (r ≡ n) × (r < 2 ^ 32) → unpacked r ≡ list-said x
+  counted-packs n r e w = rw e (number-reads n r w)
 
+  pub unlisted-packs : (n r : ℕ) → x ≡ listed-cases.Refused n → r ≡ 2 ^ 63 + n → unpacked r ≡ list-said x
+  unlisted-packs n r e h = rw e (refusal-reads n r h)
+
+pub ruleset listed-laws = (needs, counted-packs, unlisted-packs)
+
+-- an entry that gives its refusal, or 0, and one number
 module _ (n x r : ℕ) where
-  pub refusal-packs : (n ≡ 0 → ⊥) → r ≡ 2 ^ 63 + n → unpacked r ≡ answered n x
-  refusal-packs some h = refusal-reads n r h ∙ refused-is n x some
+  pub refusal-packs : (n ≡ 0 → ⊥) → r ≡ 2 ^ 63 + n → unpacked r ≡ refusal-or-answer n x
+  unfolding refusal-or-answer
+  refusal-packs some h = refusal-reads n r h ∙ refused-is n some
+    where
+      refused-is : (m : ℕ) → (m ≡ 0 → ⊥) → refused-with m ≡ refusal-or-answer m x
+      refused-is zero k = absurd (k refl)
+      refused-is (suc m) k = refl
 
-  pub number-packs : n ≡ 0 → (r ≡ x) × (r < 2 ^ 32) → unpacked r ≡ answered n x
-  unfolding answered
+  pub number-packs : n ≡ 0 → (r ≡ x) × (r < 2 ^ 32) → unpacked r ≡ refusal-or-answer n x
+  unfolding refusal-or-answer
   number-packs none w = rw none (number-reads x r w)
-
-pub ruleset number-laws = (needs, refusal-packs, number-packs)

@@ -3,13 +3,16 @@ use answers::Broken;
 use answers::Cancelled;
 use answers::Converted;
 use answers::Done;
+use answers::Listed;
 use answers::Polled;
 use answers::Purged;
+use answers::Released;
 use answers::Requested;
 ghost use mathlib.Core.Path.{_≡_};
 ghost use Prim.Native.Nat.{_+_, _<_, _^_};
-ghost use Rattle.answers.specs.Answers.{accepted, never, done, requested, converted, cancelled, purged, broken, polled};
-ghost use Rattle.c_answers.specs.PackedAnswers.{unpacked, «unpacked-with-lock», answered};
+ghost use Rattle.rules.specs.Calls.{accepted};
+ghost use Rattle.answers.specs.Answers.{never, done, released, requested, converted, cancelled, purged, broken, polled, «list-said»};
+ghost use Rattle.c_answers.specs.PackedAnswers.{unpacked, «unpacked-with-lock»};
 
 // The highest bit of an answer marks a refusal.
 const REFUSED: u64 = 9223372036854775808;
@@ -43,6 +46,15 @@ pub fn done(x: Done) -> u64
     match x {
         Done::Accepted => 0,
         Done::Refused(n) => refused(n),
+    }
+}
+
+pub fn released(x: Released) -> u64
+    ensures { λ r. ⌜ unpacked r ≡ released x ⌝ }
+{
+    match x {
+        Released::Freed => 0,
+        Released::Refused(n) => refused(n),
     }
 }
 
@@ -109,11 +121,11 @@ pub fn polled(x: Polled) -> u64
     }
 }
 
-pub fn number(refusal: u32, x: u32) -> u64
-    ensures { λ r. ⌜ unpacked r ≡ answered refusal x ⌝ }
+pub fn listed(x: Listed) -> u64
+    ensures { λ r. ⌜ unpacked r ≡ list-said x ⌝ }
 {
-    if refusal != 0 {
-        return refused(refusal);
+    match x {
+        Listed::Count(n) => wide(n),
+        Listed::Refused(n) => refused(n),
     }
-    wide(x)
 }

@@ -1,2 +1,1 @@
 pub mod PackedContracts
-pub mod ListReturns

@@ -1,33 +1,32 @@
 -- What the entries leave in an area that C lends beside the tables, and answer.
 use mathlib.Core.List.{List, _++_}
-use Prim.Native.Nat.{ℕ}
+use Prim.Native.Nat.{ℕ, zero, suc}
 use lib.ListN.{length, take, drop}
-use Rattle.rules.specs.Entries.{Reading, Listing}
+use Rattle.rules.specs.Entries.{Reading}
 use Rattle.rules.specs.Images.{Imaged}
-use Rattle.answers.specs.Answers.{Numbers}
-use Rattle.c_answers.specs.PackedAnswers.{answered}
-use Rattle.c_list.specs.EntryWords.{with-entries}
+use Rattle.rules.specs.Calls.{Said}
+use Rattle.c_answers.specs.PackedAnswers.{refusal-or-answer}
 
 -- an answer, and what the area that C lent then holds
 pub record Filled : Type 0 where
-  pub said : Numbers
+  pub said : Said
   pub area : List ℕ
 
-abbrev pub filled : Numbers → List ℕ → Filled
+abbrev pub filled : Said → List ℕ → Filled
 filled x area = record { said = x; area = area }
 
 -- as much of xs as fits at the front of ys
 unfoldable pub in-front : List ℕ → List ℕ → List ℕ
 in-front xs ys = take (length ys) xs ++ drop (length xs) ys
 
--- READ: the validity, and the value block at the front of the area
+-- READ: the validity, and the value block at the front of the area. Of a refused one: "nothing lent changes".
+unfoldable pub value-in : (refusal : ℕ) (value area : List ℕ) → List ℕ
+value-in zero value area = in-front value area
+value-in (suc n) value area = area
+
 unfoldable pub value-filled : Reading → List ℕ → Filled
-value-filled x area = filled (answered (x .refusal) (x .valid)) (in-front (x .value) area)
+value-filled x area = filled (refusal-or-answer (x .refusal) (x .valid)) (value-in (x .refusal) (x .value) area)
 
 -- IMAGE "answers 0"
 unfoldable pub image-filled : Imaged → Filled
-image-filled x = filled (answered (x .refusal) 0) (x .area)
-
--- LIST: the count, and the entries in the area, five words each; what is past the last whole one stays
-unfoldable pub list-filled : Listing → List ℕ → Filled
-list-filled x area = filled (answered (x .refusal) (x .count)) (with-entries (x .entries) area)
+image-filled x = filled (refusal-or-answer (x .refusal) 0) (x .area)

@@ -1,14 +1,14 @@
 // The C interface: every entry over numbers and slices, which C lends as a pointer and a length. include/zamgyorud.h
 // declares these functions.
+use tables::LockEntry;
 ghost use mathlib.Core.Path.{_≡_};
 ghost use Rattle.tables.specs.Lists.{bit};
 ghost use Rattle.tables.specs.Sound.{sound};
-ghost use Rattle.rules.specs.Entries.{«start-entry», «request-entry», «convert-entry», «release-entry», «cancel-entry», «purge-entry», «break-entry», «poll-entry», «read-entry», «list-entry»};
+ghost use Rattle.rules.specs.Entries.{lent, outcome, «to-request», «to-convert», «to-release», «to-cancel», «to-purge», «to-break», «to-poll», Keeps, «start-entry», «read-entry», «list-entry»};
 ghost use Rattle.rules.specs.Images.{«image-entry», «load-entry», «holder-entry»};
-ghost use Rattle.answers.specs.Answers.{outcome};
-ghost use Rattle.c_list.specs.EntryWords.{«entries-in»};
+ghost use Rattle.entry_list.specs.Listings.{listing};
 ghost use Rattle.c_answers.specs.PackedAnswers.{unpacked, «unpacked-with-lock»};
-ghost use Rattle.c_api.specs.Areas.{filled, «in-front», «value-filled», «image-filled», «list-filled»};
+ghost use Rattle.c_api.specs.Areas.{filled, «in-front», «value-filled», «image-filled»};
 
 // As many of the bytes as fit go to the front of the area.
 fn put_front(area: &mut [u8], bytes: &[u8])
@@ -29,7 +29,7 @@ pub extern "C" fn zamgyorud_start(
     resources: u32,
     locks: u32,
 ) -> u64
-    ensures { λ r. ⌜ outcome (unpacked r) (now (words .exit)) (now (slots .exit)) ≡ start-entry (now (words .entry)) (now (slots .entry)) resources locks ⌝ }
+    ensures { λ r. ⌜ outcome (unpacked r) (lent (now (words .exit)) (now (slots .exit))) ≡ start-entry (lent (now (words .entry)) (now (slots .entry))) resources locks ⌝ }
 {
     c_answers::done(entry_locks::start(words, slots, resources, locks))
 }
@@ -43,7 +43,7 @@ pub extern "C" fn zamgyorud_request(
     flags: u32,
     name: &[u8],
 ) -> u64
-    ensures { λ r. ⌜ outcome (unpacked-with-lock r) (now (words .exit)) (now (slots .exit)) ≡ request-entry (now (words .entry)) (now (slots .entry)) client mode flags (now (name .entry)) ⌝ }
+    ensures { λ r. ⌜ Keeps (to-request client mode flags (now (name .entry))) (lent (now (words .entry)) (now (slots .entry))) (unpacked-with-lock r) (lent (now (words .exit)) (now (slots .exit))) ⌝ }
 {
     c_answers::requested(entry_locks::request(words, slots, client, mode, flags, name))
 }
@@ -58,7 +58,7 @@ pub extern "C" fn zamgyorud_convert(
     flags: u32,
     value: &[u8],
 ) -> u64
-    ensures { λ r. ⌜ outcome (unpacked r) (now (words .exit)) (now (slots .exit)) ≡ convert-entry (now (words .entry)) (now (slots .entry)) client lock mode flags (now (value .entry)) ⌝ }
+    ensures { λ r. ⌜ Keeps (to-convert client lock mode flags (now (value .entry))) (lent (now (words .entry)) (now (slots .entry))) (unpacked r) (lent (now (words .exit)) (now (slots .exit))) ⌝ }
 {
     c_answers::converted(entry_locks::convert(words, slots, client, lock, mode, flags, value))
 }
@@ -72,40 +72,40 @@ pub extern "C" fn zamgyorud_release(
     flags: u32,
     value: &[u8],
 ) -> u64
-    ensures { λ r. ⌜ outcome (unpacked r) (now (words .exit)) (now (slots .exit)) ≡ release-entry (now (words .entry)) (now (slots .entry)) client lock flags (now (value .entry)) ⌝ }
+    ensures { λ r. ⌜ Keeps (to-release client lock flags (now (value .entry))) (lent (now (words .entry)) (now (slots .entry))) (unpacked r) (lent (now (words .exit)) (now (slots .exit))) ⌝ }
 {
-    c_answers::done(entry_locks::release(words, slots, client, lock, flags, value))
+    c_answers::released(entry_locks::release(words, slots, client, lock, flags, value))
 }
 
 #[no_mangle]
 pub extern "C" fn zamgyorud_cancel(words: &mut [u32], slots: &[u8], client: u32, lock: u32) -> u64
-    ensures { λ r. ⌜ outcome (unpacked r) (now (words .exit)) (now (slots .entry)) ≡ cancel-entry (now (words .entry)) (now (slots .entry)) client lock ⌝ }
+    ensures { λ r. ⌜ Keeps (to-cancel client lock) (lent (now (words .entry)) (now (slots .entry))) (unpacked r) (lent (now (words .exit)) (now (slots .entry))) ⌝ }
 {
     c_answers::cancelled(entry_recovery::cancel(words, slots, client, lock))
 }
 
 #[no_mangle]
 pub extern "C" fn zamgyorud_purge(words: &mut [u32], slots: &mut [u8], client: u32) -> u64
-    ensures { λ r. ⌜ outcome (unpacked r) (now (words .exit)) (now (slots .exit)) ≡ purge-entry (now (words .entry)) (now (slots .entry)) client ⌝ }
+    ensures { λ r. ⌜ Keeps (to-purge client) (lent (now (words .entry)) (now (slots .entry))) (unpacked r) (lent (now (words .exit)) (now (slots .exit))) ⌝ }
 {
     c_answers::purged(entry_recovery::purge(words, slots, client))
 }
 
 #[no_mangle]
 pub extern "C" fn zamgyorud_break(words: &mut [u32], slots: &[u8]) -> u64
-    ensures { λ r. ⌜ outcome (unpacked r) (now (words .exit)) (now (slots .entry)) ≡ break-entry (now (words .entry)) (now (slots .entry)) ⌝ }
+    ensures { λ r. ⌜ Keeps to-break (lent (now (words .entry)) (now (slots .entry))) (unpacked r) (lent (now (words .exit)) (now (slots .entry))) ⌝ }
 {
     c_answers::broken(entry_recovery::break_deadlock(words, slots))
 }
 
 #[no_mangle]
 pub extern "C" fn zamgyorud_poll(words: &mut [u32], slots: &[u8], client: u32) -> u64
-    ensures { λ r. ⌜ outcome (unpacked-with-lock r) (now (words .exit)) (now (slots .entry)) ≡ poll-entry (now (words .entry)) (now (slots .entry)) client ⌝ }
+    ensures { λ r. ⌜ Keeps (to-poll client) (lent (now (words .entry)) (now (slots .entry))) (unpacked-with-lock r) (lent (now (words .exit)) (now (slots .entry))) ⌝ }
 {
     c_answers::polled(entry_recovery::poll(words, slots, client))
 }
 
-// The value block goes to the front of the lent value, as much as fits: zeros where the call is refused.
+// The value block goes to the front of the lent value, as much as fits.
 #[no_mangle]
 pub extern "C" fn zamgyorud_read(
     words: &[u32],
@@ -117,27 +117,24 @@ pub extern "C" fn zamgyorud_read(
     ensures { λ r. ⌜ filled (unpacked r) (now (value .exit)) ≡ value-filled (read-entry (now (words .entry)) (now (slots .entry)) client lock) (now (value .entry)) ⌝ }
 {
     let found = entry_read::read(words, slots, client, lock);
+    if found.refusal != 0 {
+        return c_answers::refused(found.refusal);
+    }
     put_front(value, &found.value);
-    c_answers::number(found.refusal, found.valid)
+    c_answers::wide(found.valid)
 }
 
-// The entries are words, five to a lock, as many as fit whole.
 #[no_mangle]
 pub extern "C" fn zamgyorud_list(
     words: &[u32],
     slots: &[u8],
     client: u32,
     lock: u32,
-    entries: &mut [u32],
+    entries: &mut [LockEntry],
 ) -> u64
-    ensures { λ r. ⌜ filled (unpacked r) (now (entries .exit)) ≡ list-filled (list-entry (now (words .entry)) (now (slots .entry)) client lock (entries-in (now (entries .entry)))) (now (entries .entry)) ⌝ }
+    ensures { λ r. ⌜ listing (unpacked r) (now (entries .exit)) ≡ list-entry (now (words .entry)) (now (slots .entry)) client lock (now (entries .entry)) ⌝ }
 {
-    let refusal = entry_list::list_refusal(words, slots, client, lock);
-    if refusal != 0 {
-        return c_answers::refused(refusal);
-    }
-    let resource = entry_list::resource_of(words, lock);
-    c_answers::wide(c_list::list_flat(entries, words, resource))
+    c_answers::listed(entry_list::list(words, slots, client, lock, entries))
 }
 
 #[no_mangle]
@@ -149,7 +146,7 @@ pub extern "C" fn zamgyorud_image(words: &[u32], slots: &[u8], area: &mut [u8]) 
 
 #[no_mangle]
 pub extern "C" fn zamgyorud_load(image: &[u8], words: &mut [u32], slots: &mut [u8]) -> u64
-    ensures { λ r. ⌜ outcome (unpacked r) (now (words .exit)) (now (slots .exit)) ≡ load-entry (now (image .entry)) (now (words .entry)) (now (slots .entry)) ⌝ }
+    ensures { λ r. ⌜ outcome (unpacked r) (lent (now (words .exit)) (now (slots .exit))) ≡ load-entry (now (image .entry)) (lent (now (words .entry)) (now (slots .entry))) ⌝ }
 {
     c_answers::done(entry_image::load(image, words, slots))
 }

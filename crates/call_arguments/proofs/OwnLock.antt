@@ -13,7 +13,7 @@ use Rattle.tables.specs.Lists.{within}
 use Rattle.tables.specs.State.{lock}
 use Rattle.tables.specs.Layout.{locks-in, read-lock}
 use Rattle.tables.proofs.Counts.{le-within}
-use Rattle.tables.proofs.Valid.{Core}
+use Rattle.tables.specs.Validity.{Core}
 use Rattle.tables.proofs.ReadBack.{lock-read}
 use Rattle.rules.specs.Calls.{own}
 use Rattle.table_fields.specs.Sizes.{Sized}

@@ -1,7 +1,7 @@
 // The arguments of a call: the client, the name, the value, and whose lock a number is. Flags are in the crate `flags`.
 ghost use mathlib.Core.Path.{_≡_};
 ghost use Rattle.tables.specs.Sound.{«client-right»};
-ghost use Rattle.tables.proofs.Valid.{Core};
+ghost use Rattle.tables.specs.Validity.{Core};
 ghost use Rattle.rules.specs.Calls.{«name-right», «value-right», own};
 ghost use Rattle.table_chains.specs.Contracts.{Some, Tells};
 

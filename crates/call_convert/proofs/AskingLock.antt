@@ -9,17 +9,18 @@ use borrow.Author.Tests.{eqb-true}
 use Rattle.tables.specs.Lists.{within}
 use Rattle.tables.specs.State.{Tables, lock, resource, move}
 use Rattle.tables.proofs.Counts.{within-le}
-use Rattle.tables.proofs.Valid.{used, Place, ok-at, used-within, resources-length, core-move}
+use Rattle.tables.specs.Validity.{used, Place}
+use Rattle.tables.proofs.Valid.{ok-at, used-within, resources-length, core-move}
 use Rattle.tables.proofs.ChainMembers.{state-within}
 use Rattle.rules.proofs.CallsKeepSound.{convert-fits}
 use Rattle.rules.specs.Calls.{leave-value, held-at, asking}
 use Rattle.rules.proofs.ResourceChanges.{Quiet, leave-quiet}
 use Rattle.table_chains.specs.Contracts.{Movable, Resourced}
 use Rattle.queues.specs.Contracts.{Valued}
-use Rattle.queues.specs.Contracts.{Held}
-use Rattle.call_convert.specs.Contracts.{Asks, Placed}
+use Rattle.queues.specs.Contracts.{GrantedLock}
+use Rattle.call_convert.specs.Contracts.{Asks, ConvertsInPlace}
 
-module _ (k : ℕ) (t : Tables) (p : Held k t) where
+module _ (k : ℕ) (t : Tables) (p : GrantedLock k t) where
   pub held-within : within (length (t .locks)) k ≡ true
   held-within = state-within t k 0 (eqb-true (lock t k .state) 1 (p .is-granted))
 
@@ -45,7 +46,7 @@ asking-movable k m t p =
     }
 
 -- in place, after the value has been left or not
-module _ (k m f : ℕ) (v : List ℕ) (t : Tables) (p : Placed k m f v t) where
+module _ (k m f : ℕ) (v : List ℕ) (t : Tables) (p : ConvertsInPlace k m f v t) where
   pub placed-valued : Valued f v (lock t k .resource) t
   placed-valued =
       record { core = p .asks .held .core; in-range = used-within t (lock t k .resource) (held-place k t (p .asks .held) .in-use); right = p .right }

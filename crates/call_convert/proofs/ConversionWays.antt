@@ -9,26 +9,26 @@ use Rattle.tables.specs.State.{Tables, lock}
 use Rattle.tables.specs.Layout.{words}
 use Rattle.tables.proofs.SlotChanges.{slots-move}
 use Rattle.rules.specs.Calls.{asking, in-place, convert-change}
-use Rattle.rules.proofs.AcceptedCalls.{Convertible}
+use Rattle.rules.specs.Accepted.{Convertible}
 use Rattle.table_chains.specs.Contracts.{Some, Turns, Tells, Changes}
-use Rattle.queues.specs.Contracts.{Lent}
+use Rattle.queues.specs.Contracts.{SomeTables}
 use Rattle.answers.proofs.Steps.{stepped}
 use Rattle.answers.specs.declared.Converted.the-variants.{Granted, Waiting}
 use Rattle.answers.specs.Answers.{converted}
 use Rattle.answers.specs.Contracts.{Makes}
-use Rattle.queues.specs.Contracts.{Held}
-use Rattle.call_convert.specs.Contracts.{lowers, granted-in-place, on-convert-queue, Asks, Placed}
+use Rattle.queues.specs.Contracts.{GrantedLock}
+use Rattle.call_convert.specs.Contracts.{lowers, granted-in-place, on-convert-queue, Asks, ConvertsInPlace}
 
 module _ (k m f : ℕ) (v a sa : List ℕ) where
   module _ (t : Tables) (p : Convertible k m f v t) where
-    held-at-all : Held k t
+    held-at-all : GrantedLock k t
     held-at-all = record { core = p .valid .core; is-granted = p .is-granted }
 
     asks-it : Asks k m t
     asks-it = record { held = held-at-all; mode = p .mode }
 
-  module _ (s : Lent (Convertible k m f v) a sa) where
-    pub convert-held : Some (Held k) a
+  module _ (s : SomeTables (Convertible k m f v) a sa) where
+    pub convert-held : Some (GrantedLock k) a
     convert-held = record { state = s .state; good = held-at-all (s .state) (s .good); is = s .is }
 
     pub convert-mode : m < 6
@@ -37,18 +37,18 @@ module _ (k m f : ℕ) (v a sa : List ℕ) where
     pub convert-asks : Some (Asks k m) a
     convert-asks = record { state = s .state; good = asks-it (s .state) (s .good); is = s .is }
 
-  module _ (x : Bool) (told : Tells (Held k) (in-place k m) a x) where
+  module _ (x : Bool) (told : Tells (GrantedLock k) (in-place k m) a x) where
     told-at : (t : Tables) → Convertible k m f v t → a ≡ words t → in-place k m t ≡ x
     told-at t p is = sym (told .then t (held-at-all t p) is)
 
     module _ (q : x ≡ true) where
-      placed-at : (t : Tables) → Convertible k m f v t → a ≡ words t → Placed k m f v t
+      placed-at : (t : Tables) → Convertible k m f v t → a ≡ words t → ConvertsInPlace k m f v t
       placed-at t p is = record { asks = asks-it t p; at-once = told-at t p is ∙ q; right = p .right }
 
-      pub convert-placed : Lent (Convertible k m f v) a sa → Lent (Placed k m f v) a sa
+      pub convert-placed : SomeTables (Convertible k m f v) a sa → SomeTables (ConvertsInPlace k m f v) a sa
       convert-placed s = record { state = s .state; good = placed-at (s .state) (s .good) (s .is); is = s .is; slots-are = s .slots-are }
 
-      pub convert-granted : (b sb : List ℕ) → Changes (Placed k m f v) (granted-in-place k m f v) a sa b sb → Makes (Convertible k m f v) (convert-change k m f v) a sa b sb (converted Granted)
+      pub convert-granted : (b sb : List ℕ) → Changes (ConvertsInPlace k m f v) (granted-in-place k m f v) a sa b sb → Makes (Convertible k m f v) (convert-change k m f v) a sa b sb (converted Granted)
       unfolding convert-change granted-in-place lowers
       convert-granted b sb h = record {
         then = λ t p is iss.

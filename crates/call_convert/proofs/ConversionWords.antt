@@ -14,14 +14,14 @@ use Rattle.rules.specs.Calls.{leave-value, held-at, asking}
 use Rattle.table_fields.specs.Sizes.{Sized}
 use Rattle.table_chains.specs.Contracts.{Some, Turns, Changes, Movable, Moving, Moved, Resourced}
 use Rattle.table_chains.proofs.ChainCells.{locks-is, sized-is}
-use Rattle.queues.specs.Contracts.{Lent, Valued}
+use Rattle.queues.specs.Contracts.{SomeTables, Valued}
 use Rattle.queues.proofs.ResourceRecord.{slots-sweep}
-use Rattle.queues.specs.Contracts.{Held}
-use Rattle.call_convert.specs.Contracts.{lowers, granted-in-place, on-convert-queue, Asks, Placed}
+use Rattle.queues.specs.Contracts.{GrantedLock}
+use Rattle.call_convert.specs.Contracts.{lowers, granted-in-place, on-convert-queue, Asks, ConvertsInPlace}
 use Rattle.call_convert.proofs.AskingLock.{held-range, asking-movable, placed-valued, placed-movable, placed-resourced}
 
 -- the record of a granted lock, read from the words
-module _ (k : ℕ) (a : List ℕ) (t : Tables) (p : Held k t) (is : a ≡ words t) where
+module _ (k : ℕ) (a : List ℕ) (t : Tables) (p : GrantedLock k t) (is : a ≡ words t) where
   sized-at : Sized a
   sized-at = sized-is t a is (p .core .resources-high) (p .core .locks-high)
 
@@ -64,7 +64,7 @@ pub ruleset asks-laws = (needs, asks-sized, asks-low, asks-high, asks-moving, as
 
 -- convert_in_place
 module _ (k m f : ℕ) (v a sa : List ℕ) where
-  module _ (s : Lent (Placed k m f v) a sa) where
+  module _ (s : SomeTables (ConvertsInPlace k m f v) a sa) where
     pub placed-sized : Sized a
     placed-sized = sized-at k a (s .state) (s .good .asks .held) (s .is)
 
@@ -75,17 +75,17 @@ module _ (k m f : ℕ) (v a sa : List ℕ) where
     placed-high = high-at k a (s .state) (s .good .asks .held) (s .is)
 
   module _ (l : Lock) (el : l ≡ read-lock a k) where
-    l-is : (t : Tables) → Placed k m f v t → a ≡ words t → l ≡ lock t k
+    l-is : (t : Tables) → ConvertsInPlace k m f v t → a ≡ words t → l ≡ lock t k
     l-is t p is = el ∙ record-at k a t (p .asks .held) is
 
-    valued-at : (t : Tables) → Placed k m f v t → a ≡ words t → Valued f v (l .resource) t
+    valued-at : (t : Tables) → ConvertsInPlace k m f v t → a ≡ words t → Valued f v (l .resource) t
     valued-at t p is = rw (l-is t p is) (placed-valued k m f v t p)
 
-    pub placed-leaves : Lent (Placed k m f v) a sa → Lent (Valued f v (l .resource)) a sa
+    pub placed-leaves : SomeTables (ConvertsInPlace k m f v) a sa → SomeTables (Valued f v (l .resource)) a sa
     placed-leaves s = record { state = s .state; good = valued-at (s .state) (s .good) (s .is); is = s .is; slots-are = s .slots-are }
 
     module _ (x : Bool) (b sb : List ℕ) (left : Changes (Valued f v (l .resource)) (leave-value x f v (l .resource)) a sa b sb) (n : Lock) (en : n ≡ held-at m l) where
-      module _ (t : Tables) (p : Placed k m f v t) (is : a ≡ words t) (iss : sa ≡ slots t) where
+      module _ (t : Tables) (p : ConvertsInPlace k m f v t) (is : a ≡ words t) (iss : sa ≡ slots t) where
         left-is : (b ≡ words (leave-value x f v (l .resource) t)) × (sb ≡ slots (leave-value x f v (l .resource) t))
         left-is = left .then t (valued-at t p is) is iss
 
@@ -95,7 +95,7 @@ module _ (k m f : ℕ) (v a sa : List ℕ) where
         there-at : Resourced (l .resource) (move (l .resource) k n (leave-value x f v (l .resource) t))
         there-at = rw (en, l-is t p is) (placed-resourced k m f v t p x)
 
-      pub placed-moving : Lent (Placed k m f v) a sa → Moving k n b
+      pub placed-moving : SomeTables (ConvertsInPlace k m f v) a sa → Moving k n b
       placed-moving s =
           record {
             state = leave-value x f v (l .resource) (s .state);
@@ -105,10 +105,10 @@ module _ (k m f : ℕ) (v a sa : List ℕ) where
           }
 
       module _ (d : List ℕ) (moved : Moved k n b d) where
-        moved-is : (t : Tables) → Placed k m f v t → a ≡ words t → sa ≡ slots t → d ≡ words (move (l .resource) k n (leave-value x f v (l .resource) t))
+        moved-is : (t : Tables) → ConvertsInPlace k m f v t → a ≡ words t → sa ≡ slots t → d ≡ words (move (l .resource) k n (leave-value x f v (l .resource) t))
         moved-is t p is iss = moved .then (l .resource) (leave-value x f v (l .resource) t) (move-at t p is iss) (left-is t p is iss .0)
 
-        pub placed-sweeps : Lent (Placed k m f v) a sa → Some (Resourced (l .resource)) d
+        pub placed-sweeps : SomeTables (ConvertsInPlace k m f v) a sa → Some (Resourced (l .resource)) d
         placed-sweeps s =
             record {
               state = move (l .resource) k n (leave-value x f v (l .resource) (s .state));
@@ -116,7 +116,7 @@ module _ (k m f : ℕ) (v a sa : List ℕ) where
               is = moved-is (s .state) (s .good) (s .is) (s .slots-are);
             }
 
-        pub placed-made : x ≡ lowers (l .held) m → (e : List ℕ) → Turns (Resourced (l .resource)) (sweep (l .resource)) d e → Changes (Placed k m f v) (granted-in-place k m f v) a sa e sb
+        pub placed-made : x ≡ lowers (l .held) m → (e : List ℕ) → Turns (Resourced (l .resource)) (sweep (l .resource)) d e → Changes (ConvertsInPlace k m f v) (granted-in-place k m f v) a sa e sb
         unfolding granted-in-place
         placed-made ex e swept = record {
           then = λ t p is iss.

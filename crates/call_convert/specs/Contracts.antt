@@ -8,7 +8,7 @@ use lib.Dec.{ltb}
 use Rattle.tables.specs.State.{Tables, value-width, lock, move}
 use Rattle.rules.specs.Queues.{sweep}
 use Rattle.rules.specs.Calls.{stores, strong, leave-value, held-at, asking, in-place}
-use Rattle.queues.specs.Contracts.{Held}
+use Rattle.queues.specs.Contracts.{GrantedLock}
 
 -- from PW or EX to a smaller mode
 unfoldable pub lowers : ℕ → ℕ → Bool
@@ -26,11 +26,11 @@ on-convert-queue k m t = move (lock t k .resource) k (asking m (lock t k)) t
 
 -- the lock k is granted, and may ask for the mode m
 pub record Asks (k m : ℕ) (t : Tables) : Type 0 where
-  pub held : Held k t
+  pub held : GrantedLock k t
   pub mode : m ≤ 5
 
 -- it can take m in place; and where the flags f store a value, v is one
-pub record Placed (k m f : ℕ) (v : List ℕ) (t : Tables) : Type 0 where
+pub record ConvertsInPlace (k m f : ℕ) (v : List ℕ) (t : Tables) : Type 0 where
   pub asks : Asks k m t
   pub at-once : in-place k m t ≡ true
   pub right : stores f ≡ true → length v ≡ value-width

@@ -1,16 +1,17 @@
-// A conversion's change, in place: the lock takes the mode where it is granted, or joins the convert queue.
+// A conversion's change, on the lent words and slots: the lock takes the mode where it stands, or joins the convert
+// queue.
 use answers::Converted;
 use modes::Mode;
 use table_fields::lock_at;
 use tables::Lock;
 ghost use mathlib.Core.Path.{_≡_};
 ghost use Rattle.rules.specs.Calls.{«held-at», asking, «convert-change»};
-ghost use Rattle.rules.proofs.AcceptedCalls.{Convertible};
+ghost use Rattle.rules.specs.Accepted.{Convertible};
 ghost use Rattle.table_chains.specs.Contracts.{Some, Turns, Changes};
-ghost use Rattle.queues.specs.Contracts.{Lent};
+ghost use Rattle.queues.specs.Contracts.{SomeTables};
 ghost use Rattle.answers.specs.Answers.{converted};
 ghost use Rattle.answers.specs.Contracts.{Makes};
-ghost use Rattle.call_convert.specs.Contracts.{lowers, «granted-in-place», «on-convert-queue», Asks, Placed};
+ghost use Rattle.call_convert.specs.Contracts.{lowers, «granted-in-place», «on-convert-queue», Asks, ConvertsInPlace};
 
 // Flags 1 and 2 act on a conversion from PW or EX to a smaller mode.
 fn lowers(held: u32, mode: u32) -> bool
@@ -19,7 +20,7 @@ fn lowers(held: u32, mode: u32) -> bool
     (Mode::PW.0 <= held) & (mode < held)
 }
 
-// The lock l with the mode held, and the lock l that asks for the mode and keeps the one it holds.
+// What the lock l becomes: it holds the mode; or it asks for the mode and keeps the one it holds.
 fn held_at(l: Lock, mode: u32) -> Lock
     ensures { λ m. ⌜ m ≡ held-at mode l ⌝ }
 {
@@ -56,8 +57,8 @@ fn convert_in_place(
     flags: u32,
     value: &[u8],
 )
-    requires { ⌜ Lent (Placed k mode flags (now value)) (now words) (now slots) ⌝ }
-    ensures { λ _. ⌜ Changes (Placed k mode flags (now (value .entry))) (granted-in-place k mode flags (now (value .entry))) (now (words .entry)) (now (slots .entry)) (now (words .exit)) (now (slots .exit)) ⌝ }
+    requires { ⌜ SomeTables (ConvertsInPlace k mode flags (now value)) (now words) (now slots) ⌝ }
+    ensures { λ _. ⌜ Changes (ConvertsInPlace k mode flags (now (value .entry))) (granted-in-place k mode flags (now (value .entry))) (now (words .entry)) (now (slots .entry)) (now (words .exit)) (now (slots .exit)) ⌝ }
 {
     let l = lock_at(words, k);
     queues::leave_value(words, slots, lowers(l.held, mode), flags, value, l.resource);
@@ -83,7 +84,7 @@ pub fn convert_change(
     flags: u32,
     value: &[u8],
 ) -> Converted
-    requires { ⌜ Lent (Convertible k mode flags (now value)) (now words) (now slots) ⌝ }
+    requires { ⌜ SomeTables (Convertible k mode flags (now value)) (now words) (now slots) ⌝ }
     ensures { λ r. ⌜ Makes (Convertible k mode flags (now (value .entry))) (convert-change k mode flags (now (value .entry))) (now (words .entry)) (now (slots .entry)) (now (words .exit)) (now (slots .exit)) (converted r) ⌝ }
 {
     if queues::in_place(words, k, mode) {

@@ -13,15 +13,17 @@ use Rattle.tables.specs.Layout.{words, slots, read-lock}
 use Rattle.tables.proofs.Cases.{by-cases, clash}
 use Rattle.tables.proofs.Counts.{first-in}
 use Rattle.tables.proofs.SlotChanges.{slots-move}
-use Rattle.tables.proofs.Valid.{used, LockOk, Core, Valid, resources-length, core-move}
+use Rattle.tables.specs.Validity.{used, LockOk, Core, Valid}
+use Rattle.tables.proofs.Valid.{resources-length, core-move}
 use Rattle.tables.proofs.ChainMembers.{on-chain}
 use Rattle.rules.specs.Queues.{sweep}
 use Rattle.rules.specs.Deadlock.{victim}
-use Rattle.rules.specs.Calls.{done, denied-lock, deny, deny-victim, break}
-use Rattle.rules.proofs.AcceptedCalls.{Cancellable}
+use Rattle.rules.specs.Calls.{accepted, accepted-step, denied-lock, deny, deny-victim, break}
+use Rattle.rules.specs.Accepted.{Cancellable}
 use Rattle.table_chains.specs.Contracts.{Some, Turns, Tells, Movable, Moving, Moved, Resourced}
 use Rattle.queues.proofs.ResourceRecord.{slots-sweep}
-use Rattle.answers.specs.Answers.{accepted, denied, broken, outcome}
+use Rattle.answers.specs.Answers.{denial, broken}
+use Rattle.rules.specs.Entries.{Lent, lent, outcome}
 use Rattle.answers.specs.declared.Broken.the-variants as broken-cases
 use Rattle.answers.specs.Contracts.{MakesWords}
 use Rattle.call_release.specs.Contracts.{Restorable, restore}
@@ -123,11 +125,11 @@ unfolding victim
 victim-blocked t c zero n e = absurd (n refl)
 victim-blocked t c (suc k) n e = on-chain t (c .linked) blocked (suc k) (first-in _ (t .blocked) k (sym e)) .1
 
-deny-none : (k : ℕ) (t : Tables) → k ≡ 0 → deny-victim k t ≡ done 0 0 t
+deny-none : (k : ℕ) (t : Tables) → k ≡ 0 → deny-victim k t ≡ accepted-step 0 0 t
 unfolding deny-victim
 deny-none k t e = rw e
 
-deny-some : (k : ℕ) (t : Tables) → k ≢ 0 → deny-victim k t ≡ done k 0 (deny k t)
+deny-some : (k : ℕ) (t : Tables) → k ≢ 0 → deny-victim k t ≡ accepted-step k 0 (deny k t)
 unfolding deny-victim
 deny-some zero t n = absurd (n refl)
 deny-some (suc k) t n = refl
@@ -137,9 +139,9 @@ unfolding break
 break-is k t e = ap (λ (x : ℕ). deny-victim x t) (sym e)
 
 -- the numbers of a denied lock
-denied-is : (k : ℕ) → k ≢ 0 → (ws ss : List ℕ) → outcome (denied k) ws ss ≡ outcome (accepted k 0) ws ss
-denied-is zero n ws ss = absurd (n refl)
-denied-is (suc k) n ws ss = refl
+denied-is : (k : ℕ) → k ≢ 0 → (u : Lent) → outcome (denial k) u ≡ outcome (accepted k 0) u
+denied-is zero n u = absurd (n refl)
+denied-is (suc k) n u = refl
 
 -- break_change
 pub valid-core : (a : List ℕ) → Some Valid a → Some Core a
@@ -161,7 +163,7 @@ module _ (a : List ℕ) (k : ℕ) (tells : Tells Core victim a k) where
     pub break-denied : (b : List ℕ) → Turns (Cancellable k) (deny k) a b → MakesWords Valid break a b (broken (broken-cases.Denied k))
     break-denied b denies = record {
       then = λ t v is.
-          denied-is k n b (slots t)
+          denied-is k n (lent b (slots t))
           ∙ stepped (break t) k 0 (deny k t) b (slots t) (break-is k t (tells .then t (v .core) is) ∙ deny-some k t n) (denies .then t (blocked-at t v is) is) (sym (slots-deny k t));
     }
 

@@ -15,15 +15,16 @@ use Rattle.tables.specs.Layout.{words, slots, locks-in, read-lock}
 use Rattle.tables.proofs.Cases.{by-cases, clash}
 use Rattle.tables.proofs.Counts.{first-in}
 use Rattle.tables.proofs.SlotChanges.{slots-move}
-use Rattle.tables.proofs.Valid.{used, Granted, StateOk, LockOk, Core, Valid, absent-lock}
+use Rattle.tables.specs.Validity.{used, Granted, StateOk, LockOk, Core, Valid}
+use Rattle.tables.proofs.Valid.{absent-lock}
 use Rattle.tables.proofs.ChainMembers.{on-chain}
 use Rattle.table_fields.specs.Sizes.{Sized}
 use Rattle.rules.specs.Queues.{free-lock}
-use Rattle.rules.specs.Calls.{done, notice-read, take-notice, poll-notice, poll-change}
+use Rattle.rules.specs.Calls.{Said, accepted-step, notice-read, take-notice, poll-notice, poll-change}
 use Rattle.table_chains.specs.Contracts.{Some, Turns, Tells, Movable, Moving, Moved}
 use Rattle.queues.specs.Contracts.{Locked}
 use Rattle.queues.proofs.ResourceRecord.{slots-free}
-use Rattle.answers.specs.Answers.{Numbers, polled}
+use Rattle.answers.specs.Answers.{polled}
 use Rattle.answers.specs.declared.Polled.the-variants as polled-cases
 use Rattle.answers.specs.Contracts.{MakesWords}
 use Rattle.answers.proofs.Steps.{stepped}
@@ -32,17 +33,17 @@ use Rattle.call_notice.specs.Contracts.{first-notice, Noticed}
 use Rattle.call_notice.proofs.Denial.{valid-core}
 
 -- STATES. A notice that is no denied request stands at a granted lock
-granted-told : (u : ℕ → Bool) (l : Lock) (s : ℕ) → StateOk u l s → l .completion ≢ 0 → l .completion ≢ 2 → Granted u l × (s ≡ 1)
-granted-told u l zero ok a b = absurd (a (ap (λ (x : Lock). x .completion) ok))
-granted-told u l (suc zero) ok a b = (ok, refl)
-granted-told u l (suc (suc zero)) ok a b = absurd (a (ok .notice))
-granted-told u l (suc (suc (suc zero))) ok a b = absurd (a (ok .notice))
-granted-told u l (suc (suc (suc (suc zero)))) ok a b = absurd (b (ok .notice))
-granted-told u l (suc (suc (suc (suc (suc n))))) ok a b = absurd ok
+granted-noticed : (u : ℕ → Bool) (l : Lock) (s : ℕ) → StateOk u l s → l .completion ≢ 0 → l .completion ≢ 2 → Granted u l × (s ≡ 1)
+granted-noticed u l zero ok a b = absurd (a (ap (λ (x : Lock). x .completion) ok))
+granted-noticed u l (suc zero) ok a b = (ok, refl)
+granted-noticed u l (suc (suc zero)) ok a b = absurd (a (ok .notice))
+granted-noticed u l (suc (suc (suc zero))) ok a b = absurd (a (ok .notice))
+granted-noticed u l (suc (suc (suc (suc zero)))) ok a b = absurd (b (ok .notice))
+granted-noticed u l (suc (suc (suc (suc (suc n))))) ok a b = absurd ok
 
 module _ (k : ℕ) (t : Tables) (p : Noticed k t) where
   some-notice : lock t k .completion ≢ 0
-  some-notice = eqb-false (lock t k .completion) 0 (not-true _ (p .unread))
+  some-notice = eqb-false (lock t k .completion) 0 (not-true _ (p .has-notice))
 
   in-range : within (length (t .locks)) k ≡ true
   in-range =
@@ -53,7 +54,7 @@ module _ (k : ℕ) (t : Tables) (p : Noticed k t) where
 
   module _ (n : lock t k .completion ≢ 2) where
     old : Granted (used t) (lock t k) × (lock t k .state ≡ 1)
-    old = granted-told (used t) (lock t k) (lock t k .state) (p .core .lock-ok k) some-notice n
+    old = granted-noticed (used t) (lock t k) (lock t k .state) (p .core .lock-ok k) some-notice n
 
     read-ok : LockOk (used t) (notice-read (lock t k))
     read-ok =
@@ -73,7 +74,7 @@ module _ (k : ℕ) (t : Tables) (p : Noticed k t) where
     denied-else : lock t k .completion ≢ 1 → lock t k .completion ≡ 3
     denied-else m = omega (arith, some-notice, n, m, old .0 .notice)
 
-poll-some : (n k : ℕ) (t : Tables) → within n k ≡ true → poll-notice k t ≡ done (lock t k .completion) k (take-notice k t)
+poll-some : (n k : ℕ) (t : Tables) → within n k ≡ true → poll-notice k t ≡ accepted-step (lock t k .completion) k (take-notice k t)
 unfolding poll-notice
 poll-some n zero t w = clash false w refl
 poll-some n (suc k) t w = refl
@@ -87,8 +88,8 @@ unfolding take-notice
 take-read k t n = rw (ne-eqb (lock t k .completion) 2 n, take-notice)
 
 -- the notice with the completion x is answered so
-poll-done : (k : ℕ) (t : Tables) → Noticed k t → (x : ℕ) (t′ : Tables) → lock t k .completion ≡ x → take-notice k t ≡ t′ → poll-notice k t ≡ done x k t′
-poll-done k t p x t′ e h = poll-some (length (t .locks)) k t (in-range k t p) ∙ ap (λ (y : ℕ). done y k (take-notice k t)) e ∙ ap (done x k) h
+poll-done : (k : ℕ) (t : Tables) → Noticed k t → (x : ℕ) (t′ : Tables) → lock t k .completion ≡ x → take-notice k t ≡ t′ → poll-notice k t ≡ accepted-step x k t′
+poll-done k t p x t′ e h = poll-some (length (t .locks)) k t (in-range k t p) ∙ ap (λ (y : ℕ). accepted-step y k (take-notice k t)) e ∙ ap (accepted-step x k) h
 
 -- take_notice
 module _ (k : ℕ) (a : List ℕ) where
@@ -137,7 +138,7 @@ module _ (k : ℕ) (a : List ℕ) where
 
       module _ (b : List ℕ) (moved : Moved k m a b) where
         read-at : (x : ℕ) (t : Tables) (p : Noticed k t) (is : a ≡ words t) → lock t k .completion ≡ x →
-            (poll-notice k t ≡ done x k (move (lock t k .resource) k (notice-read (lock t k)) t)) × (b ≡ words (move (lock t k .resource) k (notice-read (lock t k)) t))
+            (poll-notice k t ≡ accepted-step x k (move (lock t k .resource) k (notice-read (lock t k)) t)) × (b ≡ words (move (lock t k .resource) k (notice-read (lock t k)) t))
         read-at x t p is e = (
           poll-done k t p x _ e (take-read k t (other-at t p is)),
           subst (λ (o : Lock). Moved k o a b) (m-is t p is) moved .then (lock t k .resource) t (movable k t p (other-at t p is)) is,
@@ -163,13 +164,13 @@ pub ruleset take-laws = (needs, take-sized, take-low, take-high, take-locked, ta
 first-noticed : (c : ℕ) (t : Tables) → Core t → (k : ℕ) → k ≢ 0 → k ≡ first-notice c t → Noticed k t
 unfolding first-notice
 first-noticed c t core zero n e = absurd (n refl)
-first-noticed c t core (suc k) n e = record { core = core; unread = on-chain t (core .linked) notices (suc k) (first-in _ (t .notices) k (sym e)) .1 }
+first-noticed c t core (suc k) n e = record { core = core; has-notice = on-chain t (core .linked) notices (suc k) (first-in _ (t .notices) k (sym e)) .1 }
 
 poll-is : (c k : ℕ) (t : Tables) → k ≡ first-notice c t → poll-change c t ≡ poll-notice k t
 unfolding poll-change first-notice
 poll-is c k t e = ap (λ (x : ℕ). poll-notice x t) (sym e)
 
-poll-nothing : (k : ℕ) (t : Tables) → k ≡ 0 → poll-notice k t ≡ done 0 0 t
+poll-nothing : (k : ℕ) (t : Tables) → k ≡ 0 → poll-notice k t ≡ accepted-step 0 0 t
 unfolding poll-notice
 poll-nothing k t e = rw e
 
@@ -187,7 +188,7 @@ module _ (c : ℕ) (a : List ℕ) (k : ℕ) (tells : Tells Core (first-notice c)
     pub poll-noticed : Some Valid a → Some (Noticed k) a
     poll-noticed s = record { state = s .state; good = noticed-at (s .state) (s .good) (s .is); is = s .is }
 
-    pub poll-taken : (b : List ℕ) (x : Numbers) → MakesWords (Noticed k) (poll-notice k) a b x → MakesWords Valid (poll-change c) a b x
+    pub poll-taken : (b : List ℕ) (x : Said) → MakesWords (Noticed k) (poll-notice k) a b x → MakesWords Valid (poll-change c) a b x
     poll-taken b x takes = record {
       then = λ t v is. rw (poll-is c k t (tells .then t (v .core) is)) (takes .then t (noticed-at t v is) is);
     }

@@ -15,10 +15,10 @@ use Rattle.tables.specs.State.{Tables, lock, notices, of-locks}
 use Rattle.tables.specs.Layout.{of-header, of-lock, place, cell, words, locks-in, word-in, follow, link-in, read-chain, read-lock}
 use Rattle.tables.proofs.Cases.{by-cases}
 use Rattle.tables.proofs.Counts.{within-le, count-same, count-step}
-use Rattle.tables.proofs.WordChanges.{Threaded}
+use Rattle.tables.specs.Threads.{Threaded}
 use Rattle.tables.proofs.ChainWalk.{Leads, words-lead}
 use Rattle.tables.proofs.ReadBack.{resources-word, locks-word, chain-most, chain-read}
-use Rattle.tables.proofs.Valid.{Core}
+use Rattle.tables.specs.Validity.{Core}
 use Rattle.tables.proofs.ChainMembers.{on-chain}
 use Rattle.tables.proofs.ThreadedChains.{core-threaded}
 use Rattle.table_chains.specs.Contracts.{Some, Tells}

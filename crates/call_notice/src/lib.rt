@@ -1,14 +1,14 @@
-// Notices: denying a lock to break a deadlock leaves its client one, and a client reads them one by one. In place on the
-// lent words; the slots stay as they are.
+// Notices. To break a deadlock a lock is denied, which leaves its client a notice. A client reads its notices one by
+// one. Both calls change the lent words in place; the slots stay as they are.
 use answers::Broken;
 use answers::Polled;
 use table_fields::lock_at;
 use table_fields::lock_word;
 use tables::Lock;
 ghost use mathlib.Core.Path.{_≡_};
-ghost use Rattle.tables.proofs.Valid.{Core, Valid};
+ghost use Rattle.tables.specs.Validity.{Core, Valid};
 ghost use Rattle.rules.specs.Calls.{«denied-lock», deny, break, «notice-read», «poll-notice», «poll-change»};
-ghost use Rattle.rules.proofs.AcceptedCalls.{Cancellable};
+ghost use Rattle.rules.specs.Accepted.{Cancellable};
 ghost use Rattle.table_chains.specs.Contracts.{Some, Turns, Tells};
 ghost use Rattle.answers.specs.Answers.{broken, polled};
 ghost use Rattle.answers.specs.Contracts.{MakesWords};
@@ -42,7 +42,7 @@ fn deny(words: &mut [u32], k: u32)
     queues::sweep(words, l.resource);
 }
 
-// One lock on a deadlock is denied, if there is a deadlock.
+// If there is a deadlock, one lock on it is denied.
 pub fn break_change(words: &mut [u32]) -> Broken
     requires { ⌜ Some Valid (now words) ⌝ }
     ensures { λ r. ⌜ MakesWords Valid break (now (words .entry)) (now (words .exit)) (broken r) ⌝ }

@@ -14,12 +14,13 @@ use Rattle.tables.specs.State.{Tables, lock}
 use Rattle.tables.specs.Layout.{words, slots, locks-in, read-lock}
 use Rattle.tables.proofs.Cases.{by-cases}
 use Rattle.tables.proofs.Counts.{within-le, le-within, count-same, count-step}
-use Rattle.tables.proofs.Valid.{used, StateOk, Core, used-within}
+use Rattle.tables.specs.Validity.{used, StateOk, Core}
+use Rattle.tables.proofs.Valid.{used-within}
 use Rattle.rules.specs.Calls.{locks-of, purge-lock, purge-locks}
 use Rattle.table_fields.specs.Sizes.{Sized}
 use Rattle.table_chains.specs.Contracts.{Changes}
 use Rattle.table_chains.proofs.ChainCells.{locks-is, sized-is}
-use Rattle.queues.specs.Contracts.{Locked, Lent}
+use Rattle.queues.specs.Contracts.{Locked, SomeTables}
 use Rattle.call_purge.specs.PurgedLocks.{of-client, purge-own, mark-own, count-own, purge-all, mark-locks, mark-all, count-all, Frees}
 use Rattle.call_purge.proofs.NumbersLeft.{ahead, ahead-start, ahead-end, ahead-in, ahead-out, ahead-past, ahead-cong}
 use Rattle.call_purge.proofs.OneLock.{Freed, lock-freed, lock-sized, lock-low, lock-high, lock-told}
@@ -78,7 +79,7 @@ resource-few k t co = go (lock t k .state) (co .lock-ok k)
 
 -- purge_own
 module _ (c k : ℕ) (a sa : List ℕ) (l : Lock) (el : l ≡ read-lock a k) where
-  pub own-place : (x : ℕ) (m : List Bool) → (x ≡ l .resource) × (x < 2 ^ 32) → Lent (Locked k) a sa → length m ≡ 257 → x < length m
+  pub own-place : (x : ℕ) (m : List Bool) → (x ≡ l .resource) × (x < 2 ^ 32) → SomeTables (Locked k) a sa → length m ≡ 257 → x < length m
   own-place x m e s w =
       let q : l .resource < 257 = rw (lock-told k a sa l el (s .state) (s .good) (s .is)) (resource-few k (s .state) (s .good .core)) in
       omega arith
@@ -184,7 +185,7 @@ pub record Goes (c last k : ℕ) (t : Tables) (m₀ : List Bool) (b sb : List �
 
 pub record Going (c last k : ℕ) (a sa : List ℕ) (m₀ : List Bool) (b sb : List ℕ) (m : List Bool) (n : ℕ) : Type 0 where
   pub low : 1 ≤ k
-  pub lent : Lent Core b sb
+  pub lent : SomeTables Core b sb
   pub words-size : length b ≡ length a
   pub slots-size : length sb ≡ length sa
   pub marks-size : length m ≡ length m₀
@@ -194,11 +195,11 @@ pub record Going (c last k : ℕ) (a sa : List ℕ) (m₀ : List Bool) (b sb : L
   pub locks-are : locks-in b ≡ last
   pub then : (t : Tables) → Core t → a ≡ words t → sa ≡ slots t → Goes c last k t m₀ b sb m n
 
-pub core-sized : (a sa : List ℕ) → Lent Core a sa → Sized a
+pub core-sized : (a sa : List ℕ) → SomeTables Core a sa → Sized a
 core-sized a sa s = sized-is (s .state) a (s .is) (s .good .resources-high) (s .good .locks-high)
 
 module _ (c last : ℕ) (a sa : List ℕ) (m₀ : List Bool) where
-  pub purge-starts : Lent Core a sa → length m₀ ≡ 257 → last ≡ locks-in a → Going c last 1 a sa m₀ a sa m₀ 0
+  pub purge-starts : SomeTables Core a sa → length m₀ ≡ 257 → last ≡ locks-in a → Going c last 1 a sa m₀ a sa m₀ 0
   unfolding purge-all mark-all count-all
   purge-starts s w e =
       record {
@@ -242,7 +243,7 @@ module _ (c last : ℕ) (a sa : List ℕ) (m₀ : List Bool) where
       there t co is =
           record { core = co; in-range = le-within (length (t .locks)) k (g .low) (omega (arith, locks-is t b is, g .locks-are)) }
 
-      pub purge-locked : Lent (Locked k) b sb
+      pub purge-locked : SomeTables (Locked k) b sb
       purge-locked =
           record { state = g .lent .state; good = there (g .lent .state) (g .lent .good) (g .lent .is); is = g .lent .is; slots-are = g .lent .slots-are }
 
@@ -255,7 +256,7 @@ module _ (c last : ℕ) (a sa : List ℕ) (m₀ : List Bool) where
         pub purge-fits : n + x < 2 ^ 32
         purge-fits = omega (arith, x-few, g .few, g .last-few)
 
-        after : (t : Tables) → Core t → b ≡ words t → sb ≡ slots t → Lent Core d sd
+        after : (t : Tables) → Core t → b ≡ words t → sb ≡ slots t → SomeTables Core d sd
         after t co is iss =
             let p = there t co is in
             let q = f .then t p is iss in

@@ -11,13 +11,13 @@ use Rattle.tables.specs.State.{Tables}
 use Rattle.tables.specs.Layout.{words, slots, resources-in}
 use Rattle.tables.proofs.Cases.{by-cases}
 use Rattle.tables.proofs.Counts.{within-le, le-within}
-use Rattle.tables.proofs.Valid.{Core}
+use Rattle.tables.specs.Validity.{Core}
 use Rattle.rules.specs.Queues.{settle}
 use Rattle.rules.specs.Calls.{settle-all}
 use Rattle.rules.proofs.CallsKeepSound.{settle-settles}
 use Rattle.table_chains.specs.Contracts.{Changes, Resourced}
 use Rattle.table_chains.proofs.ChainCells.{resources-is}
-use Rattle.queues.specs.Contracts.{Lent}
+use Rattle.queues.specs.Contracts.{SomeTables}
 use Rattle.call_purge.specs.SettledResources.{marked, settle-if, settle-marked}
 use Rattle.call_purge.proofs.NumbersLeft.{ahead, ahead-start, ahead-end, ahead-in, ahead-out}
 use Rattle.call_purge.proofs.ClientLocks.{core-sized}
@@ -91,14 +91,14 @@ pub record Goes (m : List Bool) (r : ℕ) (t : Tables) (b sb : List ℕ) : Type 
 pub record Going (m : List Bool) (r : ℕ) (a sa b sb : List ℕ) : Type 0 where
   pub low : 1 ≤ r
   pub wide : length m ≡ 257
-  pub lent : Lent Core b sb
+  pub lent : SomeTables Core b sb
   pub words-size : length b ≡ length a
   pub slots-size : length sb ≡ length sa
   pub resources-are : resources-in b ≡ resources-in a
   pub then : (t : Tables) → Core t → a ≡ words t → sa ≡ slots t → Goes m r t b sb
 
 module _ (m : List Bool) (a sa : List ℕ) where
-  pub settle-starts : Lent Core a sa → length m ≡ 257 → Going m 1 a sa a sa
+  pub settle-starts : SomeTables Core a sa → length m ≡ 257 → Going m 1 a sa a sa
   settle-starts s w =
       record {
         low = omega arith;
@@ -125,7 +125,7 @@ module _ (m : List Bool) (a sa : List ℕ) where
       there t co is =
           record { core = co; in-range = le-within (length (t .resources)) r (g .low) (omega (arith, resources-is t b is, g .resources-are)) }
 
-      pub settle-resourced : Lent (Resourced r) b sb
+      pub settle-resourced : SomeTables (Resourced r) b sb
       settle-resourced =
           record { state = g .lent .state; good = there (g .lent .state) (g .lent .good) (g .lent .is); is = g .lent .is; slots-are = g .lent .slots-are }
 

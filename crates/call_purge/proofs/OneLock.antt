@@ -14,14 +14,15 @@ use Rattle.tables.specs.Layout.{words, slots, locks-in, read-lock}
 use Rattle.tables.proofs.Cases.{clash}
 use Rattle.tables.proofs.Counts.{within-le}
 use Rattle.tables.proofs.ReadBack.{lock-read}
-use Rattle.tables.proofs.Valid.{used, StateOk, Core, used-within, lock-other, locks-length, resources-length}
+use Rattle.tables.specs.Validity.{used, StateOk, Core}
+use Rattle.tables.proofs.Valid.{used-within, lock-other, locks-length, resources-length}
 use Rattle.rules.specs.Queues.{free-lock}
 use Rattle.rules.specs.Calls.{stores, spoils, strong, with-value, leave-value, purge-lock}
 use Rattle.rules.proofs.ResourceChanges.{Quiet, leave-quiet}
 use Rattle.table_fields.specs.Sizes.{Sized}
 use Rattle.table_chains.specs.Contracts.{Some, Turns, Changes}
 use Rattle.table_chains.proofs.ChainCells.{locks-is, sized-is}
-use Rattle.queues.specs.Contracts.{Locked, Lent, Valued}
+use Rattle.queues.specs.Contracts.{Locked, SomeTables, Valued}
 use Rattle.queues.proofs.StateAfter.{freed-core}
 use Rattle.queues.proofs.ResourceRecord.{slots-free}
 use Rattle.call_purge.specs.PurgedLocks.{spoil}
@@ -85,7 +86,7 @@ module _ (k : ℕ) (t : Tables) (p : Locked k t) where
 
 -- CODE
 module _ (k : ℕ) (a sa : List ℕ) where
-  module _ (s : Lent (Locked k) a sa) where
+  module _ (s : SomeTables (Locked k) a sa) where
     range : (1 ≤ k) × (k ≤ length (s .state .locks))
     range = within-le (length (s .state .locks)) k (s .good .in-range)
 
@@ -121,7 +122,7 @@ module _ (k : ℕ) (a sa : List ℕ) where
             right = λ z. clash (stores 2) z stores-none;
           }
 
-      pub spoil-valued : Lent (Locked k) a sa → Lent (Valued 2 v (l .resource)) a sa
+      pub spoil-valued : SomeTables (Locked k) a sa → SomeTables (Valued 2 v (l .resource)) a sa
       spoil-valued s = record { state = s .state; good = valued-at (s .state) (s .good) (s .is); is = s .is; slots-are = s .slots-are }
 
       pub spoil-made : (b sb : List ℕ) → Changes (Valued 2 v (l .resource)) (leave-value true 2 v (l .resource)) a sa b sb → Changes (Locked k) (spoil k) a sa b sb
@@ -134,7 +135,7 @@ module _ (k : ℕ) (a sa : List ℕ) where
 
   -- purge_lock
   module _ (b sb : List ℕ) (spoiled : Changes (Locked k) (spoil k) a sa b sb) where
-    pub purge-frees : Lent (Locked k) a sa → Some (Locked k) b
+    pub purge-frees : SomeTables (Locked k) a sa → Some (Locked k) b
     purge-frees s =
         record { state = spoil k (s .state); good = spoil-locked k (s .state) (s .good); is = spoiled .then (s .state) (s .good) (s .is) (s .slots-are) .0 }
 

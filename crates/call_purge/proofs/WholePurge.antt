@@ -17,13 +17,15 @@ use Rattle.tables.specs.Layout.{words, slots}
 use Rattle.tables.specs.Grants.{holders}
 use Rattle.tables.proofs.Cases.{by-cases, by-equal, clash, eqb-same}
 use Rattle.tables.proofs.Counts.{within-le, count-same, count-step, count-append, count-from, bit-one, any-intro, by-append, kept-in, count-kept}
-use Rattle.tables.proofs.Valid.{used, StateOk, Core, absent-lock}
+use Rattle.tables.specs.Validity.{used, StateOk, Core}
+use Rattle.tables.proofs.Valid.{absent-lock}
 use Rattle.tables.proofs.ChainMembers.{chain-has, in-holder, on-waits}
-use Rattle.rules.specs.Calls.{locks-of, purge-lock, purge-locks, stands-on, settle-all, purge-change}
+use Rattle.rules.specs.Entries.{lent}
+use Rattle.rules.specs.Calls.{accepted, locks-of, purge-lock, purge-locks, stands-on, settle-all, purge-change}
 use Rattle.rules.proofs.QueueTheorem.{keep-cong}
-use Rattle.rules.proofs.AcceptedCalls.{Purgeable}
+use Rattle.rules.specs.Accepted.{Purgeable}
 use Rattle.table_chains.specs.Contracts.{Changes}
-use Rattle.queues.specs.Contracts.{Lent}
+use Rattle.queues.specs.Contracts.{SomeTables}
 use Rattle.answers.specs.declared.Purged.the-variants as purged-cases
 use Rattle.answers.specs.Answers.{purged}
 use Rattle.answers.specs.Contracts.{Makes}
@@ -138,7 +140,7 @@ module _ (c : ℕ) (t : Tables) (co : Core t) where
 
 -- purge_change
 module _ (c : ℕ) (a sa b sb : List ℕ) (m : List Bool) (x : ℕ) (f : Frees Core (purge-all c) (mark-all c (replicate 257 false)) (count-all c) a sa b sb m x) where
-  pub change-settles : Lent (Purgeable c) a sa → Lent Core b sb
+  pub change-settles : SomeTables (Purgeable c) a sa → SomeTables Core b sb
   change-settles s =
       let co = s .good .valid .core in
       let q = f .then (s .state) co (s .is) (s .slots-are) in
@@ -152,13 +154,7 @@ module _ (c : ℕ) (a sa b sb : List ℕ) (m : List Bool) (x : ℕ) (f : Frees C
         let q = f .then t co is iss in
         let w = g .then (purge-all c t) (all-kept c t co .core) (q .0) (q .1) in
         let e = settles c t co m (q .2) in
-        unfold purge-change in λ i. record {
-          refusal = 0;
-          answer = (q .3) i;
-          number = 0;
-          words = (w .0 ∙ ap words e) i;
-          slots = (w .1 ∙ ap slots e) i;
-        };
+        unfold purge-change in λ i. record { said = accepted ((q .3) i) 0; lent-after = lent ((w .0 ∙ ap words e) i) ((w .1 ∙ ap slots e) i) };
   }
 
 pub ruleset change-laws = (needs, change-settles, change-made)

@@ -8,11 +8,11 @@ use table_fields::wide;
 ghost use mathlib.Core.Path.{_≡_};
 ghost use Prim.Native.Nat.{_<_};
 ghost use lib.ListN.{length};
-ghost use Rattle.tables.proofs.Valid.{Core};
+ghost use Rattle.tables.specs.Validity.{Core};
 ghost use Rattle.rules.specs.Calls.{«purge-lock», «purge-change»};
-ghost use Rattle.rules.proofs.AcceptedCalls.{Purgeable};
+ghost use Rattle.rules.specs.Accepted.{Purgeable};
 ghost use Rattle.table_chains.specs.Contracts.{Changes, Resourced};
-ghost use Rattle.queues.specs.Contracts.{Locked, Lent};
+ghost use Rattle.queues.specs.Contracts.{Locked, SomeTables};
 ghost use Rattle.answers.specs.Answers.{purged};
 ghost use Rattle.answers.specs.Contracts.{Makes};
 ghost use Rattle.call_purge.specs.PurgedLocks.{spoil, «purge-own», «mark-own», «count-own», «purge-all», «mark-all», «count-all», Frees};
@@ -26,7 +26,7 @@ const SPOIL: u32 = 2;
 
 // Where lock k holds PW or EX, the value of its resource becomes not valid.
 fn spoil_value(words: &mut [u32], slots: &mut [u8], k: u32)
-    requires { ⌜ Lent (Locked k) (now words) (now slots) ⌝ }
+    requires { ⌜ SomeTables (Locked k) (now words) (now slots) ⌝ }
     ensures { λ _. ⌜ Changes (Locked k) (spoil k) (now (words .entry)) (now (slots .entry)) (now (words .exit)) (now (slots .exit)) ⌝ }
 {
     let l = lock_at(words, k);
@@ -39,16 +39,16 @@ fn spoil_value(words: &mut [u32], slots: &mut [u8], k: u32)
 
 // The lock k is freed with its notice.
 fn purge_lock(words: &mut [u32], slots: &mut [u8], k: u32)
-    requires { ⌜ Lent (Locked k) (now words) (now slots) ⌝ }
+    requires { ⌜ SomeTables (Locked k) (now words) (now slots) ⌝ }
     ensures { λ _. ⌜ Changes (Locked k) (purge-lock k) (now (words .entry)) (now (slots .entry)) (now (words .exit)) (now (slots .exit)) ⌝ }
 {
     spoil_value(words, slots, k);
     queues::free_lock(words, k);
 }
 
-// If lock k is the client's, its resource is marked and it is purged. How many locks that frees.
+// If lock k is the client's, its resource is marked and the lock is purged. Answers how many locks that frees.
 fn purge_own(words: &mut [u32], slots: &mut [u8], client: u32, k: u32, marks: &mut [bool]) -> u32
-    requires { ⌜ Lent (Locked k) (now words) (now slots) ⌝ }
+    requires { ⌜ SomeTables (Locked k) (now words) (now slots) ⌝ }
     requires { ⌜ length (now marks) ≡ 257 ⌝ }
     ensures { λ x. ⌜ Frees (Locked k) (purge-own client k) (mark-own client k (now (marks .entry))) (count-own client k) (now (words .entry)) (now (slots .entry)) (now (words .exit)) (now (slots .exit)) (now (marks .exit)) x ⌝ }
 {
@@ -62,9 +62,9 @@ fn purge_own(words: &mut [u32], slots: &mut [u8], client: u32, k: u32, marks: &m
     1
 }
 
-// The client's locks are purged, ascending, and their resources marked. How many there were.
+// The client's locks are purged, ascending, and their resources marked. Answers how many there were.
 fn purge_locks(words: &mut [u32], slots: &mut [u8], client: u32, marks: &mut [bool]) -> u32
-    requires { ⌜ Lent Core (now words) (now slots) ⌝ }
+    requires { ⌜ SomeTables Core (now words) (now slots) ⌝ }
     requires { ⌜ length (now marks) ≡ 257 ⌝ }
     ensures { λ x. ⌜ Frees Core (purge-all client) (mark-all client (now (marks .entry))) (count-all client) (now (words .entry)) (now (slots .entry)) (now (words .exit)) (now (slots .exit)) (now (marks .exit)) x ⌝ }
 {
@@ -80,7 +80,7 @@ fn purge_locks(words: &mut [u32], slots: &mut [u8], client: u32, marks: &mut [bo
 
 // The resource r is settled, if it is marked.
 fn settle_if_marked(words: &mut [u32], slots: &mut [u8], marks: &[bool], r: u32)
-    requires { ⌜ Lent (Resourced r) (now words) (now slots) ⌝ }
+    requires { ⌜ SomeTables (Resourced r) (now words) (now slots) ⌝ }
     requires { ⌜ r < length (now marks) ⌝ }
     ensures { λ _. ⌜ Changes (Resourced r) (settle-if (marked (now (marks .entry)) r) r) (now (words .entry)) (now (slots .entry)) (now (words .exit)) (now (slots .exit)) ⌝ }
 {
@@ -92,7 +92,7 @@ fn settle_if_marked(words: &mut [u32], slots: &mut [u8], marks: &[bool], r: u32)
 
 // The marked resources are settled, ascending.
 fn settle_marked(words: &mut [u32], slots: &mut [u8], marks: &[bool])
-    requires { ⌜ Lent Core (now words) (now slots) ⌝ }
+    requires { ⌜ SomeTables Core (now words) (now slots) ⌝ }
     requires { ⌜ length (now marks) ≡ 257 ⌝ }
     ensures { λ _. ⌜ Changes Core (settle-marked (now (marks .entry))) (now (words .entry)) (now (slots .entry)) (now (words .exit)) (now (slots .exit)) ⌝ }
 {
@@ -104,9 +104,10 @@ fn settle_marked(words: &mut [u32], slots: &mut [u8], marks: &[bool])
     }
 }
 
-// All locks of the client are freed; then the resources on which it stood are settled. The count of freed locks.
+// All locks of the client are freed; then the resources on which it stood are settled. Answers the count of freed
+// locks.
 pub fn purge_change(words: &mut [u32], slots: &mut [u8], client: u32) -> Purged
-    requires { ⌜ Lent (Purgeable client) (now words) (now slots) ⌝ }
+    requires { ⌜ SomeTables (Purgeable client) (now words) (now slots) ⌝ }
     ensures { λ r. ⌜ Makes (Purgeable client) (purge-change client) (now (words .entry)) (now (slots .entry)) (now (words .exit)) (now (slots .exit)) (purged r) ⌝ }
 {
     let mut marks = [false; RESOURCE_PLACES];

@@ -13,7 +13,7 @@ use Rattle.tables.specs.Layout.{words, locks-in, read-lock}
 use Rattle.tables.specs.Sound.{client-right}
 use Rattle.tables.proofs.Cases.{parts}
 use Rattle.tables.proofs.Counts.{within-le}
-use Rattle.tables.proofs.Valid.{Core}
+use Rattle.tables.specs.Validity.{Core}
 use Rattle.tables.proofs.ReadBack.{lock-read}
 use Rattle.table_fields.specs.Sizes.{Sized}
 use Rattle.rules.specs.Calls.{unless, own, cancel-refusal, purge-refusal, poll-refusal}

@@ -15,9 +15,9 @@ use Rattle.tables.proofs.Cases.{by-cases, and-left, and-right, or-right, nor-le
 use Rattle.tables.proofs.Counts.{count-from, bit-one, first-in}
 use Rattle.tables.proofs.Links.{next-here}
 use Rattle.tables.proofs.WordChanges.{read-word}
-use Rattle.tables.proofs.Valid.{Core}
+use Rattle.tables.specs.Validity.{Core}
 use Rattle.rules.specs.Queues.{find}
-use Rattle.rules.specs.Calls.{unless, no-queue}
+use Rattle.rules.specs.Calls.{unless, no-queue, at-once}
 use Rattle.table_chains.specs.Contracts.{Some, Tells, Resourced}
 use Rattle.table_chains.proofs.ChainCells.{sized-is}
 use Rattle.queues.proofs.QueueReads.{null-first}
@@ -35,10 +35,16 @@ free-null t g ws is =
     ap (λ (x : ℕ). eqb x 0) (ap (λ (w : List ℕ). getD w 3 0) is ∙ read-word t (of-header 3) (omega arith) ∙ next-here 0 0 (t .free-locks) refl)
     ∙ null-first (t .free-locks) (g .linked free-locks 0)
 
--- on a new name no lock is in the way
-new-admits : (t : Tables) (m : ℕ) → admits t 0 m ≡ true
-unfolding admits fits holders resource all
-new-admits t m = refl
+-- on a new name a request would be granted at once; on a known one as its resource admits it
+new-at-once : (r m : ℕ) (t : Tables) → r ≡ 0 → at-once r m t ≡ true
+unfolding at-once
+new-at-once zero m t e = refl
+new-at-once (suc r) m t e = absurd (omega arith)
+
+known-at-once : (r m : ℕ) (t : Tables) → (r ≡ 0 → ⊥) → at-once r m t ≡ admits t r m
+unfolding at-once
+known-at-once zero m t z = absurd (z refl)
+known-at-once (suc r) m t z = refl
 
 -- a resource that is found is there
 found-within : (n : List ℕ) (t : Tables) (r : ℕ) → find n t ≡ r → (r ≡ 0 → ⊥) → within (length (t .resources)) r ≡ true
@@ -81,11 +87,11 @@ module _ (ws : List ℕ) (r : ℕ) where
         free-is : (t : Tables) → Core t → ws ≡ words t → null (t .free-locks) ≡ false
         free-is t g is = sym (free-null t g ws is) ∙ ne-eqb (getD ws 3 0) 0 left
 
-        may-queue : (eqb r 0 || not q) ≡ true → (t : Tables) → (not (no-queue f) || admits t r m) ≡ true
+        may-queue : (eqb r 0 || not q) ≡ true → (t : Tables) → (not (no-queue f) || at-once r m t) ≡ true
         may-queue h t =
             rw (← eq)
             (by-cases (eqb r 0)
-            (λ z. or-right (not q) _ (rw (eqb-true r 0 z) (new-admits t m)))
+            (λ z. or-right (not q) _ (new-at-once r m t (eqb-true r 0 z)))
             (λ z. rw (rw z at h)))
 
         pub room-queues : (eqb r 0 || not q) ≡ true → Tells (ResourceOrNone r) (room-refusal r m f) ws 0
@@ -93,15 +99,18 @@ module _ (ws : List ℕ) (r : ℕ) where
         room-queues h = record { then = λ t g is. rw (room-is t (g .core) is, free-is t (g .core) is, may-queue h t) }
 
         module _ (only : (eqb r 0 || not q) ≡ false) where
+          known : r ≡ 0 → ⊥
+          known = eqb-false r 0 (nor-left (eqb r 0) (not q) only)
+
           there : (t : Tables) → ResourceOrNone r t → Resourced r t
-          there t g = record { core = g .core; in-range = g .in-range (eqb-false r 0 (nor-left (eqb r 0) (not q) only)) }
+          there t g = record { core = g .core; in-range = g .in-range known }
 
           pub room-resourced : Some (ResourceOrNone r) ws → Some (Resourced r) ws
           room-resourced s = record { state = s .state; good = there (s .state) (s .good); is = s .is }
 
           module _ (b : Bool) (eb : Tells (Resourced r) (λ t. admits t r m) ws b) where
-            admits-is : (t : Tables) → ResourceOrNone r t → ws ≡ words t → (not (no-queue f) || admits t r m) ≡ b
-            admits-is t g is = rw (← eq, not-false q (nor-right (eqb r 0) (not q) only)) (sym (eb .then t (there t g) is))
+            admits-is : (t : Tables) → ResourceOrNone r t → ws ≡ words t → (not (no-queue f) || at-once r m t) ≡ b
+            admits-is t g is = rw (← eq, not-false q (nor-right (eqb r 0) (not q) only)) (known-at-once r m t known ∙ sym (eb .then t (there t g) is))
 
             pub room-admits : b ≡ true → Tells (ResourceOrNone r) (room-refusal r m f) ws 0
             unfolding room-refusal unless

@@ -1,10 +1,12 @@
 // Why a call is turned down: for each call the number of the first refusal that fits, or 0 if none does.
 use call_arguments::client_right;
 use call_arguments::own;
+use modes::Made;
+use modes::Mode;
 use table_fields::resource_word;
 ghost use mathlib.Core.Path.{_≡_};
 ghost use Prim.Native.Nat.{_<_};
-ghost use Rattle.tables.proofs.Valid.{Core};
+ghost use Rattle.tables.specs.Validity.{Core};
 ghost use Rattle.rules.specs.Calls.{«request-refusal», «convert-refusal», «release-refusal», «cancel-refusal», «purge-refusal»};
 ghost use Rattle.rules.specs.Entries.{«look-refusal»};
 ghost use Rattle.table_chains.specs.Contracts.{Some, Tells};
@@ -105,7 +107,7 @@ pub fn look_refusal(words: &[u32], client: u32, k: u32) -> u32
     0
 }
 
-// Convert and release want a lock of the client's that is granted and has no completion unread.
+// Convert and release need a lock of the client that is granted and has no unread completion.
 fn granted_refusal(words: &[u32], client: u32, k: u32) -> u32
     requires { ⌜ Some Core (now words) ⌝ }
     ensures { λ r. ⌜ Tells Core (granted-refusal client k) (now (words .entry)) r ⌝ }
@@ -139,7 +141,7 @@ pub fn release_refusal(words: &[u32], client: u32, k: u32, flags: u32, value: &[
     granted_refusal(words, client, k)
 }
 
-// Convert's, once its arguments are right.
+// The refusals of convert that are left once its arguments are right.
 fn conversion_refusal(words: &[u32], client: u32, k: u32, mode: u32, flags: u32) -> u32
     requires { ⌜ Some Core (now words) ⌝ }
     requires { ⌜ mode < 6 ⌝ }
@@ -172,20 +174,20 @@ pub fn convert_refusal(
     if !client_right(client) {
         return CLIENT;
     }
-    if table_fields::LAST_MODE < mode {
+    let Made::Mode(asked) = Mode::from_number(mode) else {
         return MODE;
-    }
+    };
     if !flags::convert_flags(flags) {
         return FLAGS;
     }
     if !call_arguments::value_right(flags, value) {
         return VALUE;
     }
-    conversion_refusal(words, client, k, mode, flags)
+    conversion_refusal(words, client, k, asked.0, flags)
 }
 
-// Request's, once its arguments are right; `found` is the resource that has the name, or 0. On a new name no lock is in
-// the way.
+// The refusals of request that are left once its arguments are right. `found` is the resource that has the name, or 0.
+// A new name has no lock that could be in the way.
 fn room_refusal(words: &[u32], found: u32, mode: u32, flags: u32) -> u32
     requires { ⌜ Some (ResourceOrNone found) (now words) ⌝ }
     requires { ⌜ mode < 6 ⌝ }
@@ -222,14 +224,14 @@ pub fn request_refusal(
     if !client_right(client) {
         return CLIENT;
     }
-    if table_fields::LAST_MODE < mode {
+    let Made::Mode(asked) = Mode::from_number(mode) else {
         return MODE;
-    }
+    };
     if !flags::request_flags(flags) {
         return FLAGS;
     }
     if !call_arguments::name_right(name) {
         return NAME;
     }
-    room_refusal(words, found, mode, flags)
+    room_refusal(words, found, asked.0, flags)
 }

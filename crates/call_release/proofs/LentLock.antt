@@ -9,7 +9,7 @@ use Rattle.tables.specs.Lists.{within}
 use Rattle.tables.specs.State.{Tables, lock}
 use Rattle.tables.specs.Layout.{words, locks-in, read-lock}
 use Rattle.tables.proofs.Counts.{within-le}
-use Rattle.tables.proofs.Valid.{Core}
+use Rattle.tables.specs.Validity.{Core}
 use Rattle.tables.proofs.ReadBack.{lock-read}
 use Rattle.table_fields.specs.Sizes.{Sized}
 use Rattle.table_chains.proofs.ChainCells.{locks-is, sized-is}

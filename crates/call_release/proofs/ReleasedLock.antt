@@ -11,17 +11,17 @@ use Rattle.tables.specs.declared.Lock.{Lock}
 use Rattle.tables.specs.Lists.{within}
 use Rattle.tables.specs.State.{Tables, lock}
 use Rattle.tables.specs.Layout.{words, slots, locks-in, read-lock}
-use Rattle.tables.proofs.Valid.{used, Place, ok-at, used-within}
+use Rattle.tables.specs.Validity.{used, Place}
+use Rattle.tables.proofs.Valid.{ok-at, used-within}
 use Rattle.tables.proofs.ChainMembers.{state-within}
 use Rattle.table_fields.specs.Sizes.{Sized}
 use Rattle.rules.specs.Queues.{free-lock, settle}
-use Rattle.rules.specs.Calls.{strong, leave-value, done, release-change}
-use Rattle.rules.proofs.AcceptedCalls.{Releasable}
+use Rattle.rules.specs.Calls.{accepted, strong, leave-value, accepted-step, release-change}
+use Rattle.rules.specs.Accepted.{Releasable}
 use Rattle.table_chains.specs.Contracts.{Some, Turns, Changes, Resourced}
-use Rattle.queues.specs.Contracts.{Locked, Lent, Valued}
+use Rattle.queues.specs.Contracts.{Locked, SomeTables, Valued}
 use Rattle.queues.proofs.ResourceRecord.{slots-free}
 use Rattle.queues.proofs.StateAfter.{left-locked, left-resourced, freed-resourced}
-use Rattle.answers.specs.Answers.{accepted}
 use Rattle.answers.specs.Contracts.{Makes}
 use Rattle.answers.proofs.Steps.{stepped}
 use Rattle.call_release.proofs.LentLock.{lock-sized, lock-low, lock-high, lock-is}
@@ -55,7 +55,7 @@ module _ (acts : Bool) (k f : ℕ) (v : List ℕ) (t : Tables) (p : Releasable k
 
 -- release_change
 module _ (k f : ℕ) (v a sa : List ℕ) where
-  module _ (s : Lent (Releasable k f v) a sa) where
+  module _ (s : SomeTables (Releasable k f v) a sa) where
     pub release-sized : Sized a
     release-sized = lock-sized k (s .state) (s .good .valid .core) (in-range k f v (s .state) (s .good)) a (s .is)
 
@@ -69,7 +69,7 @@ module _ (k f : ℕ) (v a sa : List ℕ) where
     l-is : (t : Tables) → Releasable k f v t → a ≡ words t → l ≡ lock t k
     l-is t p is = lock-is k t (p .valid .core) (in-range k f v t p) a is l el
 
-    pub release-valued : Lent (Releasable k f v) a sa → Lent (Valued f v (l .resource)) a sa
+    pub release-valued : SomeTables (Releasable k f v) a sa → SomeTables (Valued f v (l .resource)) a sa
     release-valued s =
         record {
           state = s .state;
@@ -83,7 +83,7 @@ module _ (k f : ℕ) (v a sa : List ℕ) where
       left-at t p is iss =
           subst (λ (o : Lock). Changes (Valued f v (o .resource)) (leave-value acts f v (o .resource)) a sa b sb) (l-is t p is) leaves .then t (valued k f v t p) is iss
 
-      pub release-locked : Lent (Releasable k f v) a sa → Some (Locked k) b
+      pub release-locked : SomeTables (Releasable k f v) a sa → Some (Locked k) b
       release-locked s =
           record {
             state = left acts k f v (s .state);
@@ -97,7 +97,7 @@ module _ (k f : ℕ) (v a sa : List ℕ) where
             let h = left-at t p is iss in
             (frees .then (left acts k f v t) (freeable acts k f v t p) (h .0), h .1 ∙ sym (slots-free k (left acts k f v t)))
 
-        pub release-resourced : Lent (Releasable k f v) a sa → Lent (Resourced (l .resource)) d sb
+        pub release-resourced : SomeTables (Releasable k f v) a sa → SomeTables (Resourced (l .resource)) d sb
         release-resourced s =
             let h = freed-at (s .state) (s .good) (s .is) (s .slots-are) in
             record {
@@ -126,7 +126,7 @@ module _ (k f : ℕ) (v a sa : List ℕ) where
           let r = lock t k .resource in
           let h = settled-at (leb 4 (l .held)) b sb leaves d frees e se settles t p is iss in
           stepped (release-change k f v t) 0 0 (settle r (free-lock k (left (leb 4 (l .held)) k f v t))) e se
-          (ap (λ (x : Bool). done 0 0 (settle r (free-lock k (left x k f v t)))) (strong-is t p is)) (h .0) (h .1);
+          (ap (λ (x : Bool). accepted-step 0 0 (settle r (free-lock k (left x k f v t)))) (strong-is t p is)) (h .0) (h .1);
     }
 
 pub ruleset release-laws = (needs, release-sized, release-low, release-high, release-valued, release-locked, release-made)

@@ -13,12 +13,13 @@ use Rattle.tables.specs.State.{Tables, lock, granted, converting, waiting, hold
 use Rattle.tables.specs.Layout.{words, slots, locks-in, read-lock}
 use Rattle.tables.proofs.Cases.{by-cases, or-right}
 use Rattle.tables.proofs.SlotChanges.{slots-move}
-use Rattle.tables.proofs.Valid.{used, Place, LockOk, ok-at, used-within, resources-length, Fits, core-move}
+use Rattle.tables.specs.Validity.{used, Place, LockOk}
+use Rattle.tables.proofs.Valid.{ok-at, used-within, resources-length, Fits, core-move}
 use Rattle.tables.proofs.ChainMembers.{state-within}
 use Rattle.table_fields.specs.Sizes.{Sized}
 use Rattle.rules.specs.Queues.{sweep, free-lock}
-use Rattle.rules.specs.Calls.{restored, done, cancel-change}
-use Rattle.rules.proofs.AcceptedCalls.{Cancellable}
+use Rattle.rules.specs.Calls.{restored, accepted-step, cancel-change}
+use Rattle.rules.specs.Accepted.{Cancellable}
 use Rattle.table_chains.specs.Contracts.{Some, Turns, Movable, Moving, Moved, Resourced}
 use Rattle.queues.specs.Contracts.{Locked}
 use Rattle.queues.proofs.ResourceRecord.{slots-sweep, slots-free}
@@ -140,11 +141,11 @@ module _ (k : ℕ) (t : Tables) (p : Cancellable k t) where
   locked : Locked k t
   locked = record { core = p .valid .core; in-range = blocked-range }
 
-cancel-converts : (k : ℕ) (t : Tables) → converting (lock t k) ≡ true → cancel-change k t ≡ done 1 0 (restore k 0 t)
+cancel-converts : (k : ℕ) (t : Tables) → converting (lock t k) ≡ true → cancel-change k t ≡ accepted-step 1 0 (restore k 0 t)
 unfolding cancel-change restore
 cancel-converts k t h = rw (h, cancel-change)
 
-cancel-waits : (k : ℕ) (t : Tables) → converting (lock t k) ≡ false → cancel-change k t ≡ done 2 0 (sweep (lock t k .resource) (free-lock k t))
+cancel-waits : (k : ℕ) (t : Tables) → converting (lock t k) ≡ false → cancel-change k t ≡ accepted-step 2 0 (sweep (lock t k .resource) (free-lock k t))
 unfolding cancel-change
 cancel-waits k t h = rw (h, cancel-change)
 

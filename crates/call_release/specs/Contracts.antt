@@ -3,8 +3,8 @@ use mathlib.Core.Path.{_≡_}
 use mathlib.Core.Logic.{_≢_}
 use mathlib.Core.Bool.{true}
 use Prim.Native.Nat.{ℕ, _≤_}
-use Rattle.tables.specs.State.{Tables, lock, converting, move}
-use Rattle.tables.proofs.Valid.{Core}
+use Rattle.tables.specs.State.{Tables, lock, converting, move, completion-denied, completion-conversion-denied}
+use Rattle.tables.specs.Validity.{Core}
 use Rattle.rules.specs.Queues.{sweep}
 use Rattle.rules.specs.Calls.{restored}
 
@@ -12,8 +12,8 @@ use Rattle.rules.specs.Calls.{restored}
 pub record Restorable (k e : ℕ) (t : Tables) : Type 0 where
   pub core : Core t
   pub converts : converting (lock t k) ≡ true
-  pub notice : e ≤ 3
-  pub not-denied : e ≢ 2
+  pub notice : e ≤ completion-conversion-denied
+  pub not-denied : e ≢ completion-denied
 
 -- it is back on the grant queue at the mode it held, with that completion, and its resource is swept
 unfoldable pub restore : ℕ → ℕ → Tables → Tables

@@ -12,19 +12,19 @@ use Rattle.tables.specs.Layout.{of-header, words, slots, word-in}
 use Rattle.tables.proofs.Links.{next-here}
 use Rattle.tables.proofs.ReadBack.{word-read}
 use Rattle.tables.proofs.ChainMembers.{on-chain}
-use Rattle.tables.proofs.Valid.{used, ok-at}
+use Rattle.tables.specs.Validity.{used}
+use Rattle.tables.proofs.Valid.{ok-at}
 use Rattle.rules.specs.Queues.{find}
-use Rattle.rules.specs.Calls.{new-resource, resource-for, with-resource, request-on, request-change}
-use Rattle.rules.proofs.AcceptedCalls.{Requestable}
+use Rattle.rules.specs.Calls.{Said, new-resource, resource-for, with-resource, request-on, request-change}
+use Rattle.rules.specs.Accepted.{Requestable}
 use Rattle.rules.proofs.RequestKeepsSound.{found}
 use Rattle.rules.proofs.ResourceChanges.{lock-kept, used-changed}
 use Rattle.table_fields.specs.Sizes.{Sized}
 use Rattle.rules.proofs.RequestKeepsSound.{first-member}
 use Rattle.table_chains.specs.Contracts.{Some}
 use Rattle.table_chains.proofs.ChainCells.{sized-is}
-use Rattle.answers.specs.Answers.{Numbers}
 use Rattle.answers.specs.Contracts.{Makes, MakesWords}
-use Rattle.queues.specs.Contracts.{Lent}
+use Rattle.queues.specs.Contracts.{SomeTables}
 use Rattle.queues.proofs.StateAfter.{taken-core}
 use Rattle.call_request.specs.Contracts.{Nameable, Houses, Enters}
 use Rattle.call_request.proofs.NameResource.{takes-first}
@@ -77,10 +77,10 @@ module _ (c m : ℕ) (n : List ℕ) (t : Tables) (p : Requestable c m n t) where
           }
 
 module _ (c m : ℕ) (n a sa : List ℕ) where
-  pub request-sized : Lent (Requestable c m n) a sa → Sized a
+  pub request-sized : SomeTables (Requestable c m n) a sa → Sized a
   request-sized s = sized-is (s .state) a (s .is) (s .good .valid .core .resources-high) (s .good .valid .core .locks-high)
 
-  pub request-nameable : Lent (Requestable c m n) a sa → Lent (Nameable n) a sa
+  pub request-nameable : SomeTables (Requestable c m n) a sa → SomeTables (Nameable n) a sa
   request-nameable s = record { state = s .state; good = nameable c m n (s .state) (s .good); is = s .is; slots-are = s .slots-are }
 
   module _ (k : ℕ) (ek : k ≡ word-in a (of-header 3)) (b sb : List ℕ) (r : ℕ) (houses : Houses n a sa b sb r) where
@@ -94,7 +94,7 @@ module _ (c m : ℕ) (n a sa : List ℕ) where
       enters-at : Enters r k c m (with-resource (find n t) n t)
       enters-at = rw (housed .0, k-is) (enters c m n t p)
 
-    pub request-enters : Lent (Requestable c m n) a sa → Some (Enters r k c m) b
+    pub request-enters : SomeTables (Requestable c m n) a sa → Some (Enters r k c m) b
     request-enters s =
         record {
           state = with-resource (find n (s .state)) n (s .state);
@@ -102,7 +102,7 @@ module _ (c m : ℕ) (n a sa : List ℕ) where
           is = housed (s .state) (s .good) (s .is) (s .slots-are) .1;
         }
 
-    pub request-made : (d : List ℕ) (x : Numbers) → MakesWords (Enters r k c m) (request-on r k c m) b d x → Makes (Requestable c m n) (request-change c m n) a sa d sb x
+    pub request-made : (d : List ℕ) (x : Said) → MakesWords (Enters r k c m) (request-on r k c m) b d x → Makes (Requestable c m n) (request-change c m n) a sa d sb x
     unfolding request-change
     request-made d x h = record {
       then = λ t p is iss.

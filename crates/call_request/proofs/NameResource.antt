@@ -11,7 +11,7 @@ use Rattle.tables.specs.Layout.{of-header, words, slots, word-in}
 use Rattle.tables.proofs.Links.{next-here}
 use Rattle.tables.proofs.ReadBack.{word-read}
 use Rattle.tables.proofs.ChainMembers.{and-bit}
-use Rattle.tables.proofs.Valid.{used}
+use Rattle.tables.specs.Validity.{used}
 use Rattle.rules.specs.Queues.{find}
 use Rattle.rules.specs.Calls.{new-resource, resource-for, with-resource}
 use Rattle.rules.proofs.RequestKeepsSound.{first-member}
@@ -20,7 +20,7 @@ use Rattle.table_chains.specs.Contracts.{Changes}
 use Rattle.table_chains.proofs.ChainCells.{sized-is}
 use Rattle.table_names.specs.Names.{find-in}
 use Rattle.table_names.proofs.StateNames.{find-is}
-use Rattle.queues.specs.Contracts.{Lent, Takes}
+use Rattle.queues.specs.Contracts.{SomeTables, Takes}
 use Rattle.call_request.specs.Contracts.{Nameable, Houses}
 
 -- the header names the first free resource
@@ -47,7 +47,7 @@ unfolding resource-for with-resource
 new-resource-is x n t e = rw e (refl, refl)
 
 module _ (n a sa : List ℕ) where
-  pub house-sized : Lent (Nameable n) a sa → Sized a
+  pub house-sized : SomeTables (Nameable n) a sa → Sized a
   house-sized s = sized-is (s .state) a (s .is) (s .good .core .resources-high) (s .good .core .locks-high)
 
   module _ (x : ℕ) (ex : x ≡ find-in a sa n) where
@@ -66,7 +66,7 @@ module _ (n a sa : List ℕ) where
       takes-at : (t : Tables) → Nameable n t → a ≡ words t → sa ≡ slots t → Takes f n t
       takes-at t p is iss = rw (ef ∙ first-free t a is) (takes-first n t p (sym (found-at t p is iss) ∙ z))
 
-      pub house-takes : Lent (Nameable n) a sa → Lent (Takes f n) a sa
+      pub house-takes : SomeTables (Nameable n) a sa → SomeTables (Takes f n) a sa
       house-takes s = record { state = s .state; good = takes-at (s .state) (s .good) (s .is) (s .slots-are); is = s .is; slots-are = s .slots-are }
 
       pub house-new : (b sb : List ℕ) → Changes (Takes f n) (move-resource f (new-resource n)) a sa b sb → Houses n a sa b sb f

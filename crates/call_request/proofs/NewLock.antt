@@ -10,7 +10,8 @@ use Rattle.tables.specs.State.{Tables, lock, move}
 use Rattle.tables.specs.Layout.{slots}
 use Rattle.tables.specs.Grants.{admits}
 use Rattle.tables.proofs.SlotChanges.{slots-move}
-use Rattle.tables.proofs.Valid.{used, LockOk, used-within}
+use Rattle.tables.specs.Validity.{used, LockOk}
+use Rattle.tables.proofs.Valid.{used-within}
 use Rattle.rules.specs.Calls.{holding, queued, request-on}
 use Rattle.table_chains.specs.Contracts.{Some, Tells, Movable, Moving, Moved, Resourced}
 use Rattle.answers.proofs.Steps.{stepped}

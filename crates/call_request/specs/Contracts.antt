@@ -8,7 +8,7 @@ use lib.Dec.{eqb}
 use Rattle.tables.specs.Lists.{within, null}
 use Rattle.tables.specs.State.{Tables, name-width, no-lock, lock}
 use Rattle.tables.specs.Layout.{words, slots}
-use Rattle.tables.proofs.Valid.{used, Core}
+use Rattle.tables.specs.Validity.{used, Core}
 use Rattle.rules.specs.Queues.{find}
 use Rattle.rules.specs.Calls.{resource-for, with-resource}
 
@@ -19,12 +19,12 @@ pub record Nameable (n : List ℕ) (t : Tables) : Type 0 where
   pub short : length n ≤ name-width
   pub room : (not (eqb (find n t) 0) || not (null (t .free-resources))) ≡ true
 
--- the words and slots of such a state became those of the one in which a resource has the name n, and r is that resource
+-- the words and slots of such a state became those of the state in which the resource r has the name n
 pub record Houses (n a sa b sb : List ℕ) (r : ℕ) : Type 0 where
   pub then : (t : Tables) → Nameable n t → a ≡ words t → sa ≡ slots t →
       (r ≡ resource-for (find n t) t) × (b ≡ words (with-resource (find n t) n t)) × (sb ≡ slots (with-resource (find n t) n t))
 
--- the lock k, which is free, may become one of the client c on the resource r, which is in use, with the mode m
+-- the free lock k may become a lock of the client c with the mode m on the resource r, which is in use
 pub record Enters (r k c m : ℕ) (t : Tables) : Type 0 where
   pub core : Core t
   pub in-use : used t r ≡ true

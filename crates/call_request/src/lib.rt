@@ -1,20 +1,20 @@
-// A request's change, in place: it takes a lock, and where its name is new a resource, and is granted or waits.
+// A request's change, in place. It takes a lock, and if its name is new also a resource. Then it is granted or waits.
 use answers::Requested;
 use table_fields::header_word;
 use tables::Lock;
 ghost use mathlib.Core.Path.{_≡_};
 ghost use Rattle.rules.specs.Calls.{holding, queued, «request-on», «request-change»};
-ghost use Rattle.rules.proofs.AcceptedCalls.{Requestable};
+ghost use Rattle.rules.specs.Accepted.{Requestable};
 ghost use Rattle.table_chains.specs.Contracts.{Some};
 ghost use Rattle.table_names.specs.Names.{«find-in»};
-ghost use Rattle.queues.specs.Contracts.{Lent};
+ghost use Rattle.queues.specs.Contracts.{SomeTables};
 ghost use Rattle.answers.specs.Answers.{requested};
 ghost use Rattle.answers.specs.Contracts.{Makes, MakesWords};
 ghost use Rattle.call_request.specs.Contracts.{Nameable, Houses, Enters};
 
-// The resource of that name: `found`, which has it, or where that is 0 the first free one, which takes it.
+// The resource of that name: `found`, or if that is 0 the first free one, which takes the name.
 fn resource_for(words: &mut [u32], slots: &mut [u8], found: u32, name: &[u8]) -> u32
-    requires { ⌜ Lent (Nameable (now name)) (now words) (now slots) ⌝ }
+    requires { ⌜ SomeTables (Nameable (now name)) (now words) (now slots) ⌝ }
     requires { ⌜ found ≡ find-in (now words) (now slots) (now name) ⌝ }
     ensures { λ r. ⌜ Houses (now (name .entry)) (now (words .entry)) (now (slots .entry)) (now (words .exit)) (now (slots .exit)) r ⌝ }
 {
@@ -75,7 +75,7 @@ pub fn request_change(
     mode: u32,
     name: &[u8],
 ) -> Requested
-    requires { ⌜ Lent (Requestable client mode (now name)) (now words) (now slots) ⌝ }
+    requires { ⌜ SomeTables (Requestable client mode (now name)) (now words) (now slots) ⌝ }
     requires { ⌜ found ≡ find-in (now words) (now slots) (now name) ⌝ }
     ensures { λ r. ⌜ Makes (Requestable client mode (now (name .entry))) (request-change client mode (now (name .entry))) (now (words .entry)) (now (slots .entry)) (now (words .exit)) (now (slots .exit)) (requested r) ⌝ }
 {

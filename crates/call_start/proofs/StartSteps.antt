@@ -9,9 +9,9 @@ use borrow.Author.Needs.{needs}
 use borrow.Author.Tests.{not-true, not-false, leb-true, eqb-true}
 use Rattle.tables.specs.Layout.{header-width, resource-width, lock-width, size, slot-width}
 use Rattle.tables.proofs.Cases.{parts}
-use Rattle.rules.specs.Entries.{start-accepts, start-if, start-entry}
+use Rattle.rules.specs.Entries.{lent, outcome, start-accepts, start-if, start-entry}
 use Rattle.answers.specs.declared.Done.the-variants.{Accepted, Refused}
-use Rattle.answers.specs.Answers.{done, outcome}
+use Rattle.answers.specs.Answers.{done}
 use Rattle.call_start.specs.Fresh.{Sizes, headed, linked-up, fresh-words}
 use Rattle.call_start.proofs.StartedWords.{started-words, started-slots}
 
@@ -26,7 +26,7 @@ pub ruleset fresh-laws = (needs, fresh-end)
 
 -- `start`
 module _ (ws ss : List ℕ) (r l : ℕ) (x : Bool) (tested : x ≡ start-accepts ws ss r l) where
-  pub start-refused : not x ≡ true → outcome (done (Refused 2)) ws ss ≡ start-entry ws ss r l
+  pub start-refused : not x ≡ true → outcome (done (Refused 2)) (lent ws ss) ≡ start-entry (lent ws ss) r l
   unfolding start-entry start-if
   start-refused q = let e : start-accepts ws ss r l ≡ false = sym tested ∙ not-true x q in rw e
 
@@ -50,7 +50,7 @@ module _ (ws ss : List ℕ) (r l : ℕ) (x : Bool) (tested : x ≡ start-accepts
     unfolding start-accepts
     slots-long = let h = accepts in eqb-true (length ss) (slot-width * r) (search parts depth 20)
 
-    pub start-accepted : (vs zs : List ℕ) → vs ≡ fresh-words r l → zs ≡ replicate (length ss) 0 → outcome (done Accepted) vs zs ≡ start-entry ws ss r l
+    pub start-accepted : (vs zs : List ℕ) → vs ≡ fresh-words r l → zs ≡ replicate (length ss) 0 → outcome (done Accepted) (lent vs zs) ≡ start-entry (lent ws ss) r l
     unfolding start-entry start-if
     start-accepted vs zs e f = rw (accepts, e, f, slots-long, ← (started-slots r l))
 

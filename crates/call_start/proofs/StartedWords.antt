@@ -12,7 +12,8 @@ use Rattle.tables.specs.Layout.{header-width, resource-width, lock-width, Addre
 use Rattle.tables.proofs.Cases.{by-equal}
 use Rattle.tables.proofs.Blocks.{flat-map-same}
 use Rattle.tables.proofs.Links.{next-here, next-past, next-last}
-use Rattle.tables.proofs.Grid.{Within, is-written}
+use Rattle.tables.specs.Threads.{Within}
+use Rattle.tables.proofs.Grid.{is-written}
 use Rattle.table_names.specs.Contracts.{blank}
 use Rattle.table_names.proofs.SlotStores.{blank-slot}
 use Rattle.call_start.specs.Fresh.{headed, linked-up, fresh-words}

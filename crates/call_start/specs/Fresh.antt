@@ -1,4 +1,4 @@
--- Fresh words, as the code makes them of zeros: a header, and in each free record the number of the next one.
+-- Fresh words, as the code makes them from zeros: a header, and in each free record the number of the next one.
 use mathlib.Core.Path.{_≡_}
 use mathlib.Core.List.{List}
 use Prim.Native.Nat.{ℕ, zero, suc, _+_, _*_, _≤_}
@@ -6,7 +6,7 @@ use lib.ListN.{length, set}
 use Rattle.tables.specs.State.{started}
 use Rattle.tables.specs.Layout.{size, words}
 
--- what start has found right: the numbers of records, and that the words are as long as they say
+-- what start has checked: the numbers of records are in range, and the words have the length for them
 pub record Sizes (r l : ℕ) (ws : List ℕ) : Type 0 where
   pub some-resource : 1 ≤ r
   pub few-resources : r ≤ 256

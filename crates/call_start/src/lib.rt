@@ -1,4 +1,4 @@
-// Fresh tables, whatever the lent ones hold before: all records free, chained upward.
+// Fresh tables, whatever the lent ones held before: all records free, chained upward.
 use table_fields::FREE_LOCKS;
 use table_fields::FREE_RESOURCES;
 use table_fields::HEADER_WORDS;
@@ -18,7 +18,7 @@ ghost use Rattle.tables.specs.Layout.{«header-width»};
 ghost use Rattle.rules.specs.Entries.{«start-accepts»};
 ghost use Rattle.call_start.specs.Fresh.{Sizes, Links, headed, «linked-up», «fresh-words»};
 
-// There are to be 1 to 256 resources and 1 to 1024 locks, and the tables are as long as these say.
+// The numbers are 1 to 256 resources and 1 to 1024 locks, and the lent tables have the lengths for them.
 pub fn sizes_right(words: &[u32], slots: &[u8], resources: u32, locks: u32) -> bool
     ensures { λ x. ⌜ x ≡ start-accepts (now (words .entry)) (now (slots .entry)) resources locks ⌝ }
 {
@@ -43,7 +43,7 @@ fn clear_words(words: &mut [u32])
     }
 }
 
-// How many records there are, and record 1 as the first free one of both kinds.
+// Writes how many records there are, and record 1 as the first free one of both kinds.
 fn put_header(words: &mut [u32], resources: u32, locks: u32)
     requires { ⌜ header-width ≤ length (now words) ⌝ }
     ensures { λ _. ⌜ now (words .exit) ≡ headed resources locks (now (words .entry)) ⌝ }
@@ -54,8 +54,8 @@ fn put_header(words: &mut [u32], resources: u32, locks: u32)
     words[FREE_LOCKS] = 1;
 }
 
-// Of n records each names the next, but the last one, whose link stays as it is. The link of record 1 stands at first,
-// the others width words apart.
+// Each of n records gets the next one's number as its link; the link of the last one stays as it is. The link of record
+// 1 stands at `first`, the others follow `width` words apart.
 fn chain_up(words: &mut [u32], first: usize, width: usize, n: u32)
     requires { ⌜ Links first width n (now words) ⌝ }
     ensures { λ _. ⌜ now (words .exit) ≡ linked-up first width (n - 1) (now (words .entry)) ⌝ }

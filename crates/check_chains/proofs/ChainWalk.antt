@@ -7,7 +7,7 @@ use native.Mathlib.Omega.{arith}
 use borrow.Author.Needs.{needs}
 use borrow.Author.Tests.{not-true, not-false, le-leb, lt-leb}
 use Rattle.check_laws.specs.Check.{steps}
-use Rattle.check_chains.specs.Walks.{guarded, left}
+use Rattle.check_chains.specs.Walks.{guarded, steps-left}
 
 pub steps-zero : (link : ℕ → ℕ) (t : ℕ → Bool) (n : ℕ) → steps link t n 0 ≡ 0
 unfolding steps
@@ -26,12 +26,12 @@ module _ (link : ℕ → ℕ) (q : ℕ → Bool) where
   steps-suc t n zero e = absurd (e refl)
   steps-suc t n (suc k) e = refl
 
-  pub walk-end : (n : ℕ) {m k whole : ℕ} → whole ≡ left link q n m k → k ≡ 0 → m ≡ whole
-  unfolding left
+  pub walk-end : (n : ℕ) {m k whole : ℕ} → whole ≡ steps-left link q n m k → k ≡ 0 → m ≡ whole
+  unfolding steps-left
   walk-end n {m} {k} {whole} i e = let w : whole ≡ m + 0 = i ∙ rw (e, steps-zero link (guarded n q) (n - m)) in omega arith
 
-  pub walk-long : {n m k whole : ℕ} → whole ≡ left link q n m k → m ≤ n → (k ≡ 0 → ⊥) → n ≤ m → n + 1 ≡ whole
-  unfolding left
+  pub walk-long : {n m k whole : ℕ} → whole ≡ steps-left link q n m k → m ≤ n → (k ≡ 0 → ⊥) → n ≤ m → n + 1 ≡ whole
+  unfolding steps-left
   walk-long {n} {m} {k} {whole} i l e h =
       let z : n - m ≡ 0 = omega arith in
       let w : whole ≡ m + 1 = i ∙ rw (z, steps-none (guarded n q) k e) in
@@ -40,22 +40,22 @@ module _ (link : ℕ → ℕ) (q : ℕ → Bool) where
   steps-at : (n m k : ℕ) → (k ≡ 0 → ⊥) → m < n → steps link (guarded n q) (n - m) k ≡ cond (guarded n q k) (suc (steps link (guarded n q) (n - (m + 1)) (link k))) (suc (suc (n - (m + 1))))
   steps-at n m k e h = let z : n - m ≡ suc (n - (m + 1)) = omega arith in rw (z, steps-suc (guarded n q) (n - (m + 1)) k e)
 
-  walk-fail : (n m : ℕ) {k whole : ℕ} → m < n → whole ≡ left link q n m k → (k ≡ 0 → ⊥) → guarded n q k ≡ false → n + 1 ≡ whole
-  unfolding left
+  walk-fail : (n m : ℕ) {k whole : ℕ} → m < n → whole ≡ steps-left link q n m k → (k ≡ 0 → ⊥) → guarded n q k ≡ false → n + 1 ≡ whole
+  unfolding steps-left
   walk-fail n m {k} {whole} h i e f =
       let w : whole ≡ m + suc (suc (n - (m + 1))) = i ∙ rw (steps-at n m k e h, f) in
       omega arith
 
-  pub walk-off : {n m k whole : ℕ} → whole ≡ left link q n m k → (k ≡ 0 → ⊥) → m < n → n < k → n + 1 ≡ whole
+  pub walk-off : {n m k whole : ℕ} → whole ≡ steps-left link q n m k → (k ≡ 0 → ⊥) → m < n → n < k → n + 1 ≡ whole
   unfolding guarded
   walk-off {n} {m} {k} i e h o = walk-fail n m h i e (rw (lt-leb k n o))
 
-  pub walk-other : {n m k whole : ℕ} {r : Bool} → whole ≡ left link q n m k → (k ≡ 0 → ⊥) → m < n → k ≤ n → r ≡ q k → not r ≡ true → n + 1 ≡ whole
+  pub walk-other : {n m k whole : ℕ} {r : Bool} → whole ≡ steps-left link q n m k → (k ≡ 0 → ⊥) → m < n → k ≤ n → r ≡ q k → not r ≡ true → n + 1 ≡ whole
   unfolding guarded
   walk-other {n} {m} {k} {r = r} i e h o t f = walk-fail n m h i e (rw (le-leb k n o, ← t, not-true r f))
 
-  pub walk-on : {n m k x whole : ℕ} {r : Bool} → whole ≡ left link q n m k → (k ≡ 0 → ⊥) → m < n → k ≤ n → r ≡ q k → not r ≡ false → x ≡ link k → whole ≡ left link q n (m + 1) x
-  unfolding left guarded
+  pub walk-on : {n m k x whole : ℕ} {r : Bool} → whole ≡ steps-left link q n m k → (k ≡ 0 → ⊥) → m < n → k ≤ n → r ≡ q k → not r ≡ false → x ≡ link k → whole ≡ steps-left link q n (m + 1) x
+  unfolding steps-left guarded
   walk-on {n} {m} {k} {x} {whole} {r} i e h o t f g =
       let w : whole ≡ m + suc (steps link (guarded n q) (n - (m + 1)) x) = i ∙ rw (steps-at n m k e h, le-leb k n o, ← t, not-false r f, g) in
       omega arith
@@ -68,8 +68,8 @@ steps-alike link s t e zero (suc k) = refl
 steps-alike link s t e (suc n) zero = refl
 steps-alike link s t e (suc n) (suc k) = rw (e (suc k), steps-alike link s t e n (link (suc k)))
 
-pub walk-start : (link : ℕ → ℕ) (s q : ℕ → Bool) (n k : ℕ) → ((k : ℕ) → s k ≡ guarded n q k) → steps link s n k ≡ left link q n 0 k
-unfolding left
+pub walk-start : (link : ℕ → ℕ) (s q : ℕ → Bool) (n k : ℕ) → ((k : ℕ) → s k ≡ guarded n q k) → steps link s n k ≡ steps-left link q n 0 k
+unfolding steps-left
 walk-start link s q n k e = rw (sub-zero n, steps-alike link s (guarded n q) e n k) (omega arith)
 
 pub ruleset walk-loop = (needs, walk-end, walk-long, walk-off, walk-other, walk-on)

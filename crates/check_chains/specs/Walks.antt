@@ -20,6 +20,6 @@ noticed-met ws = steps (λ k. word-in ws (of-lock k 2)) (notice-on ws) (locks-in
 unfoldable pub guarded : ℕ → (ℕ → Bool) → ℕ → Bool
 guarded n q k = leb k n && q k
 
--- what is met on a chain, and what is left of it from k on: in all at most n, each of which passes
-unfoldable pub left : (ℕ → ℕ) → (ℕ → Bool) → ℕ → ℕ → ℕ → ℕ
-left link q n met k = met + steps link (guarded n q) (n - met) k
+-- the records that were met on a chain and those that are left of it from k on: together at most n, each of which passes
+unfoldable pub steps-left : (ℕ → ℕ) → (ℕ → Bool) → ℕ → ℕ → ℕ → ℕ
+steps-left link q n met k = met + steps link (guarded n q) (n - met) k

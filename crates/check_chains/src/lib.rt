@@ -1,8 +1,8 @@
-// The chains of whatever tables are lent: how many records each has. A walk counts its steps, so that it ends; along a home
-// chain it looks at each lock.
-// A run is records whose successor is the next number, as in fresh tables. A walk has an inner loop for it: there the next
-// record's place is known before the link is read, so the processor need not wait for the link. It stands in the same
-// function: a call for each run was measured to be slower on full tables, where runs are short.
+// How many records each chain has, in whatever tables are lent. A walk counts its steps, so that it ends. Along a home
+// chain it also tests each lock.
+// In a run of records the successor of each is the next number, as in fresh tables. A walk has an inner loop for runs:
+// the next record's place is then known before the link is read, so the processor need not wait for the link. The inner
+// loop stands in the same function: a call for each run was measured to be slower on full tables, where runs are short.
 use check_locks::stands_denied;
 use check_locks::stands_free;
 use check_resources::in_use;
@@ -18,14 +18,14 @@ use table_fields::NOTICES;
 use table_fields::RESOURCE_NEXT;
 use table_fields::RESOURCES;
 use table_fields::is_blocked;
-use table_fields::is_told;
+use table_fields::is_noticed;
 use table_fields::lock_at;
 use table_fields::lock_word;
 use table_fields::resource_word;
 ghost use mathlib.Core.Path.{_≡_};
 ghost use mathlib.Core.Bool.{true, not};
 ghost use Prim.Native.Nat.{_+_, _≤_};
-ghost use Rattle.tables.specs.State.{«blocked-lock», told};
+ghost use Rattle.tables.specs.State.{«blocked-lock», noticed, «state-free», «state-denied»};
 ghost use Rattle.tables.specs.Layout.{«of-header», «of-resource», «resources-in», «locks-in», «word-in», «read-lock»};
 ghost use Rattle.table_fields.specs.Sizes.{Sized};
 ghost use Rattle.table_names.specs.Names.{named};
@@ -51,16 +51,16 @@ fn blocked(words: &[u32], k: u32) -> bool
     is_blocked(lock_at(words, k))
 }
 
-// Its completion is unread.
+// It belongs on the notice chain.
 fn noticed(words: &[u32], k: u32) -> bool
     requires { ⌜ Sized (now words) ⌝ }
     requires { ⌜ (1 ≤ k) × (k ≤ locks-in (now words)) ⌝ }
-    ensures { λ x. ⌜ x ≡ told (read-lock (now (words .entry)) k) ⌝ }
+    ensures { λ x. ⌜ x ≡ noticed (read-lock (now (words .entry)) k) ⌝ }
 {
-    is_told(lock_at(words, k))
+    is_noticed(lock_at(words, k))
 }
 
-// How many resources the free chain has; one more than there are if it does not end, or has another.
+// How many resources the free chain has; one more than there are if it does not end, or has a resource in use.
 fn free_met(words: &[u32]) -> u32
     requires { ⌜ Sized (now words) ⌝ }
     ensures { λ x. ⌜ x ≡ free-met (now (words .entry)) ⌝ }
@@ -92,7 +92,7 @@ fn free_met(words: &[u32]) -> u32
     met
 }
 
-// How many locks the blocked chain has; one more than there are if it does not end, or has another.
+// How many locks the blocked chain has; one more than there are if it does not end, or has a lock that is not blocked.
 fn blocked_met(words: &[u32]) -> u32
     requires { ⌜ Sized (now words) ⌝ }
     ensures { λ x. ⌜ x ≡ blocked-met (now (words .entry)) ⌝ }
@@ -124,7 +124,8 @@ fn blocked_met(words: &[u32]) -> u32
     met
 }
 
-// How many locks the notice chain has; one more than there are if it does not end, or has another.
+// How many locks the notice chain has; one more than there are if it does not end, or has a lock that does not belong
+// there.
 fn noticed_met(words: &[u32]) -> u32
     requires { ⌜ Sized (now words) ⌝ }
     ensures { λ x. ⌜ x ≡ noticed-met (now (words .entry)) ⌝ }
@@ -156,11 +157,11 @@ fn noticed_met(words: &[u32]) -> u32
     met
 }
 
-// How many locks the chain of free locks has; one more than there are if it does not end, or has one that does not stand
-// there rightly.
+// How many locks the chain of free locks has; one more than there are if it does not end, or has a lock that does not
+// belong there.
 pub fn free_locks_met(words: &[u32]) -> u32
     requires { ⌜ Sized (now words) ⌝ }
-    ensures { λ x. ⌜ (x ≡ home-steps (now (words .entry)) 0 0 (word-in (now (words .entry)) (of-header 3))) × (x ≤ locks-in (now (words .entry)) + 1) ⌝ }
+    ensures { λ x. ⌜ (x ≡ home-steps (now (words .entry)) state-free 0 (word-in (now (words .entry)) (of-header 3))) × (x ≤ locks-in (now (words .entry)) + 1) ⌝ }
 {
     let n = words[LOCKS];
     let mut k = words[FREE_LOCKS];
@@ -192,7 +193,7 @@ pub fn free_locks_met(words: &[u32]) -> u32
 // The same of the chain of denied locks.
 pub fn denied_met(words: &[u32]) -> u32
     requires { ⌜ Sized (now words) ⌝ }
-    ensures { λ x. ⌜ (x ≡ home-steps (now (words .entry)) 4 0 (word-in (now (words .entry)) (of-header 4))) × (x ≤ locks-in (now (words .entry)) + 1) ⌝ }
+    ensures { λ x. ⌜ (x ≡ home-steps (now (words .entry)) state-denied 0 (word-in (now (words .entry)) (of-header 4))) × (x ≤ locks-in (now (words .entry)) + 1) ⌝ }
 {
     let n = words[LOCKS];
     let mut k = words[DENIED];

@@ -16,7 +16,7 @@ use Rattle.tables.specs.Grants.{holders, fits, convert-grantable, admits, wait-
 use Rattle.tables.specs.Sound.{holders-compatible}
 use Rattle.tables.proofs.Cases.{by-equal, eqb-same, and-left, and-right, or-left, or-right, parts}
 use Rattle.tables.proofs.Counts.{count-same, count-step, count-append, all-at, all-intro, all-cong, by-append}
-use Rattle.tables.proofs.Links.{Each}
+use Rattle.tables.specs.Threads.{Each}
 use Rattle.tables.proofs.ReadState.{resource-of, lock-of}
 use Rattle.check_laws.specs.Check.{lock-fine, stands, home-on, heads-wait}
 use Rattle.check_laws.proofs.ChainSteps.{follow-zero, follow-step, once, member}

@@ -11,7 +11,7 @@ use Rattle.modes.proofs.Laws.{compatible-sym, fits-with, with-mode-small}
 use Rattle.tables.specs.Lists.{count, all}
 use Rattle.tables.proofs.Cases.{by-equal, and-left, and-right, and-intro, parts}
 use Rattle.tables.proofs.Counts.{count-nil, count-same, count-other, count-step, all-at, all-intro}
-use Rattle.tables.proofs.Links.{Each}
+use Rattle.tables.specs.Threads.{Each}
 
 -- TESTS that say the same
 pub same-truth : (a b : Bool) → (a ≡ true → b ≡ true) → (b ≡ true → a ≡ true) → a ≡ b

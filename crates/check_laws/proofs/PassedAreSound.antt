@@ -8,12 +8,12 @@ use lib.ListN.{length}
 use lib.Dec.{eqb, leb}
 use borrow.Author.Tests.{not-true, eqb-true, eq-eqb, leb-true, le-leb}
 use Rattle.tables.specs.Lists.{count, bit, all, from}
-use Rattle.tables.specs.State.{resource, blocked-lock, told, Queue, grants, converts, waits, LockChain, free-locks, denied, blocked, notices, queue, free-resources, of-locks, chain, belongs}
+use Rattle.tables.specs.State.{resource, blocked-lock, noticed, Queue, grants, converts, waits, LockChain, free-locks, denied, blocked, notices, queue, free-resources, of-locks, chain, belongs}
 use Rattle.tables.specs.Layout.{of-header, of-resource, of-lock, slot-width, resources-in, locks-in, word-in, link-in, read-chain, read-lock, read}
 use Rattle.tables.specs.Grants.{no-grantable-head}
 use Rattle.tables.specs.Sound.{sizes-right, zeros-right, resource-index, lock-index, indices-right, chain-ends, chains-end, resource-right, stands-right, home-right, fields-right, lock-right, linked-right, holders-compatible, state-right, sound}
 use Rattle.tables.proofs.Cases.{by-cases, eqb-same, and-left, and-right, and-intro, parts}
-use Rattle.tables.proofs.Valid.{used, Place, StateOk}
+use Rattle.tables.specs.Validity.{used, Place, StateOk}
 use Rattle.tables.proofs.ReadState.{resources-read, lock-of}
 use Rattle.tables.proofs.Conditions.{each-at, each-intro}
 use Rattle.tables.proofs.Fields.{fields-are}
@@ -49,9 +49,9 @@ module _ (ws ss : List ℕ) (h : check ws ss ≡ true) where
   unfolding check
   blocked-are = blocked-side ws (search parts depth 20)
 
-  noticed : Noticed ws
+  noticed-are : Noticed ws
   unfolding check
-  noticed = notice-side ws (search parts depth 20)
+  noticed-are = notice-side ws (search parts depth 20)
 
   some : 1 ≤ locks-in ws
   unfolding sizes-right
@@ -91,11 +91,11 @@ module _ (ws ss : List ℕ) (h : check ws ss ≡ true) where
         let either : (blocked-lock (read-lock ws k) || eqb (word-in ws (of-lock k 1)) 0) ≡ true = search parts depth 20 in
         eqb-true (word-in ws (of-lock k 1)) 0 (rw b at either)
 
-    off-notices : told (read-lock ws k) ≡ false → word-in ws (of-lock k 2) ≡ 0
+    off-notices : noticed (read-lock ws k) ≡ false → word-in ws (of-lock k 2) ≡ 0
     unfolding lock-fine links-fine
     off-notices b =
         let z = fine in
-        let either : (told (read-lock ws k) || eqb (word-in ws (of-lock k 2)) 0) ≡ true = search parts depth 20 in
+        let either : (noticed (read-lock ws k) || eqb (word-in ws (of-lock k 2)) 0) ≡ true = search parts depth 20 in
         eqb-true (word-in ws (of-lock k 2)) 0 (rw b at either)
 
   modes : ModesLow ws
@@ -159,8 +159,8 @@ module _ (ws ss : List ℕ) (h : check ws ss ≡ true) where
   notice-link : (k : ℕ) → 1 ≤ k → k ≤ locks-in ws → word-in ws (of-lock k 2) ≤ locks-in ws
   notice-link zero p q = absurd (omega arith)
   notice-link (suc k) p q =
-      by-cases (told (read-lock ws (suc k)))
-      (λ b. side-link (link-in ws (of-locks notices)) _ (locks-in ws) _ noticed (suc k) p q b)
+      by-cases (noticed (read-lock ws (suc k)))
+      (λ b. side-link (link-in ws (of-locks notices)) _ (locks-in ws) _ noticed-are (suc k) p q b)
       (λ b. omega (arith, off-notices (suc k) p q b))
 
   resource-field : (k : ℕ) → 1 ≤ k → k ≤ locks-in ws → word-in ws (of-lock k 3) ≤ resources-in ws
@@ -179,7 +179,7 @@ module _ (ws ss : List ℕ) (h : check ws ss ≡ true) where
       (le-leb (word-in ws (of-header 2)) (resources-in ws) (side-first (link-in ws free-resources) _ (resources-in ws) (word-in ws (of-header 2)) spare))
       (four (word-in ws (of-header 3)) (word-in ws (of-header 4)) (word-in ws (of-header 5)) (word-in ws (of-header 6)) free-first denied-first
       (side-first (link-in ws (of-locks blocked)) _ (locks-in ws) (word-in ws (of-header 5)) blocked-are)
-      (side-first (link-in ws (of-locks notices)) _ (locks-in ws) (word-in ws (of-header 6)) noticed)))
+      (side-first (link-in ws (of-locks notices)) _ (locks-in ws) (word-in ws (of-header 6)) noticed-are)))
       (each-intro (λ r. leb (word-in ws (of-resource r 0)) (resources-in ws) && all (λ f. leb (word-in ws (of-resource r f)) (locks-in ws)) (1 ∷ 2 ∷ 3 ∷ [])) (resources-in ws)
       (λ r p q. and-intro (leb (word-in ws (of-resource r 0)) (resources-in ws)) _ (le-leb _ _ (resource-link r p q))
       (three (word-in ws (of-resource r 1)) (word-in ws (of-resource r 2)) (word-in ws (of-resource r 3)) (head-low r p q grants) (head-low r p q converts) (head-low r p q waits)))))
@@ -201,7 +201,7 @@ module _ (ws ss : List ℕ) (h : check ws ss ≡ true) where
       let b = met .0 .free .ended in
       let c = met .0 .denied .ended in
       let d = blocked-are .ended in
-      let e = noticed .ended in
+      let e = noticed-are .ended in
       and-intro _ _ (and-intro _ _ (and-intro _ _ (and-intro _ _ (and-intro _ _ a b) c) d) e)
       (each-intro (λ r. chain-ends ws (of-locks (queue r grants)) && chain-ends ws (of-locks (queue r converts)) && chain-ends ws (of-locks (queue r waits))) (resources-in ws)
       (λ r p q. let w = met .0 .walked r p q in and-intro _ _ (and-intro _ _ (w .granted .ended) (w .converting .ended)) (w .waiting .ended)))
@@ -242,8 +242,8 @@ module _ (ws ss : List ℕ) (h : check ws ss ≡ true) where
       and-intro _ _
       (and-intro _ _ (stands-by (suc k) p q blocked _ refl (unfold read read-chain in blocked-are .counts (suc k) p q))
       (rw (lock-of ws ss (suc k) p q) (by-cases (blocked-lock (read-lock ws (suc k))) (λ b. rw b) (λ b. rw (b, off-blocked (suc k) p q b)))))
-      (and-intro _ _ (stands-by (suc k) p q notices _ refl (unfold read read-chain in noticed .counts (suc k) p q))
-      (rw (lock-of ws ss (suc k) p q) (by-cases (told (read-lock ws (suc k))) (λ b. rw b) (λ b. rw (b, off-notices (suc k) p q b)))))
+      (and-intro _ _ (stands-by (suc k) p q notices _ refl (unfold read read-chain in noticed-are .counts (suc k) p q))
+      (rw (lock-of ws ss (suc k) p q) (by-cases (noticed (read-lock ws (suc k))) (λ b. rw b) (λ b. rw (b, off-notices (suc k) p q b)))))
 
   -- 5. MODES AND HEADS
   modes-are : (r : ℕ) → 1 ≤ r → r ≤ resources-in ws → (holders-compatible (read ws ss) r && no-grantable-head (read ws ss) r) ≡ true

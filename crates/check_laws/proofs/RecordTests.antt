@@ -15,7 +15,8 @@ use Rattle.tables.specs.Grants.{empty}
 use Rattle.tables.specs.Sound.{free-resource-right, name-unique, used-resource-right, resource-right, on-resource, fields-right}
 use Rattle.tables.proofs.Cases.{by-cases, by-equal, clash, and-left, and-right, and-intro, or-left, or-right, parts}
 use Rattle.tables.proofs.Counts.{within-le, le-within, all-at, all-intro, from-has, from-below, from-above, same-refl, same-eq}
-use Rattle.tables.proofs.Valid.{used, StateOk, absent, used-within}
+use Rattle.tables.specs.Validity.{used, StateOk}
+use Rattle.tables.proofs.Valid.{absent, used-within}
 use Rattle.tables.proofs.ReadState.{resources-read, resource-of, slot-in-length}
 use Rattle.tables.proofs.Conditions.{each-at, each-intro}
 use Rattle.table_names.specs.Names.{named, slot-fine, name-in, apart, apart-after, names-differ}

@@ -13,7 +13,7 @@ use Rattle.tables.specs.State.{Queue, grants, converts, waits, queue, of-locks}
 use Rattle.tables.specs.Layout.{of-resource, of-lock, queue-head, locks-in, word-in, link-in, follow, read-lock}
 use Rattle.tables.specs.Sound.{ends}
 use Rattle.tables.proofs.Cases.{by-cases, clash, and-left, and-right, and-intro}
-use Rattle.check_laws.specs.Check.{home-on, home-steps, Held, held-steps, grant-walk, tail-steps, convert-from, convert-walk, heads-wait, wait-part, convert-part, resource-walk}
+use Rattle.check_laws.specs.Check.{home-on, home-steps, HolderCount, held-steps, grant-walk, tail-steps, convert-from, convert-walk, heads-wait, wait-part, convert-part, resource-walk}
 use Rattle.check_laws.proofs.ChainSteps.{Passed, follow-zero, follow-step, ends-zero, ends-step, steps-passed, passed-steps, follow-short}
 use Rattle.check_laws.proofs.HeldModes.{gather, fitting, beside}
 
@@ -124,7 +124,7 @@ module _ (ws : List ℕ) (some : 1 ≤ locks-in ws) (r : ℕ) where
   grant-is p f = passed-held ws r grants 1 (locks-in ws) (head-of ws r grants) 0 p f
 
   module _ (set : ℕ) where
-    abbrev convert-at : ℕ → Held
+    abbrev convert-at : ℕ → HolderCount
     convert-at c = cond (eqb c 0) (record { met = 0; modes = set }) (convert-from ws r c set)
 
     met-at : (c : ℕ) → convert-at c .met ≤ locks-in ws → Passed (link-of ws r converts) (home-on ws 2 r) (locks-in ws) c × (convert-fit (held-in ws) set (follow (link-of ws r converts) (locks-in ws) c) ≡ true)

@@ -9,7 +9,7 @@ use lib.Dec.{eqb, leb}
 use borrow.Author.Tests.{eq-eqb, eqb-true}
 use Rattle.tables.specs.declared.Lock.{Lock}
 use Rattle.tables.specs.Lists.{count, from, keep}
-use Rattle.tables.specs.State.{blocked-lock, told, Queue, grants, converts, waits}
+use Rattle.tables.specs.State.{blocked-lock, noticed, Queue, grants, converts, waits}
 use Rattle.tables.specs.Layout.{of-header, of-lock, queue-head, flat-map, resources-in, locks-in, word-in, read-lock}
 use Rattle.tables.specs.Sound.{client-right, modes-right}
 use Rattle.tables.proofs.Cases.{by-cases, and-left, and-right, parts}
@@ -47,7 +47,7 @@ module _ (p : ℕ → Bool) where
       let ih = keep-rows f g rs (λ s m. h s (omega (arith, count-step s r rs))) in
       keep-both (f r) (flat-map f rs) ∙ (rw (a, ih))
 
--- A LOCK THAT IS FINE, by its state: whether its completion is unread
+-- A LOCK THAT IS FINE, by its state: whether it belongs on the notice chain
 alone : (b : Bool) → (b || false) ≡ true → b ≡ true
 alone true h = refl
 alone false h = h
@@ -146,10 +146,10 @@ module _ (ws : List ℕ) (some : 1 ≤ locks-in ws) (fine : homes-fine ws ≡ tr
         let c = keep-whole p (queue-in ws r waits) (λ k m. on-blocked ws 3 r k (on-queue waits k m)) in
         three-parts p ∙ (rw (a, b, c, queue-is ws r converts, queue-is ws r waits) (omega arith))
 
-    noticed-three : length (keep (λ k. told (read-lock ws k)) (three-in ws r)) ≡ noticed-at ws r
+    noticed-three : length (keep (λ k. noticed (read-lock ws k)) (three-in ws r)) ≡ noticed-at ws r
     unfolding noticed-at
     noticed-three =
-        let p : ℕ → Bool = λ k. told (read-lock ws k) in
+        let p : ℕ → Bool = λ k. noticed (read-lock ws k) in
         let b : length (keep p (queue-in ws r converts)) ≡ 0 = keep-none p (queue-in ws r converts) (λ k m. let h = on-queue converts k m in silent (read-lock ws k .completion) (converting-silent _ (read-lock ws k) (fields ws 2 r k h) (home-state ws 2 r k h))) in
         let c : length (keep p (queue-in ws r waits)) ≡ 0 = keep-none p (queue-in ws r waits) (λ k m. let h = on-queue waits k m in silent (read-lock ws k .completion) (waiting-silent _ (read-lock ws k) (fields ws 3 r k h) (home-state ws 3 r k h))) in
         three-parts p ∙ (rw (b, c, queue-is ws r grants) (omega arith))
@@ -161,9 +161,9 @@ module _ (ws : List ℕ) (some : 1 ≤ locks-in ws) (fine : homes-fine ws ≡ tr
       let b = keep-none p (denied-in ws) (λ k m. on-blocked ws 4 0 k (denied-member k m)) in
       omega (arith, parted p (blocked-at ws) blocked-three, a, b)
 
-  pub noticed-counted : home-steps ws 4 0 (word-in ws (of-header 4)) + sum-over (noticed-at ws) (from 1 (resources-in ws)) ≡ length (keep (λ k. told (read-lock ws k)) (from 1 (locks-in ws)))
+  pub noticed-counted : home-steps ws 4 0 (word-in ws (of-header 4)) + sum-over (noticed-at ws) (from 1 (resources-in ws)) ≡ length (keep (λ k. noticed (read-lock ws k)) (from 1 (locks-in ws)))
   noticed-counted =
-      let p : ℕ → Bool = λ k. told (read-lock ws k) in
+      let p : ℕ → Bool = λ k. noticed (read-lock ws k) in
       let a : length (keep p (free-in ws)) ≡ 0 = keep-none p (free-in ws) (λ k m. let h = free-member k m in silent (read-lock ws k .completion) (free-silent _ (read-lock ws k) (fields ws 0 0 k h) (home-state ws 0 0 k h))) in
       let b : length (keep p (denied-in ws)) ≡ length (denied-in ws) = keep-whole p (denied-in ws) (λ k m. let h = denied-member k m in unread (read-lock ws k .completion) (denied-told _ (read-lock ws k) (fields ws 4 0 k h) (home-state ws 4 0 k h))) in
       omega (arith, parted p (noticed-at ws) noticed-three, a, b, denied-steps ws some (homes .denied))

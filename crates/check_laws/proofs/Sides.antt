@@ -8,7 +8,7 @@ use lib.ListN.{length}
 use lib.Dec.{eqb, leb}
 use borrow.Author.Tests.{eqb-true, eq-eqb, leb-true, le-leb}
 use Rattle.tables.specs.Lists.{within, count, bit, keep, from}
-use Rattle.tables.specs.State.{blocked-lock, told, blocked, notices, free-resources, of-locks}
+use Rattle.tables.specs.State.{blocked-lock, noticed, blocked, notices, free-resources, of-locks}
 use Rattle.tables.specs.Layout.{of-header, of-resource, of-lock, resources-in, locks-in, word-in, link-in, follow, read-lock}
 use Rattle.tables.specs.Sound.{ends}
 use Rattle.tables.proofs.Cases.{by-cases, by-equal, clash, and-left, and-right, and-intro}
@@ -111,12 +111,12 @@ module _ (ws : List ℕ) where
   side-blocked = side-steps (link-in ws (of-locks blocked)) (λ k. blocked-lock (read-lock ws k)) (locks-in ws) (word-in ws (of-header 5)) (λ k. word-in ws (of-lock k 1)) (λ k. refl)
 
   abbrev pub Noticed : Type 0
-  Noticed = Side (link-in ws (of-locks notices)) (λ k. told (read-lock ws k)) (locks-in ws) (word-in ws (of-header 6))
+  Noticed = Side (link-in ws (of-locks notices)) (λ k. noticed (read-lock ws k)) (locks-in ws) (word-in ws (of-header 6))
 
   pub notice-side : notices-fine ws ≡ true → Noticed
   unfolding notices-fine notice-on
-  notice-side = steps-side (link-in ws (of-locks notices)) (λ k. told (read-lock ws k)) (locks-in ws) (word-in ws (of-header 6)) (λ k. word-in ws (of-lock k 2)) (λ k. refl)
+  notice-side = steps-side (link-in ws (of-locks notices)) (λ k. noticed (read-lock ws k)) (locks-in ws) (word-in ws (of-header 6)) (λ k. word-in ws (of-lock k 2)) (λ k. refl)
 
   pub side-notice : Noticed → notices-fine ws ≡ true
   unfolding notices-fine notice-on
-  side-notice = side-steps (link-in ws (of-locks notices)) (λ k. told (read-lock ws k)) (locks-in ws) (word-in ws (of-header 6)) (λ k. word-in ws (of-lock k 2)) (λ k. refl)
+  side-notice = side-steps (link-in ws (of-locks notices)) (λ k. noticed (read-lock ws k)) (locks-in ws) (word-in ws (of-header 6)) (λ k. word-in ws (of-lock k 2)) (λ k. refl)

@@ -9,14 +9,15 @@ use lib.Dec.{eqb}
 use borrow.Author.Tests.{eqb-true, eq-eqb, le-leb}
 use Rattle.tables.specs.declared.Lock.{Lock}
 use Rattle.tables.specs.Lists.{within, count, bit, all, from}
-use Rattle.tables.specs.State.{resource, blocked-lock, told, Queue, grants, converts, waits, LockChain, free-locks, denied, blocked, notices, queue, Chain, free-resources, of-locks, chain, chain-of, belongs}
+use Rattle.tables.specs.State.{resource, blocked-lock, noticed, Queue, grants, converts, waits, LockChain, free-locks, denied, blocked, notices, queue, Chain, free-resources, of-locks, chain, chain-of, belongs}
 use Rattle.tables.specs.Layout.{of-header, of-lock, queue-head, resource-width, head, slot-width, resources-in, locks-in, word-in, most, link-in, read-chain, read-lock, read}
 use Rattle.tables.specs.Sound.{sizes-right, ends, chain-ends, resource-right, fields-right, state-right, sound}
 use Rattle.tables.proofs.Cases.{by-cases, and-left, and-right, and-intro, or-right, parts}
 use Rattle.tables.proofs.Counts.{le-within, all-intro, bit-one}
 use Rattle.tables.proofs.Links.{counted-on, each-on}
-use Rattle.tables.proofs.Valid.{used, Place, StateOk, ok-at}
-use Rattle.tables.proofs.Grid.{Within}
+use Rattle.tables.specs.Validity.{used, Place, StateOk}
+use Rattle.tables.proofs.Valid.{ok-at}
+use Rattle.tables.specs.Threads.{Within}
 use Rattle.tables.proofs.ReadState.{lock-of}
 use Rattle.tables.proofs.Conditions.{each-at, each-intro, state, locks-low, slots-sized, header-zero, resource-zeros, chain-ended, chain-inside, fields-tested, stands-as, blocked-off, notice-off, compatible-tested, heads-tested}
 use Rattle.tables.proofs.Fields.{fields-are}
@@ -79,9 +80,9 @@ module _ (ws ss : List ℕ) (h : sound ws ss ≡ true) where
       (by-cases (blocked-lock (read-lock ws (suc k)))
       (λ b. rw b)
       (λ b. or-right (blocked-lock (read-lock ws (suc k))) _ (eq-eqb _ 0 (blocked-off ws ss h (suc k) p q (rw (lock-of ws ss (suc k) p q) b)))))
-      (by-cases (told (read-lock ws (suc k)))
+      (by-cases (noticed (read-lock ws (suc k)))
       (λ b. rw b)
-      (λ b. or-right (told (read-lock ws (suc k))) _ (eq-eqb _ 0 (notice-off ws ss h (suc k) p q (rw (lock-of ws ss (suc k) p q) b))))))
+      (λ b. or-right (noticed (read-lock ws (suc k))) _ (eq-eqb _ 0 (notice-off ws ss h (suc k) p q (rw (lock-of ws ss (suc k) p q) b))))))
 
   -- CHAINS
   ended : (c : Chain) → Within (resources-in ws) (locks-in ws) (head c) → ends (link-in ws c) (most (resources-in ws) (locks-in ws) c) (link-in ws c 0) ≡ true
@@ -102,9 +103,9 @@ module _ (ws ss : List ℕ) (h : sound ws ss ≡ true) where
   unfolding read read-chain
   blocked-are = record { ended = ended (of-locks blocked) (omega arith); inside = inside (of-locks blocked) (omega arith); counts = counts blocked (omega arith) }
 
-  noticed : Noticed ws
+  noticed-are : Noticed ws
   unfolding read read-chain
-  noticed = record { ended = ended (of-locks notices) (omega arith); inside = inside (of-locks notices) (omega arith); counts = counts notices (omega arith) }
+  noticed-are = record { ended = ended (of-locks notices) (omega arith); inside = inside (of-locks notices) (omega arith); counts = counts notices (omega arith) }
 
   -- HOMES
   chain-read : (r : ℕ) → 1 ≤ r → r ≤ resources-in ws → (q : Queue) → chain (read ws ss) (queue r q) ≡ queue-in ws r q
@@ -202,5 +203,5 @@ module _ (ws ss : List ℕ) (h : sound ws ss ≡ true) where
   unfolding check
   sound-check =
       and-intro _ _ sizes (and-intro _ _ (eq-eqb _ 0 (header-zero ws ss h)) (and-intro _ _ resources-pass (and-intro _ _ (homes-are ws some homes (stand-total ws homes stood one-home))
-      (and-intro _ _ (side-spare ws spare) (and-intro _ _ (side-blocked ws blocked-are) (and-intro _ _ (side-notice ws noticed)
+      (and-intro _ _ (side-spare ws spare) (and-intro _ _ (side-blocked ws blocked-are) (and-intro _ _ (side-notice ws noticed-are)
       (unique-names ws ss sized (λ r p q u. right-unique ws ss sized some r p q (resource-is r p q) u))))))))

@@ -8,15 +8,15 @@ use lib.Dec.{eqb, leb}
 use Rattle.modes.specs.Sets.{fits-set, with-mode}
 use Rattle.tables.specs.declared.Lock.{Lock}
 use Rattle.tables.specs.Lists.{all, from, keep}
-use Rattle.tables.specs.State.{name-width, blocked-lock, told}
-use Rattle.tables.specs.Layout.{of-header, of-resource, of-lock, resources-in, locks-in, word-in, follow, read-lock}
-use Rattle.tables.specs.Sound.{client-right, modes-right, sizes-right}
+use Rattle.tables.specs.State.{name-width, blocked-lock, noticed, state-free, state-granted, state-converting, state-waiting, state-denied, completion-none, completion-denied, grants, converts, waits}
+use Rattle.tables.specs.Layout.{of-header, of-resource, of-lock, resources-in, locks-in, word-in, follow, read-lock, queue-head}
+use Rattle.tables.specs.Sound.{client-right, modes-right, sizes-right, granted-completion}
 use Rattle.table_names.specs.Names.{named, slot-fine, names-differ}
-pub use Rattle.check_laws.specs.declared.Held.{Held}
-pub use Rattle.check_laws.specs.declared.Row.{Row}
+pub use Rattle.check_laws.specs.declared.HolderCount.{HolderCount}
+pub use Rattle.check_laws.specs.declared.ResourceRow.{ResourceRow}
 
 -- RECORDS. The words of a resource (the record is the code's struct)
-unfoldable pub row-in : List ℕ → ℕ → Row
+unfoldable pub row-in : List ℕ → ℕ → ResourceRow
 row-in ws r =
     record {
       next = word-in ws (of-resource r 0);
@@ -29,15 +29,15 @@ row-in ws r =
       last = word-in ws (of-resource r 7);
     }
 
--- free: all else zero; or in use: a name of at most 64 bytes, and a first lock on some chain
-unfoldable pub free-row : Row → Bool
+-- a resource is free, and its other words are zero; or it is in use, with a name of at most 64 bytes and a first lock on some chain
+unfoldable pub free-row : ResourceRow → Bool
 free-row x = eqb (x .valid) 0 && eqb (x .grant) 0 && eqb (x .convert) 0 && eqb (x .wait) 0
 
-unfoldable pub used-row : Row → Bool
+unfoldable pub used-row : ResourceRow → Bool
 used-row x =
     eqb (x .next) 0 && leb (x .bytes) name-width && leb (x .valid) 1 && not (eqb (x .grant) 0 && eqb (x .convert) 0 && eqb (x .wait) 0)
 
-unfoldable pub row-fine : Row → Bool
+unfoldable pub row-fine : ResourceRow → Bool
 row-fine x = eqb (x .zero) 0 && eqb (x .last) 0 && cond (eqb (x .bytes) 0) (free-row x) (used-row x)
 
 unfoldable pub resource-fine : List ℕ → List ℕ → ℕ → Bool
@@ -47,20 +47,20 @@ resource-fine ws ss r = row-fine (row-in ws r) && slot-fine ws ss r
 unfoldable pub on-named : List ℕ → ℕ → Bool
 on-named ws r = leb 1 r && leb r (resources-in ws) && named ws r
 
--- the fields of a lock, by its state, where it is told whether its resource is in use
+-- the fields of a lock are right for its state; the first argument says whether its resource is in use
 unfoldable pub fields-fine : Bool → Lock → Bool
 fields-fine in-use l =
-    eqb (l .state) 0 && eqb (l .resource) 0 && eqb (l .client) 0 && eqb (l .held) 0 && eqb (l .asked) 0 && eqb (l .completion) 0
-    || eqb (l .state) 1 && in-use && client-right (l .client) && modes-right l && eqb (l .asked) 0
-    && (eqb (l .completion) 0 || eqb (l .completion) 1 || eqb (l .completion) 3)
-    || eqb (l .state) 2 && in-use && client-right (l .client) && modes-right l && eqb (l .completion) 0
-    || eqb (l .state) 3 && in-use && client-right (l .client) && modes-right l && eqb (l .completion) 0 && eqb (l .held) 0
-    || eqb (l .state) 4 && client-right (l .client) && eqb (l .resource) 0 && eqb (l .held) 0 && eqb (l .asked) 0 && eqb (l .completion) 2
+    eqb (l .state) state-free && eqb (l .resource) 0 && eqb (l .client) 0 && eqb (l .held) 0 && eqb (l .asked) 0 && eqb (l .completion) completion-none
+    || eqb (l .state) state-granted && in-use && client-right (l .client) && modes-right l && eqb (l .asked) 0
+    && granted-completion (l .completion)
+    || eqb (l .state) state-converting && in-use && client-right (l .client) && modes-right l && eqb (l .completion) completion-none
+    || eqb (l .state) state-waiting && in-use && client-right (l .client) && modes-right l && eqb (l .completion) completion-none && eqb (l .held) 0
+    || eqb (l .state) state-denied && client-right (l .client) && eqb (l .resource) 0 && eqb (l .held) 0 && eqb (l .asked) 0 && eqb (l .completion) completion-denied
 
--- off the blocked and the notice chain its links there are zero
+-- if it does not belong on the blocked or the notice chain, its link there is zero
 unfoldable pub links-fine : List ℕ → ℕ → Bool
 links-fine ws k =
-    (blocked-lock (read-lock ws k) || eqb (word-in ws (of-lock k 1)) 0) && (told (read-lock ws k) || eqb (word-in ws (of-lock k 2)) 0)
+    (blocked-lock (read-lock ws k) || eqb (word-in ws (of-lock k 1)) 0) && (noticed (read-lock ws k) || eqb (word-in ws (of-lock k 2)) 0)
 
 unfoldable pub lock-fine : List ℕ → ℕ → Bool
 lock-fine ws k = fields-fine (on-named ws (read-lock ws k .resource)) (read-lock ws k) && links-fine ws k
@@ -72,7 +72,7 @@ steps link test zero (suc k) = 1
 steps link test (suc n) zero = 0
 steps link test (suc n) (suc k) = cond (test (suc k)) (suc (steps link test n (link (suc k)))) (suc (suc n))
 
--- the free resources: as many on the chain as have no name, and none that has one
+-- the chain of free resources has as many as have no name, and none that has one
 unfoldable pub free-resource-on : List ℕ → ℕ → Bool
 free-resource-on ws r = leb r (resources-in ws) && not (named ws r)
 
@@ -81,7 +81,7 @@ free-resources-fine ws =
     eqb (steps (λ r. word-in ws (of-resource r 0)) (free-resource-on ws) (resources-in ws) (word-in ws (of-header 2)))
     (length (keep (λ r. not (named ws r)) (from 1 (resources-in ws))))
 
--- the blocked and the notice chain: as many as belong there, and no others
+-- the blocked and the notice chain have as many as belong there, and no others
 unfoldable pub blocked-on : List ℕ → ℕ → Bool
 blocked-on ws k = leb k (locks-in ws) && blocked-lock (read-lock ws k)
 
@@ -91,14 +91,14 @@ blocked-fine ws =
     (length (keep (λ k. blocked-lock (read-lock ws k)) (from 1 (locks-in ws))))
 
 unfoldable pub notice-on : List ℕ → ℕ → Bool
-notice-on ws k = leb k (locks-in ws) && told (read-lock ws k)
+notice-on ws k = leb k (locks-in ws) && noticed (read-lock ws k)
 
 unfoldable pub notices-fine : List ℕ → Bool
 notices-fine ws =
     eqb (steps (λ k. word-in ws (of-lock k 2)) (notice-on ws) (locks-in ws) (word-in ws (of-header 6)))
-    (length (keep (λ k. told (read-lock ws k)) (from 1 (locks-in ws))))
+    (length (keep (λ k. noticed (read-lock ws k)) (from 1 (locks-in ws))))
 
--- a home chain: each has the state and the resource, and is fine
+-- a home chain: each lock has the chain's state and resource, and is fine
 unfoldable pub stands : List ℕ → ℕ → ℕ → ℕ → Bool
 stands ws s r k = eqb (read-lock ws k .state) s && eqb (read-lock ws k .resource) r && lock-fine ws k
 
@@ -108,9 +108,9 @@ home-on ws s r k = leb k (locks-in ws) && stands ws s r k
 unfoldable pub home-steps : List ℕ → ℕ → ℕ → ℕ → ℕ
 home-steps ws s r k = steps (λ k. word-in ws (of-lock k 0)) (home-on ws s r) (locks-in ws) k
 
--- a chain of holders, where each held mode is to fit the set of those before it: the steps, as above, and the set of all the modes
--- (the record is the code's struct)
-unfoldable pub held-steps : List ℕ → ℕ → ℕ → ℕ → ℕ → ℕ → Held
+-- a chain of holders, where each held mode must fit the set of those before it: the number of steps, as above, and the set of all the modes (the
+-- record is the code's struct)
+unfoldable pub held-steps : List ℕ → ℕ → ℕ → ℕ → ℕ → ℕ → HolderCount
 held-steps ws s r zero zero set = record { met = 0; modes = set }
 held-steps ws s r zero (suc k) set = record { met = 1; modes = set }
 held-steps ws s r (suc n) zero set = record { met = 0; modes = set }
@@ -120,33 +120,34 @@ held-steps ws s r (suc n) (suc k) set =
     cond (home-on ws s r (suc k) && fits-set set m) (record { met = suc (rest .met); modes = rest .modes }) (record { met = suc (suc n); modes = set })
 
 -- ONE RESOURCE. Its grant chain, from the empty set.
-unfoldable pub grant-walk : List ℕ → ℕ → Held
-grant-walk ws r = held-steps ws 1 r (locks-in ws) (word-in ws (of-resource r 1)) 0
+unfoldable pub grant-walk : List ℕ → ℕ → HolderCount
+grant-walk ws r = held-steps ws state-granted r (locks-in ws) (word-in ws (of-resource r 1)) 0
 
--- the locks behind the convert head, which holds h, from the set of the granted modes: each fits those before it and h; the set leaves h out
-unfoldable pub tail-steps : List ℕ → ℕ → ℕ → ℕ → ℕ → ℕ → Held
+-- the locks behind the convert head, which holds h, starting from the set of the granted modes: each must fit h and those before it; the set leaves h
+-- out
+unfoldable pub tail-steps : List ℕ → ℕ → ℕ → ℕ → ℕ → ℕ → HolderCount
 tail-steps ws r h zero zero set = record { met = 0; modes = set }
 tail-steps ws r h zero (suc k) set = record { met = 1; modes = set }
 tail-steps ws r h (suc n) zero set = record { met = 0; modes = set }
 tail-steps ws r h (suc n) (suc k) set =
     let m = read-lock ws (suc k) .held in
     let rest = tail-steps ws r h n (word-in ws (of-lock (suc k) 0)) (with-mode set m) in
-    cond (home-on ws 2 r (suc k) && fits-set (with-mode set h) m) (record { met = suc (rest .met); modes = rest .modes })
+    cond (home-on ws state-converting r (suc k) && fits-set (with-mode set h) m) (record { met = suc (rest .met); modes = rest .modes })
     (record { met = suc (suc n); modes = set })
 
 -- its convert chain: the set is that of the held modes other than the head's
-unfoldable pub convert-from : List ℕ → ℕ → ℕ → ℕ → Held
+unfoldable pub convert-from : List ℕ → ℕ → ℕ → ℕ → HolderCount
 convert-from ws r c granted =
     let h = read-lock ws c .held in
     let rest = tail-steps ws r h (locks-in ws - 1) (word-in ws (of-lock c 0)) granted in
-    cond (home-on ws 2 r c && fits-set granted h) (record { met = suc (rest .met); modes = rest .modes }) (record { met = suc (locks-in ws); modes = granted })
+    cond (home-on ws state-converting r c && fits-set granted h) (record { met = suc (rest .met); modes = rest .modes }) (record { met = suc (locks-in ws); modes = granted })
 
-unfoldable pub convert-walk : List ℕ → ℕ → ℕ → Held
+unfoldable pub convert-walk : List ℕ → ℕ → ℕ → HolderCount
 convert-walk ws r granted =
     let c = word-in ws (of-resource r 2) in
     cond (eqb c 0) (record { met = 0; modes = granted }) (convert-from ws r c granted)
 
--- the convert head is kept out by the others' modes; where there is none, the wait head by the granted ones
+-- the convert head is kept out by the others' modes; if there is no convert head, the wait head is kept out by the granted ones
 unfoldable pub heads-wait : List ℕ → ℕ → ℕ → ℕ → Bool
 heads-wait ws r granted others =
     let c = word-in ws (of-resource r 2) in
@@ -154,12 +155,12 @@ heads-wait ws r granted others =
     cond (eqb c 0) (eqb w 0 || not (fits-set granted (read-lock ws w .asked))) (not (fits-set others (read-lock ws c .asked)))
 
 -- the number of locks on its three chains, or more than there are if something is wrong with them
-unfoldable pub wait-part : List ℕ → ℕ → Held → Held → ℕ
+unfoldable pub wait-part : List ℕ → ℕ → HolderCount → HolderCount → ℕ
 wait-part ws r g c =
-    let w = home-steps ws 3 r (word-in ws (of-resource r 3)) in
+    let w = home-steps ws state-waiting r (word-in ws (of-resource r 3)) in
     cond (leb w (locks-in ws) && heads-wait ws r (g .modes) (c .modes)) (g .met + c .met + w) (suc (locks-in ws))
 
-unfoldable pub convert-part : List ℕ → ℕ → Held → ℕ
+unfoldable pub convert-part : List ℕ → ℕ → HolderCount → ℕ
 convert-part ws r g =
     let c = convert-walk ws r (g .modes) in
     cond (leb (c .met) (locks-in ws)) (wait-part ws r g c) (suc (locks-in ws))
@@ -177,18 +178,18 @@ queues-walk ws (r ∷ rs) = resource-walk ws r + queues-walk ws rs
 unfoldable pub homes-fine : List ℕ → Bool
 homes-fine ws =
     eqb
-    (home-steps ws 0 0 (word-in ws (of-header 3)) + home-steps ws 4 0 (word-in ws (of-header 4)) + queues-walk ws (from 1 (resources-in ws)))
+    (home-steps ws state-free 0 (word-in ws (of-header 3)) + home-steps ws state-denied 0 (word-in ws (of-header 4)) + queues-walk ws (from 1 (resources-in ws)))
     (locks-in ws)
 
--- SIDES. How many belong on the blocked and on the notice chain, added up along the home chains. A queue of r, by its field
+-- SIDES. How many locks belong on the blocked and on the notice chain, added up along the home chains. First, a queue of r, by its field
 unfoldable pub queue-from : List ℕ → ℕ → ℕ → List ℕ
 queue-from ws f r = follow (λ k. word-in ws (of-lock k 0)) (locks-in ws) (word-in ws (of-resource r f))
 
 unfoldable pub blocked-at : List ℕ → ℕ → ℕ
-blocked-at ws r = length (queue-from ws 2 r) + length (queue-from ws 3 r)
+blocked-at ws r = length (queue-from ws (queue-head converts) r) + length (queue-from ws (queue-head waits) r)
 
 unfoldable pub noticed-at : List ℕ → ℕ → ℕ
-noticed-at ws r = length (keep (λ k. told (read-lock ws k)) (queue-from ws 1 r))
+noticed-at ws r = length (keep (λ k. noticed (read-lock ws k)) (queue-from ws (queue-head grants) r))
 
 unfoldable pub sum-over : (ℕ → ℕ) → List ℕ → ℕ
 sum-over f [] = 0

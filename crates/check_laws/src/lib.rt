@@ -1,9 +1,9 @@
-// What the soundness check computes, pass by pass, and that it is what makes tables sound: definitions in specs/, laws in
-// proofs/. The code is in the crates `records`, `standing`, `chains`, `holders` and `soundness`, so that an edit of it
-// does not prove the laws again.
+// What the soundness check computes, pass by pass (specs/), and the proof that this is what makes tables sound (proofs/).
+// The code is in the other crates of the check, `check_resources` to `check_tables`, so that an edit of it does not prove
+// the laws again.
 
 // The words of a resource.
-pub struct Row {
+pub struct ResourceRow {
     pub next: u32,
     pub grant: u32,
     pub convert: u32,
@@ -15,7 +15,7 @@ pub struct Row {
 }
 
 // What a walk along holders finds: how many, or one more than there may be, and the set of their modes.
-pub struct Held {
+pub struct HolderCount {
     pub met: u32,
     pub modes: u32,
 }

@@ -8,7 +8,7 @@ use lib.Dec.{eqb, leb}
 use borrow.Author.Needs.{needs}
 use borrow.Author.Tests.{eqb-true, ne-eqb, le-leb}
 use Rattle.tables.specs.declared.Lock.{Lock}
-use Rattle.tables.specs.State.{told}
+use Rattle.tables.specs.State.{noticed}
 use Rattle.tables.specs.Layout.{of-lock, resources-in, word-in, read-lock}
 use Rattle.tables.specs.Sound.{client-right, modes-right}
 use Rattle.table_names.specs.Names.{named}
@@ -77,17 +77,17 @@ swapped true true true n = refl
 zero-mode : (m : ℕ) → eqb m 0 ≡ true → leb m 5 ≡ true
 zero-mode m e = le-leb m 5 (omega (arith, eqb-true m 0 e))
 
--- a denied lock is told so
-two-told : (f : ℕ) → eqb f 2 ≡ true → eqb f 0 ≡ false
-two-told f e = ne-eqb f 0 (λ z. omega (arith, eqb-true f 2 e))
+-- a denied lock has a completion
+denied-noticed : (f : ℕ) → eqb f 2 ≡ true → eqb f 0 ≡ false
+denied-noticed f e = ne-eqb f 0 (λ z. omega (arith, eqb-true f 2 e))
 
 -- a granted lock with no completion, and with one
 module _ (l : Lock) (y : ℕ) where
-  pub silent-right : {x : ℕ} → x ≡ y → l .completion ≡ 0 → eqb x 0 ≡ ((eqb (l .completion) 0 || eqb (l .completion) 1 || eqb (l .completion) 3) && (told l || eqb y 0))
+  pub silent-right : {x : ℕ} → x ≡ y → l .completion ≡ 0 → eqb x 0 ≡ ((eqb (l .completion) 0 || eqb (l .completion) 1 || eqb (l .completion) 3) && (noticed l || eqb y 0))
   silent-right q e = rw (e, q)
 
-  pub told-right : (l .completion ≡ 0 → ⊥) → (eqb (l .completion) 1 || eqb (l .completion) 3) ≡ ((eqb (l .completion) 0 || eqb (l .completion) 1 || eqb (l .completion) 3) && (told l || eqb y 0))
-  told-right n = rw (ne-eqb (l .completion) 0 n) (both (eqb (l .completion) 1 || eqb (l .completion) 3))
+  pub noticed-right : (l .completion ≡ 0 → ⊥) → (eqb (l .completion) 1 || eqb (l .completion) 3) ≡ ((eqb (l .completion) 0 || eqb (l .completion) 1 || eqb (l .completion) 3) && (noticed l || eqb y 0))
+  noticed-right n = rw (ne-eqb (l .completion) 0 n) (both (eqb (l .completion) 1 || eqb (l .completion) 3))
     where
       both : (b : Bool) → b ≡ (b && true)
       both true = refl
@@ -118,7 +118,7 @@ module _ (ws : List ℕ) (k : ℕ) {l : Lock} (e : l ≡ read-lock ws k) where
       (then-five (eqb (l .state) 4) (eqb (l .resource) 0) (client-right (l .client)) (eqb (l .held) 0) (eqb (l .asked) 0) (eqb (l .completion) 2) b
       (λ s r.
       rw (is (l .state) 4 s 0, is (l .state) 4 s 1, is (l .state) 4 s 2, is (l .state) 4 s 3, is (l .state) 4 s 4, r)
-      (denied-left (client-right (l .client)) (eqb (l .held) 0) (eqb (l .asked) 0) (eqb (l .completion) 2) (eqb (l .completion) 0) b n (two-told (l .completion)))))
+      (denied-left (client-right (l .client)) (eqb (l .held) 0) (eqb (l .asked) 0) (eqb (l .completion) 2) (eqb (l .completion) 0) b n (denied-noticed (l .completion)))))
 
   -- on a resource in use
   module _ (r : ℕ) (u : 1 ≤ r) (v : r ≤ resources-in ws) (w : named ws r ≡ true) where
@@ -126,11 +126,11 @@ module _ (ws : List ℕ) (k : ℕ) {l : Lock} (e : l ≡ read-lock ws k) where
     unfolding on-named
     here j t = rw (eqb-true j r t, le-leb 1 r u, le-leb r (resources-in ws) v) w
 
-    pub granted-stands : {c g : Bool} {x : ℕ} → c ≡ client-right (l .client) → x ≡ word-in ws (of-lock k 1) → g ≡ ((eqb (l .completion) 0 || eqb (l .completion) 1 || eqb (l .completion) 3) && (told l || eqb (word-in ws (of-lock k 2)) 0)) → (eqb (l .state) 1 && eqb (l .resource) r && c && leb (l .held) 5 && eqb (l .asked) 0 && eqb x 0 && g) ≡ stands ws 1 r k
+    pub granted-stands : {c g : Bool} {x : ℕ} → c ≡ client-right (l .client) → x ≡ word-in ws (of-lock k 1) → g ≡ ((eqb (l .completion) 0 || eqb (l .completion) 1 || eqb (l .completion) 3) && (noticed l || eqb (word-in ws (of-lock k 2)) 0)) → (eqb (l .state) 1 && eqb (l .resource) r && c && leb (l .held) 5 && eqb (l .asked) 0 && eqb x 0 && g) ≡ stands ws 1 r k
     unfolding stands lock-fine fields-fine links-fine modes-right
     granted-stands o p g =
         let b = eqb (word-in ws (of-lock k 1)) 0 in
-        let n = told l || eqb (word-in ws (of-lock k 2)) 0 in
+        let n = noticed l || eqb (word-in ws (of-lock k 2)) 0 in
         let f = eqb (l .completion) 0 || eqb (l .completion) 1 || eqb (l .completion) 3 in
         rw (o, p, g, ← e)
         (swapped (eqb (l .state) 1 && eqb (l .resource) r && client-right (l .client) && leb (l .held) 5 && eqb (l .asked) 0) b f n

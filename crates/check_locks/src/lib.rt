@@ -1,4 +1,4 @@
-// A lock where its home chain has it: tests of a lock by its state.
+// Tests of a lock that is met on a home chain, one for each state.
 use table_fields::COMPLETION_CONVERSION_DENIED;
 use table_fields::COMPLETION_DENIED;
 use table_fields::COMPLETION_GRANTED;
@@ -19,9 +19,9 @@ ghost use mathlib.Core.Path.{_≡_};
 ghost use mathlib.Core.Bool.{true, _&&_, _||_};
 ghost use Prim.Native.Nat.{_≤_};
 ghost use lib.Dec.{eqb};
-ghost use Rattle.tables.specs.State.{told};
+ghost use Rattle.tables.specs.State.{noticed, «state-free», «state-granted», «state-converting», «state-waiting», «state-denied»};
 ghost use Rattle.tables.specs.Layout.{«of-lock», «resources-in», «locks-in», «word-in»};
-ghost use Rattle.tables.specs.Sound.{«client-right»};
+ghost use Rattle.tables.specs.Sound.{«client-right», «granted-completion»};
 ghost use Rattle.table_fields.specs.Sizes.{Sized};
 ghost use Rattle.table_names.specs.Names.{named};
 ghost use Rattle.check_laws.specs.Check.{stands};
@@ -33,12 +33,12 @@ fn client_right(l: Lock) -> bool
     (1 <= l.client) & (l.client <= LAST_CLIENT)
 }
 
-// The completion of lock k, which is l and granted: none, and then its link on the notice chain is zero; or that it was
-// granted, or that its conversion was denied.
+// The completion of the granted lock k, whose record is l, is right. Either there is none, and its link on the notice
+// chain is zero; or it says that the lock was granted or that its conversion was denied.
 fn notice_right(words: &[u32], k: u32, l: Lock) -> bool
     requires { ⌜ Sized (now words) ⌝ }
     requires { ⌜ (1 ≤ k) × (k ≤ locks-in (now words)) ⌝ }
-    ensures { λ x. ⌜ x ≡ ((eqb (l .completion) 0 || eqb (l .completion) 1 || eqb (l .completion) 3) && (told l || eqb (word-in (now (words .entry)) (of-lock k 2)) 0)) ⌝ }
+    ensures { λ x. ⌜ x ≡ (granted-completion (l .completion) && (noticed l || eqb (word-in (now (words .entry)) (of-lock k 2)) 0)) ⌝ }
 {
     if l.completion == COMPLETION_NONE {
         return lock_word(words, k, LOCK_NEXT_NOTICE) == 0;
@@ -46,12 +46,13 @@ fn notice_right(words: &[u32], k: u32, l: Lock) -> bool
     (l.completion == COMPLETION_GRANTED) | (l.completion == COMPLETION_CONVERSION_DENIED)
 }
 
-// A lock where its home chain has it: its state and its resource are that chain's, and all else is right with it. Off the
-// blocked and the notice chain its links there are zero. A free lock: all but its home link is zero.
+// These tests are of a lock that is met on a home chain: its state and its resource are that chain's, its other fields
+// are right, and its link on the blocked or the notice chain is zero if it does not belong there. Of a free lock all
+// but its home link is zero.
 pub fn stands_free(words: &[u32], k: u32) -> bool
     requires { ⌜ Sized (now words) ⌝ }
     requires { ⌜ (1 ≤ k) × (k ≤ locks-in (now words)) ⌝ }
-    ensures { λ x. ⌜ x ≡ stands (now (words .entry)) 0 0 k ⌝ }
+    ensures { λ x. ⌜ x ≡ stands (now (words .entry)) state-free 0 k ⌝ }
 {
     let l = lock_at(words, k);
     (l.state == STATE_FREE)
@@ -68,7 +69,7 @@ pub fn stands_free(words: &[u32], k: u32) -> bool
 pub fn stands_denied(words: &[u32], k: u32) -> bool
     requires { ⌜ Sized (now words) ⌝ }
     requires { ⌜ (1 ≤ k) × (k ≤ locks-in (now words)) ⌝ }
-    ensures { λ x. ⌜ x ≡ stands (now (words .entry)) 4 0 k ⌝ }
+    ensures { λ x. ⌜ x ≡ stands (now (words .entry)) state-denied 0 k ⌝ }
 {
     let l = lock_at(words, k);
     (l.state == STATE_DENIED)
@@ -86,7 +87,7 @@ pub fn stands_granted(words: &[u32], r: u32, k: u32) -> bool
     requires { ⌜ (1 ≤ k) × (k ≤ locks-in (now words)) ⌝ }
     requires { ⌜ (1 ≤ r) × (r ≤ resources-in (now words)) ⌝ }
     requires { ⌜ named (now words) r ≡ true ⌝ }
-    ensures { λ x. ⌜ x ≡ stands (now (words .entry)) 1 r k ⌝ }
+    ensures { λ x. ⌜ x ≡ stands (now (words .entry)) state-granted r k ⌝ }
 {
     let l = lock_at(words, k);
     (l.state == STATE_GRANTED)
@@ -104,7 +105,7 @@ pub fn stands_converting(words: &[u32], r: u32, k: u32) -> bool
     requires { ⌜ (1 ≤ k) × (k ≤ locks-in (now words)) ⌝ }
     requires { ⌜ (1 ≤ r) × (r ≤ resources-in (now words)) ⌝ }
     requires { ⌜ named (now words) r ≡ true ⌝ }
-    ensures { λ x. ⌜ x ≡ stands (now (words .entry)) 2 r k ⌝ }
+    ensures { λ x. ⌜ x ≡ stands (now (words .entry)) state-converting r k ⌝ }
 {
     let l = lock_at(words, k);
     (l.state == STATE_CONVERTING)
@@ -122,7 +123,7 @@ pub fn stands_waiting(words: &[u32], r: u32, k: u32) -> bool
     requires { ⌜ (1 ≤ k) × (k ≤ locks-in (now words)) ⌝ }
     requires { ⌜ (1 ≤ r) × (r ≤ resources-in (now words)) ⌝ }
     requires { ⌜ named (now words) r ≡ true ⌝ }
-    ensures { λ x. ⌜ x ≡ stands (now (words .entry)) 3 r k ⌝ }
+    ensures { λ x. ⌜ x ≡ stands (now (words .entry)) state-waiting r k ⌝ }
 {
     let l = lock_at(words, k);
     (l.state == STATE_WAITING)

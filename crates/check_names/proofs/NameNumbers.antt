@@ -20,7 +20,7 @@ use Rattle.table_names.specs.Names.{named, name-in, slot-fine}
 use Rattle.table_names.specs.Contracts.{Tidy}
 use Rattle.table_names.proofs.Spans.{drop-more}
 use Rattle.table_names.proofs.SlotParts.{slot-head, slot-long, slot-inside, name-long}
-use Rattle.check_names.specs.Numbers.{name-words, number-range, weighed, number}
+use Rattle.check_names.specs.Numbers.{name-words, number-range, weighed, name-number}
 
 -- ---- the sum of the words by weights: 16 weights below 2 ^ 16, words below 2 ^ 32
 
@@ -57,9 +57,9 @@ weigh-end ks bs sum i p g h = let e : i ≡ name-words = omega arith in p ∙ ap
 
 pub ruleset weigh-loop = (needs, product-fits, weigh-small, weigh-fits, weigh-none, weigh-next, weigh-end)
 
--- what `number` returns
-pub number-read : (ks ss : List ℕ) (r start : ℕ) {x : ℕ} → start ≡ slot-width * (r - 1) → x ≡ weighed ks (take (start + name-width - start) (drop start ss)) name-words → x % 4294967296 ≡ number ks ss r
-unfolding number
+-- what the function `number` returns
+pub number-read : (ks ss : List ℕ) (r start : ℕ) {x : ℕ} → start ≡ slot-width * (r - 1) → x ≡ weighed ks (take (start + name-width - start) (drop start ss)) name-words → x % 4294967296 ≡ name-number ks ss r
+unfolding name-number
 number-read ks ss r start {x} e h =
     let q : start + name-width - start ≡ name-width = omega arith in
     let f : take (start + name-width - start) (drop start ss) ≡ take name-width (slot-in ss r) = rw (q, e) (slot-head ss r name-width (omega arith)) in
@@ -117,8 +117,8 @@ module _ (ws ss : List ℕ) (tidy : Tidy ws ss) where
     unfolding named
     both-named = rw lengths-are at used
 
-    pub same-number : (ks : List ℕ) → number ks ss r ≡ number ks ss s
-    unfolding number
+    pub same-number : (ks : List ℕ) → name-number ks ss r ≡ name-number ks ss s
+    unfolding name-number
     same-number ks =
         let e : take name-width (slot-in ss r) ≡ take name-width (slot-in ss s) =
         name-bytes r low high used ∙ ap₂ (λ (xs : List ℕ) (m : ℕ). xs ++ replicate (name-width - m) 0) names-are lengths-are ∙ sym (name-bytes s low′ high′ both-named) in

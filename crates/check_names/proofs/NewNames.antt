@@ -15,7 +15,7 @@ use Rattle.tables.proofs.Cases.{by-cases, by-equal, clash, and-left, and-right,
 use Rattle.table_names.specs.Names.{named, name-in, apart, apart-after, names-differ}
 use Rattle.table_names.specs.Contracts.{Tidy}
 use Rattle.table_names.proofs.NumberRuns.{upto}
-use Rattle.check_names.specs.Numbers.{name-words, places, place, number, Noted, Tells}
+use Rattle.check_names.specs.Numbers.{name-words, places, mark-place, name-number, Noted, TellsApart}
 use Rattle.check_names.proofs.RunTests.{all-each, down-next, down-stop, down-end}
 use Rattle.check_names.proofs.ComparedNames.{free-after, differ-run}
 use Rattle.check_names.proofs.NameNumbers.{both-named, same-number}
@@ -38,7 +38,7 @@ not-among x a b ns l h s p q e =
 
 module _ (ws ss ks ns : List ℕ) (ms : List Bool) (r : ℕ) (noted : Noted ws ss ks ns ms r) (low : 1 ≤ r) (high : r ≤ resources-in ws) where
   -- r is free: nothing is written
-  pub tells-free : {n : ℕ} → n ≡ word-in ws (of-resource r 4) → n ≡ 0 → Tells ws ss ks ns ms r true
+  pub tells-free : {n : ℕ} → n ≡ word-in ws (of-resource r 4) → n ≡ 0 → TellsApart ws ss ks ns ms r true
   unfolding named
   tells-free e f =
       let free : named ws r ≡ false = rw (eq-eqb _ _ (sym e ∙ f)) in
@@ -53,9 +53,9 @@ module _ (ws ss ks ns : List ℕ) (ms : List Bool) (r : ℕ) (noted : Noted ws s
         };
       }
 
-  module _ (tidy : Tidy ws ss) {x : ℕ} (own : x ≡ number ks ss r) where
+  module _ (tidy : Tidy ws ss) {x : ℕ} (own : x ≡ name-number ks ss r) where
     -- its number is written down, and its place is marked
-    note : (ms′ : List Bool) → length ms′ ≡ places → ((i : ℕ) → getD ms i false ≡ true → getD ms′ i false ≡ true) → getD ms′ (place x) false ≡ true
+    note : (ms′ : List Bool) → length ms′ ≡ places → ((i : ℕ) → getD ms i false ≡ true → getD ms′ i false ≡ true) → getD ms′ (mark-place x) false ≡ true
         → Noted ws ss ks (set ns r x) ms′ (r - 1)
     note ms′ l keep here =
         let few = tidy .named .slotted .sized .few-resources in
@@ -69,11 +69,11 @@ module _ (ws ss ks ns : List ℕ) (ms : List Bool) (r : ℕ) (noted : Noted ws s
               (λ e. getD-set-other ns r s x 0 e ∙ noted .noted s (omega arith) q u);
           marked = λ s p q u. by-equal s r
               (λ e. rw (e, ← own) here)
-              (λ e. keep (place (number ks ss s)) (noted .marked s (omega arith) q u));
+              (λ e. keep (mark-place (name-number ks ss s)) (noted .marked s (omega arith) q u));
         }
 
     -- no name after r is its own if none has its number
-    apart-by-number : ((s : ℕ) → r < s → s ≤ resources-in ws → named ws s ≡ true → x ≡ number ks ss s → ⊥) → apart-after ws ss r ≡ true
+    apart-by-number : ((s : ℕ) → r < s → s ≤ resources-in ws → named ws s ≡ true → x ≡ name-number ks ss s → ⊥) → apart-after ws ss r ≡ true
     unfolding apart-after apart
     apart-by-number other =
         all-each (apart ws ss r) (resources-in ws - r) (suc r)
@@ -88,15 +88,15 @@ module _ (ws ss ks ns : List ℕ) (ms : List Bool) (r : ℕ) (noted : Noted ws s
         (λ e. rw e))
 
     -- a name of its number would have marked its place
-    new-apart : getD ms (place x) false ≡ false → apart-after ws ss r ≡ true
-    new-apart h = apart-by-number (λ s p q u e. clash (getD ms (place x) false) (rw e (noted .marked s p q u)) h)
+    new-apart : getD ms (mark-place x) false ≡ false → apart-after ws ss r ≡ true
+    new-apart h = apart-by-number (λ s p q u e. clash (getD ms (mark-place x) false) (rw e (noted .marked s p q u)) h)
 
-    new-noted : Noted ws ss ks (set ns r x) (set ms (place x) true) (r - 1)
+    new-noted : Noted ws ss ks (set ns r x) (set ms (mark-place x) true) (r - 1)
     new-noted =
-        let l : place x < length ms = let m = noted .marks in omega arith in
-        note (set ms (place x) true) (length-set ms (place x) true ∙ noted .marks)
-        (λ i h. by-equal i (place x) (λ e. rw e (getD-set-same ms (place x) true false l)) (λ e. getD-set-other ms (place x) i true false e ∙ h))
-        (getD-set-same ms (place x) true false l)
+        let l : mark-place x < length ms = let m = noted .marks in omega arith in
+        note (set ms (mark-place x) true) (length-set ms (mark-place x) true ∙ noted .marks)
+        (λ i h. by-equal i (mark-place x) (λ e. rw e (getD-set-same ms (mark-place x) true false l)) (λ e. getD-set-other ms (mark-place x) i true false e ∙ h))
+        (getD-set-same ms (mark-place x) true false l)
 
     -- .. and would be among the numbers after r
     other-apart : any (eqb x) (take (resources-in ws + 1 - (r + 1)) (drop (r + 1) (set ns r x))) ≡ false → apart-after ws ss r ≡ true
@@ -109,22 +109,22 @@ module _ (ws ss ks ns : List ℕ) (ms : List Bool) (r : ℕ) (noted : Noted ws s
 
     module _ {w : ℕ} (widened : w ≡ x) where
       -- its place was not marked, and is now
-      pub tells-new : not (getD ms (place w) false) ≡ true → Tells ws ss ks (set ns r x) (set ms (place w) true) r true
-      tells-new h = rw widened (record { answer = sym (new-apart (rw widened at (not-true (getD ms (place w) false) h))); next = new-noted })
+      pub tells-new : not (getD ms (mark-place w) false) ≡ true → TellsApart ws ss ks (set ns r x) (set ms (mark-place w) true) r true
+      tells-new h = rw widened (record { answer = sym (new-apart (rw widened at (not-true (getD ms (mark-place w) false) h))); next = new-noted })
 
-      module _ (met : not (getD ms (place w) false) ≡ false) where
+      module _ (met : not (getD ms (mark-place w) false) ≡ false) where
         met-noted : Noted ws ss ks (set ns r x) ms (r - 1)
-        met-noted = note ms (noted .marks) (λ i h. h) (rw widened at (not-false (getD ms (place w) false) met))
+        met-noted = note ms (noted .marks) (λ i h. h) (rw widened at (not-false (getD ms (mark-place w) false) met))
 
         -- another number marked it
         pub tells-other : {n v : ℕ} {m : Bool} → n ≡ resources-in ws → v ≡ n → m ≡ any (eqb x) (take (v + 1 - (r + 1)) (drop (r + 1) (set ns r x))) → not m ≡ true
-            → Tells ws ss ks (set ns r x) ms r true
+            → TellsApart ws ss ks (set ns r x) ms r true
         tells-other {n} {v} {m} e f g h =
             let k : v ≡ resources-in ws = f ∙ e in
             record { answer = sym (other-apart (rw (← k) (sym g ∙ not-true m h))); next = met-noted }
 
         -- an equal number marked it: the names were compared
-        pub tells-compared : {y : Bool} → y ≡ apart-after ws ss r → Tells ws ss ks (set ns r x) ms r y
+        pub tells-compared : {y : Bool} → y ≡ apart-after ws ss r → TellsApart ws ss ks (set ns r x) ms r y
         tells-compared e = record { answer = e; next = met-noted }
 
 -- how far the numbers reach that are looked at
@@ -152,12 +152,12 @@ left-all ws ss ks ns ms r k l m e =
     }
 
 module _ (ws ss ks : List ℕ) {ns : List ℕ} {ms : List Bool} (r : ℕ) (left : Left ws ss ks ns ms r) where
-  pub left-next : {ns′ : List ℕ} {ms′ : List Bool} {x : Bool} → 1 ≤ r → Tells ws ss ks ns′ ms′ r x → not x ≡ false → Left ws ss ks ns′ ms′ (r - 1)
+  pub left-next : {ns′ : List ℕ} {ms′ : List Bool} {x : Bool} → 1 ≤ r → TellsApart ws ss ks ns′ ms′ r x → not x ≡ false → Left ws ss ks ns′ ms′ (r - 1)
   left-next h t n =
       let top = left .high in
       record { noted = t .next; high = omega arith; whole = down-next (apart-after ws ss) r (left .whole) h (t .answer) n }
 
-  pub left-stop : {ns′ : List ℕ} {ms′ : List Bool} {x : Bool} → 1 ≤ r → Tells ws ss ks ns′ ms′ r x → not x ≡ true → false ≡ names-differ ws ss
+  pub left-stop : {ns′ : List ℕ} {ms′ : List Bool} {x : Bool} → 1 ≤ r → TellsApart ws ss ks ns′ ms′ r x → not x ≡ true → false ≡ names-differ ws ss
   left-stop h t n = down-stop (apart-after ws ss) r (left .whole) h (t .answer) n
 
   pub left-end : r < 1 → true ≡ names-differ ws ss

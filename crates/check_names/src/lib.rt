@@ -18,18 +18,18 @@ ghost use Rattle.tables.specs.State.{«name-width»};
 ghost use Rattle.tables.specs.Layout.{«slot-width», «resources-in»};
 ghost use Rattle.table_names.specs.Names.{apart, «apart-after», «names-differ»};
 ghost use Rattle.table_names.specs.Contracts.{Named, Tidy};
-ghost use Rattle.check_names.specs.Numbers.{«name-words», weighed, number, Noted, Tells};
+ghost use Rattle.check_names.specs.Numbers.{«name-words», weighed, «name-number», Noted, TellsApart};
 
-// Up to so many resources, names are just compared: no array is worth filling.
+// With at most so many resources the names themselves are compared: filling an array is not worth it.
 const FEW: u32 = 8;
 
-// The number of each name, at its resource's number.
+// Room for the number of each name, at the place of its resource's number.
 const NUMBERS: usize = MOST_RESOURCES + 1;
 
 const NAME_WORDS: usize = NAME_BYTES / WORD_BYTES;
 
-// What the words of a name count for in its number: any do, and these tell names that are much alike. They are odd, so
-// that names which differ in one word only have different numbers.
+// The weights of a name's words in its number. Any weights would do; these tell names apart that are much alike. They
+// are odd, so that names that differ in one word only have different numbers.
 const WEIGHTS: [u16; NAME_WORDS] = [
     18183,
     32537,
@@ -58,7 +58,7 @@ const PLACES: usize = 4096;
 
 const PLACE_STEP: usize = NUMBER_RANGE as usize / PLACES;
 
-// Resources r and s are not two of one name.
+// Resources r and s do not share a name.
 fn apart(words: &[u32], slots: &[u8], r: u32, s: u32) -> bool
     requires { ⌜ Named (now words) (now slots) ⌝ }
     requires { ⌜ (1 ≤ r) × (r ≤ resources-in (now words)) ⌝ }
@@ -140,14 +140,14 @@ fn weigh(bytes: &[u8], weights: &[u16]) -> u64
 fn number(slots: &[u8], weights: &[u16], r: u32) -> u32
     requires { ⌜ length (now weights) ≡ name-words ⌝ }
     requires { ⌜ (1 ≤ r) × (slot-width * r ≤ length (now slots)) ⌝ }
-    ensures { λ x. ⌜ x ≡ number (now (weights .entry)) (now (slots .entry)) r ⌝ }
+    ensures { λ x. ⌜ x ≡ name-number (now (weights .entry)) (now (slots .entry)) r ⌝ }
 {
     let start = slot_start(r);
     let end = start + NAME_BYTES;
     (weigh(&slots[start..end], weights) % NUMBER_RANGE) as u32
 }
 
-// x is one of these numbers. Each is looked at, so that many can be at once.
+// x is one of these numbers. All of them are looked at, so that the processor can compare many at once.
 fn among(a: &[u32], x: u32) -> bool
     ensures { λ y. ⌜ y ≡ any (eqb x) (now (a .entry)) ⌝ }
 {
@@ -160,8 +160,9 @@ fn among(a: &[u32], x: u32) -> bool
     met
 }
 
-// No resource after r has its name. The numbers of the names after r are noted and their places marked; then so is its own.
-// A place not marked yet: no name after r has its number. Names are compared only if one of them has.
+// No resource after r has its name. The numbers of the names after r have been noted and their places marked; the
+// number of r's own name is added to them. If its place was not marked yet, no name after r has its number. Names are
+// compared only if one of them has it.
 fn new_name(
     words: &[u32],
     slots: &[u8],
@@ -173,7 +174,7 @@ fn new_name(
     requires { ⌜ Tidy (now words) (now slots) ⌝ }
     requires { ⌜ (1 ≤ r) × (r ≤ resources-in (now words)) ⌝ }
     requires { ⌜ Noted (now words) (now slots) (now weights) (now numbers) (now met) r ⌝ }
-    ensures { λ x. ⌜ Tells (now (words .entry)) (now (slots .entry)) (now (weights .entry)) (now (numbers .exit)) (now (met .exit)) r x ⌝ }
+    ensures { λ x. ⌜ TellsApart (now (words .entry)) (now (slots .entry)) (now (weights .entry)) (now (numbers .exit)) (now (met .exit)) r x ⌝ }
 {
     if name_length(words, r) == 0 {
         return true;
@@ -194,7 +195,8 @@ fn new_name(
     compare_after(words, slots, r)
 }
 
-// From the last name down, so that the numbers met before a name's own are those of the names after it.
+// The names are taken from the last one down, so that the numbers noted before a name's own are those of the names
+// after it.
 fn by_number(words: &[u32], slots: &[u8]) -> bool
     requires { ⌜ Tidy (now words) (now slots) ⌝ }
     ensures { λ x. ⌜ x ≡ names-differ (now (words .entry)) (now (slots .entry)) ⌝ }

@@ -1,4 +1,4 @@
--- The walk along a grant chain, which counts the unread completions too.
+-- The walk along a grant chain, which counts the locks that belong on the notice chain too.
 use mathlib.Core.Path.{_≡_, refl, sym, _∙_}
 use mathlib.Core.List.{List, _∷_}
 use Prim.Native.Nat.{ℕ, zero, suc, _+_, _-_, _≤_, _<_}
@@ -6,12 +6,12 @@ use native.Mathlib.Nat.{sub-zero}
 use native.Mathlib.Omega.{arith}
 use Rattle.modes.specs.Sets.{fits-set}
 use Rattle.tables.specs.Lists.{bit, keep}
-use Rattle.tables.specs.State.{told}
+use Rattle.tables.specs.State.{noticed}
 use Rattle.tables.specs.Layout.{of-resource, of-lock, locks-in, word-in, follow, read-lock}
 use Rattle.check_laws.specs.Check.{grant-walk, queue-from, noticed-at}
 use Rattle.check_laws.proofs.ChainSteps.{follow-zero, follow-step}
 use Rattle.check_resources.proofs.RecordPass.{count-one}
-use Rattle.check_queues.specs.QueueWalks.{Granted, modes-left, noticed-left, over, grants-over, Walked, Granting}
+use Rattle.check_queues.specs.QueueWalks.{GrantCount, modes-left, noticed-left, over, grants-over, Walked, Granting}
 use Rattle.check_queues.proofs.HolderWalks.{modes-end}
 
 -- UNREAD completions: none is counted yet; a lock adds its bit; the chain ends
@@ -24,11 +24,11 @@ follow-at g n m zero e h = absurd (e refl)
 follow-at g n m (suc k) e h = let z : n - m - 1 ≡ n - (m + 1) = omega arith in rw (follow-step g (n - m) k (omega arith), z)
 
 module _ (ws : List ℕ) (n m k c : ℕ) {whole : ℕ} (i : whole ≡ noticed-left ws n m k c) where
-  pub noticed-on : {b j : ℕ} → (k ≡ 0 → ⊥) → m < n → b ≡ bit (told (read-lock ws k)) → j ≡ word-in ws (of-lock k 0) → whole ≡ noticed-left ws n (m + 1) j (c + b)
+  pub noticed-on : {b j : ℕ} → (k ≡ 0 → ⊥) → m < n → b ≡ bit (noticed (read-lock ws k)) → j ≡ word-in ws (of-lock k 0) → whole ≡ noticed-left ws n (m + 1) j (c + b)
   unfolding noticed-left keep
   noticed-on {b} {j} e h q t =
       i ∙ rw (follow-at (λ k. word-in ws (of-lock k 0)) n m k e h, ← t, q)
-      (count-one (told (read-lock ws k)) k (keep (λ k. told (read-lock ws k)) (follow (λ k. word-in ws (of-lock k 0)) (n - (m + 1)) j)) c)
+      (count-one (noticed (read-lock ws k)) k (keep (λ k. noticed (read-lock ws k)) (follow (λ k. word-in ws (of-lock k 0)) (n - (m + 1)) j)) c)
 
   noticed-end : k ≡ 0 → c ≡ whole
   unfolding noticed-left keep
@@ -36,7 +36,7 @@ module _ (ws : List ℕ) (n m k c : ℕ) {whole : ℕ} (i : whole ≡ noticed-le
 
 -- THE WALK says that something is wrong, or ends
 module _ (ws : List ℕ) (r : ℕ) where
-  pub granting-over : (set : ℕ) {x : Granted} → x ≡ grants-over (locks-in ws) set → Walked (locks-in ws) (grant-walk ws r) (over (locks-in ws) set) → Granting ws r x
+  pub granting-over : (set : ℕ) {x : GrantCount} → x ≡ grants-over (locks-in ws) set → Walked (locks-in ws) (grant-walk ws r) (over (locks-in ws) set) → Granting ws r x
   unfolding grants-over over
   granting-over set e w = rw e (record { walked = w; noticed = λ h. absurd (omega arith); few = omega arith })
 

@@ -13,7 +13,7 @@ use Rattle.tables.specs.declared.Lock.{Lock}
 use Rattle.tables.specs.Layout.{of-resource, of-lock, locks-in, word-in, follow, read-lock}
 use Rattle.tables.specs.Sound.{modes-right, client-right}
 use Rattle.tables.proofs.Cases.{by-cases, and-left, and-right, parts}
-use Rattle.check_laws.specs.declared.Held.{Held}
+use Rattle.check_laws.specs.declared.HolderCount.{HolderCount}
 use Rattle.check_laws.specs.Check.{on-named, fields-fine, links-fine, lock-fine, stands, home-on, held-steps, tail-steps, grant-walk}
 use Rattle.check_queues.specs.QueueWalks.{mode-steps, modes-left, over, fits-beside, Walked}
 
@@ -76,9 +76,9 @@ unfolding read-lock
 held-read ws k e = e
 
 -- STEPS along holders: the chain ends; it is too long; it leaves the table; it meets another lock; a mode that doesn't fit; it goes on
-pub walked-over : {n set : ℕ} {whole x : Held} → x ≡ over n set → over n set ≡ whole → set < 64 → Walked n whole x
+pub walked-over : {n set : ℕ} {whole x : HolderCount} → x ≡ over n set → over n set ≡ whole → set < 64 → Walked n whole x
 unfolding over
-walked-over e w h = record { same = e ∙ w; short = rw e (omega arith); small = rw e h }
+walked-over e w h = record { is = e ∙ w; short = rw e (omega arith); small = rw e h }
 
 module _ (ws : List ℕ) (s r : ℕ) (fit : ℕ → ℕ → Bool) where
   modes-zero : (n set : ℕ) → mode-steps ws s r fit n 0 set ≡ record { met = 0; modes = set }
@@ -91,7 +91,7 @@ module _ (ws : List ℕ) (s r : ℕ) (fit : ℕ → ℕ → Bool) where
   modes-none zero set e = absurd (e refl)
   modes-none (suc k) set e = refl
 
-  next-step : ℕ → ℕ → ℕ → Held
+  next-step : ℕ → ℕ → ℕ → HolderCount
   next-step n k set =
       let m = read-lock ws k .held in
       let rest = mode-steps ws s r fit n (word-in ws (of-lock k 0)) (with-mode set m) in
@@ -105,37 +105,37 @@ module _ (ws : List ℕ) (s r : ℕ) (fit : ℕ → ℕ → Bool) where
   modes-at : (n m k set : ℕ) → (k ≡ 0 → ⊥) → m < n → mode-steps ws s r fit (n - m) k set ≡ next-step (n - (m + 1)) k set
   modes-at n m k set e h = let z : n - m ≡ suc (n - (m + 1)) = omega arith in rw (z, modes-suc (n - (m + 1)) k set e)
 
-  pub modes-end : (n : ℕ) {m k set : ℕ} {whole : Held} → whole ≡ modes-left ws s r fit n m k set → k ≡ 0 → m ≤ n → set < 64 → Walked n whole (record { met = m; modes = set })
+  pub modes-end : (n : ℕ) {m k set : ℕ} {whole : HolderCount} → whole ≡ modes-left ws s r fit n m k set → k ≡ 0 → m ≤ n → set < 64 → Walked n whole (record { met = m; modes = set })
   unfolding modes-left
   modes-end n {m} {k} {set} i e l h =
       let z : m + 0 ≡ m = omega arith in
-      record { same = sym (i ∙ rw (e, modes-zero (n - m) set, z)); short = omega arith; small = h }
+      record { is = sym (i ∙ rw (e, modes-zero (n - m) set, z)); short = omega arith; small = h }
 
-  module _ {n m k set : ℕ} {whole : Held} (i : whole ≡ modes-left ws s r fit n m k set) (e : k ≡ 0 → ⊥) (c : set < 64) where
-    pub modes-long : {x : Held} → m ≤ n → n ≤ m → x ≡ over n set → Walked n whole x
+  module _ {n m k set : ℕ} {whole : HolderCount} (i : whole ≡ modes-left ws s r fit n m k set) (e : k ≡ 0 → ⊥) (c : set < 64) where
+    pub modes-long : {x : HolderCount} → m ≤ n → n ≤ m → x ≡ over n set → Walked n whole x
     unfolding modes-left over
     modes-long l h o =
         let z : n - m ≡ 0 = omega arith in
         let w : m + 1 ≡ n + 1 = omega arith in
         walked-over o (sym (i ∙ rw (z, modes-none k set e, w))) c
 
-    modes-fail : {x : Held} → m < n → (home-on ws s r k && fit set (read-lock ws k .held)) ≡ false → x ≡ over n set → Walked n whole x
+    modes-fail : {x : HolderCount} → m < n → (home-on ws s r k && fit set (read-lock ws k .held)) ≡ false → x ≡ over n set → Walked n whole x
     unfolding modes-left next-step over
     modes-fail h f o =
         let w : m + suc (suc (n - (m + 1))) ≡ n + 1 = omega arith in
         walked-over o (sym (i ∙ rw (modes-at n m k set e h, f, w))) c
 
-    pub modes-off : {x : Held} → m < n → locks-in ws < k → x ≡ over n set → Walked n whole x
+    pub modes-off : {x : HolderCount} → m < n → locks-in ws < k → x ≡ over n set → Walked n whole x
     unfolding home-on
     modes-off h b = modes-fail h (rw (lt-leb k (locks-in ws) b))
 
     module _ {a : Bool} (h : m < n) (b : k ≤ locks-in ws) (t : a ≡ stands ws s r k) where
-      pub modes-other : {x : Held} → not a ≡ true → x ≡ over n set → Walked n whole x
+      pub modes-other : {x : HolderCount} → not a ≡ true → x ≡ over n set → Walked n whole x
       unfolding home-on
       modes-other f = modes-fail h (rw (le-leb k (locks-in ws) b, ← t, not-true a f))
 
       module _ {l : ℕ} {d : Bool} (f : not a ≡ false) (g : l ≡ word-in ws (of-lock k 6)) (u : d ≡ fit set l) where
-        pub modes-clash : {x : Held} → not d ≡ true → x ≡ over n set → Walked n whole x
+        pub modes-clash : {x : HolderCount} → not d ≡ true → x ≡ over n set → Walked n whole x
         unfolding home-on
         modes-clash v = modes-fail h (rw (le-leb k (locks-in ws) b, ← t, not-false a f, ← held-read ws k g, ← u, not-true d v))
 

@@ -11,39 +11,39 @@ use borrow.Author.Tests.{not-true, not-false, le-leb, lt-leb, eq-eqb, ne-eqb}
 use Rattle.modes.specs.Sets.{fits-set}
 use Rattle.tables.specs.Layout.{of-resource, of-lock, locks-in, word-in, follow, read-lock}
 use Rattle.tables.proofs.Cases.{by-cases, by-equal}
-use Rattle.check_laws.specs.declared.Held.{Held}
+use Rattle.check_laws.specs.declared.HolderCount.{HolderCount}
 use Rattle.check_laws.specs.Check.{steps, stands, home-on, home-steps, tail-steps, convert-from, convert-walk, heads-wait, wait-part, convert-part, grant-walk, resource-walk, queue-from, blocked-at}
 use Rattle.check_laws.proofs.ChainSteps.{steps-passed, follow-zero, follow-step}
 use Rattle.check_laws.proofs.Heads.{home-low, home-fine}
-use Rattle.check_queues.specs.QueueWalks.{Granted, Census, over, queues-over, Walked, Granting, first-on, Heads, Counted}
+use Rattle.check_queues.specs.QueueWalks.{GrantCount, Census, over, queues-over, Walked, Granting, head-on, Heads, Counted}
 use Rattle.check_queues.proofs.HolderWalks.{walked-over, fine-modes, held-read, tail-length}
 
 -- CONVERTS. The head leaves the table; is another lock; its mode doesn't fit; the rest is walked
 module _ (ws : List ℕ) (r c set : ℕ) (s : set < 64) where
-  convert-fail : {x : Held} → (home-on ws 2 r c && fits-set set (read-lock ws c .held)) ≡ false → x ≡ over (locks-in ws) set → Walked (locks-in ws) (convert-from ws r c set) x
+  convert-fail : {x : HolderCount} → (home-on ws 2 r c && fits-set set (read-lock ws c .held)) ≡ false → x ≡ over (locks-in ws) set → Walked (locks-in ws) (convert-from ws r c set) x
   unfolding convert-from over
   convert-fail f o = walked-over o (rw (f, add-one (locks-in ws))) s
 
-  pub convert-off : {x : Held} → locks-in ws < c → x ≡ over (locks-in ws) set → Walked (locks-in ws) (convert-from ws r c set) x
+  pub convert-off : {x : HolderCount} → locks-in ws < c → x ≡ over (locks-in ws) set → Walked (locks-in ws) (convert-from ws r c set) x
   unfolding home-on
   convert-off h = convert-fail (rw (lt-leb c (locks-in ws) h))
 
   module _ {a : Bool} (h : c ≤ locks-in ws) (t : a ≡ stands ws 2 r c) where
-    pub convert-other : {x : Held} → not a ≡ true → x ≡ over (locks-in ws) set → Walked (locks-in ws) (convert-from ws r c set) x
+    pub convert-other : {x : HolderCount} → not a ≡ true → x ≡ over (locks-in ws) set → Walked (locks-in ws) (convert-from ws r c set) x
     unfolding home-on
     convert-other f = convert-fail (rw (le-leb c (locks-in ws) h, ← t, not-true a f))
 
     module _ {l : ℕ} {b : Bool} (f : not a ≡ false) (e : l ≡ word-in ws (of-lock c 6)) (u : b ≡ fits-set set l) where
-      pub convert-clash : {x : Held} → not b ≡ true → x ≡ over (locks-in ws) set → Walked (locks-in ws) (convert-from ws r c set) x
+      pub convert-clash : {x : HolderCount} → not b ≡ true → x ≡ over (locks-in ws) set → Walked (locks-in ws) (convert-from ws r c set) x
       unfolding home-on
       convert-clash v = convert-fail (rw (le-leb c (locks-in ws) h, ← t, not-false a f, ← held-read ws c e, ← u, not-true b v))
 
-      pub convert-on : {k : ℕ} {rest : Held} → not b ≡ false → k ≡ word-in ws (of-lock c 0) → 1 ≤ locks-in ws → Walked (locks-in ws - 1) (tail-steps ws r l (locks-in ws - 1) k set) rest → Walked (locks-in ws) (convert-from ws r c set) (record { met = rest .met + 1; modes = rest .modes })
+      pub convert-on : {k : ℕ} {rest : HolderCount} → not b ≡ false → k ≡ word-in ws (of-lock c 0) → 1 ≤ locks-in ws → Walked (locks-in ws - 1) (tail-steps ws r l (locks-in ws - 1) k set) rest → Walked (locks-in ws) (convert-from ws r c set) (record { met = rest .met + 1; modes = rest .modes })
       unfolding convert-from home-on
       convert-on {k} {rest} v g o w =
-          let same = w .same in
+          let same = w .is in
           record {
-            same = rw (le-leb c (locks-in ws) h, ← t, not-false a f, ← held-read ws c e, ← u, not-false b v, ← g, ← same, add-one (rest .met));
+            is = rw (le-leb c (locks-in ws) h, ← t, not-false a f, ← held-read ws c e, ← u, not-false b v, ← g, ← same, add-one (rest .met));
             short = let z = w .short in omega arith;
             small = w .small;
           }
@@ -51,16 +51,16 @@ module _ (ws : List ℕ) (r c set : ℕ) (s : set < 64) where
 module _ (ws : List ℕ) (r set : ℕ) {c : ℕ} (e : c ≡ word-in ws (of-resource r 2)) where
   pub convert-none : set < 64 → c ≡ 0 → Walked (locks-in ws) (convert-walk ws r set) (record { met = 0; modes = set })
   unfolding convert-walk
-  convert-none s z = record { same = rw (← e, eq-eqb c 0 z); short = omega arith; small = s }
+  convert-none s z = record { is = rw (← e, eq-eqb c 0 z); short = omega arith; small = s }
 
-  pub convert-some : {x : Held} → (c ≡ 0 → ⊥) → Walked (locks-in ws) (convert-from ws r c set) x → Walked (locks-in ws) (convert-walk ws r set) x
+  pub convert-some : {x : HolderCount} → (c ≡ 0 → ⊥) → Walked (locks-in ws) (convert-from ws r c set) x → Walked (locks-in ws) (convert-walk ws r set) x
   unfolding convert-walk
-  convert-some z w = record { same = rw (← e, ne-eqb c 0 z) (w .same); short = w .short; small = w .small }
+  convert-some z w = record { is = rw (← e, ne-eqb c 0 z) (w .is); short = w .short; small = w .small }
 
 -- where nothing is wrong with it, the head of a chain stands there, and the walk met the locks of the chain
 module _ (ws : List ℕ) (r set : ℕ) where
-  convert-first : convert-walk ws r set .met ≤ locks-in ws → first-on ws 2 r (word-in ws (of-resource r 2)) ≡ true
-  unfolding convert-walk convert-from first-on
+  convert-first : convert-walk ws r set .met ≤ locks-in ws → head-on ws 2 r (word-in ws (of-resource r 2)) ≡ true
+  unfolding convert-walk convert-from head-on
   convert-first h =
       let c = word-in ws (of-resource r 2) in
       by-equal c 0
@@ -85,8 +85,8 @@ module _ (ws : List ℕ) (r set : ℕ) where
           (ap suc (tail-length ws r m (locks-in ws - 1) (word-in ws (of-lock (suc k) 0)) set (omega (arith, rw (ne-eqb (suc k) 0 (omega arith), p) at h)))))
           (λ p. absurd (omega (arith, rw (ne-eqb (suc k) 0 (omega arith), p) at h)))
 
-home-first : (ws : List ℕ) (s r n k : ℕ) → steps (λ k. word-in ws (of-lock k 0)) (home-on ws s r) n k ≤ n → first-on ws s r k ≡ true
-unfolding steps first-on
+home-first : (ws : List ℕ) (s r n k : ℕ) → steps (λ k. word-in ws (of-lock k 0)) (home-on ws s r) n k ≤ n → head-on ws s r k ≡ true
+unfolding steps head-on
 home-first ws s r n zero h = refl
 home-first ws s r zero (suc k) h = absurd (omega arith)
 home-first ws s r (suc n) (suc k) h =
@@ -98,19 +98,19 @@ wait-length : (ws : List ℕ) (r : ℕ) → home-steps ws 3 r (word-in ws (of-re
 unfolding home-steps queue-from
 wait-length ws r h = steps-passed (λ k. word-in ws (of-lock k 0)) (λ k. word-in ws (of-lock k 0)) (λ k. refl) (home-on ws 3 r) (locks-in ws) (word-in ws (of-resource r 3)) h .1
 
-pub heads : (ws : List ℕ) (r set : ℕ) {c : Held} {w : ℕ} → Walked (locks-in ws) (convert-walk ws r set) c → c .met ≤ locks-in ws → w ≡ home-steps ws 3 r (word-in ws (of-resource r 3)) → w ≤ locks-in ws → Heads ws r
+pub heads : (ws : List ℕ) (r set : ℕ) {c : HolderCount} {w : ℕ} → Walked (locks-in ws) (convert-walk ws r set) c → c .met ≤ locks-in ws → w ≡ home-steps ws 3 r (word-in ws (of-resource r 3)) → w ≤ locks-in ws → Heads ws r
 unfolding home-steps
 heads ws r set {c} {w} v h g l =
-    let e = v .same in
+    let e = v .is in
     record {
       convert = convert-first ws r set (rw (← e) h);
       wait = home-first ws 3 r (locks-in ws) (word-in ws (of-resource r 3)) (rw (← g) l);
     }
 
 -- HEADS that wait: each is a lock that asks for a mode
-module _ (ws : List ℕ) (s r k : ℕ) (h : first-on ws s r k ≡ true) (z : k ≡ 0 → ⊥) where
+module _ (ws : List ℕ) (s r k : ℕ) (h : head-on ws s r k ≡ true) (z : k ≡ 0 → ⊥) where
   first-stands : home-on ws s r k ≡ true
-  unfolding first-on
+  unfolding head-on
   first-stands = rw (ne-eqb k 0 z) at h
 
   first-asks : {a : ℕ} → a ≡ word-in ws (of-lock k 7) → a < 6
@@ -150,17 +150,17 @@ unfolding queues-over
 counted-over ws r e w =
     rw e (record { met = w; short = omega arith; blocked = λ h. absurd (omega arith); noticed = λ h. absurd (omega arith); few = (omega arith, omega arith) })
 
-module _ (ws : List ℕ) (r : ℕ) {g : Granted} (p : Granting ws r g) where
+module _ (ws : List ℕ) (r : ℕ) {g : GrantCount} (p : Granting ws r g) where
   eg : record { met = g .met; modes = g .modes } ≡ grant-walk ws r
-  eg = p .walked .same
+  eg = p .walked .is
 
   pub over-grant : {x : Census} → locks-in ws < g .met → x ≡ queues-over (locks-in ws) → Counted ws r x
   unfolding resource-walk
   over-grant h o = counted-over ws r o (rw (← eg, lt-leb (g .met) (locks-in ws) h, add-one (locks-in ws)))
 
-  module _ {c : Held} (lg : g .met ≤ locks-in ws) (q : Walked (locks-in ws) (convert-walk ws r (g .modes)) c) where
+  module _ {c : HolderCount} (lg : g .met ≤ locks-in ws) (q : Walked (locks-in ws) (convert-walk ws r (g .modes)) c) where
     ec : c ≡ convert-walk ws r (g .modes)
-    ec = q .same
+    ec = q .is
 
     pub over-convert : {x : Census} → locks-in ws < c .met → x ≡ queues-over (locks-in ws) → Counted ws r x
     unfolding resource-walk convert-part

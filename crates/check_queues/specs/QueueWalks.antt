@@ -7,15 +7,15 @@ use lib.ListN.{length}
 use lib.Dec.{eqb}
 use Rattle.modes.specs.Sets.{fits-set, with-mode}
 use Rattle.tables.specs.Lists.{keep}
-use Rattle.tables.specs.State.{told}
+use Rattle.tables.specs.State.{noticed, state-converting, state-waiting}
 use Rattle.tables.specs.Layout.{of-resource, of-lock, locks-in, word-in, follow, read-lock}
-use Rattle.check_laws.specs.declared.Held.{Held}
+use Rattle.check_laws.specs.declared.HolderCount.{HolderCount}
 use Rattle.check_laws.specs.Check.{home-on, grant-walk, resource-walk, blocked-at, noticed-at}
-pub use Rattle.check_queues.specs.declared.Granted.{Granted}
+pub use Rattle.check_queues.specs.declared.GrantCount.{GrantCount}
 pub use Rattle.check_queues.specs.declared.Census.{Census}
 
 -- a walk along holders: each stands on the chain, and its mode fits the set of those before it
-unfoldable pub mode-steps : List ℕ → ℕ → ℕ → (ℕ → ℕ → Bool) → ℕ → ℕ → ℕ → Held
+unfoldable pub mode-steps : List ℕ → ℕ → ℕ → (ℕ → ℕ → Bool) → ℕ → ℕ → ℕ → HolderCount
 mode-steps ws s r fit zero zero set = record { met = 0; modes = set }
 mode-steps ws s r fit zero (suc k) set = record { met = 1; modes = set }
 mode-steps ws s r fit (suc n) zero set = record { met = 0; modes = set }
@@ -25,20 +25,20 @@ mode-steps ws s r fit (suc n) (suc k) set =
     cond (home-on ws s r (suc k) && fit set m) (record { met = suc (rest .met); modes = rest .modes }) (record { met = suc (suc n); modes = set })
 
 -- what is met, and what is left from k on with the set so far
-unfoldable pub modes-left : List ℕ → ℕ → ℕ → (ℕ → ℕ → Bool) → ℕ → ℕ → ℕ → ℕ → Held
+unfoldable pub modes-left : List ℕ → ℕ → ℕ → (ℕ → ℕ → Bool) → ℕ → ℕ → ℕ → ℕ → HolderCount
 modes-left ws s r fit n met k set =
     let rest = mode-steps ws s r fit (n - met) k set in
     record { met = met + rest .met; modes = rest .modes }
 
--- the unread completions so far, and those of the locks that are left from k on
+-- how many locks belong on the notice chain: those before k, and those that are left from k on
 unfoldable pub noticed-left : List ℕ → ℕ → ℕ → ℕ → ℕ → ℕ
-noticed-left ws n met k noticed = noticed + length (keep (λ k. told (read-lock ws k)) (follow (λ k. word-in ws (of-lock k 0)) (n - met) k))
+noticed-left ws n met k before = before + length (keep (λ k. noticed (read-lock ws k)) (follow (λ k. word-in ws (of-lock k 0)) (n - met) k))
 
--- what is said of a chain on which something is wrong, of a grant chain, and of a resource
-unfoldable pub over : ℕ → ℕ → Held
+-- the answer if something is wrong: with a chain, with a grant chain, with a resource
+unfoldable pub over : ℕ → ℕ → HolderCount
 over n set = record { met = n + 1; modes = set }
 
-unfoldable pub grants-over : ℕ → ℕ → Granted
+unfoldable pub grants-over : ℕ → ℕ → GrantCount
 grants-over n set = record { met = n + 1; modes = set; noticed = 0 }
 
 unfoldable pub queues-over : ℕ → Census
@@ -48,31 +48,31 @@ queues-over n = record { met = n + 1; blocked = 0; noticed = 0 }
 unfoldable pub fits-beside : ℕ → ℕ → ℕ → Bool
 fits-beside h set m = fits-set (with-mode set h) m
 
--- a walk along at most n holders says what it is to say, a small number and a set
-pub record Walked (n : ℕ) (whole x : Held) : Type 0 where
-  pub same : x ≡ whole
+-- a walk along at most n holders gives what the definition says, and that is a small number and a set
+pub record Walked (n : ℕ) (whole x : HolderCount) : Type 0 where
+  pub is : x ≡ whole
   pub short : x .met ≤ n + 1
   pub small : x .modes < 64
 
--- so does the walk along a grant chain; where nothing is wrong, it counts the unread completions too
-abbrev pub holders-of : Granted → Held
+-- so does the walk along a grant chain; where nothing is wrong, it counts those that belong on the notice chain too
+abbrev pub holders-of : GrantCount → HolderCount
 holders-of x = record { met = x .met; modes = x .modes }
 
-pub record Granting (ws : List ℕ) (r : ℕ) (x : Granted) : Type 0 where
+pub record Granting (ws : List ℕ) (r : ℕ) (x : GrantCount) : Type 0 where
   pub walked : Walked (locks-in ws) (grant-walk ws r) (holders-of x)
   pub noticed : x .met ≤ locks-in ws → x .noticed ≡ noticed-at ws r
   pub few : x .noticed ≤ locks-in ws
 
--- the first of a resource's convert and wait chain stand there, if there are any
-unfoldable pub first-on : List ℕ → ℕ → ℕ → ℕ → Bool
-first-on ws s r k = eqb k 0 || home-on ws s r k
+-- the first lock of a resource's convert chain, and of its wait chain, belongs there, if there is one
+unfoldable pub head-on : List ℕ → ℕ → ℕ → ℕ → Bool
+head-on ws s r k = eqb k 0 || home-on ws s r k
 
 pub record Heads (ws : List ℕ) (r : ℕ) : Type 0 where
-  pub convert : first-on ws 2 r (word-in ws (of-resource r 2)) ≡ true
-  pub wait : first-on ws 3 r (word-in ws (of-resource r 3)) ≡ true
+  pub convert : head-on ws state-converting r (word-in ws (of-resource r 2)) ≡ true
+  pub wait : head-on ws state-waiting r (word-in ws (of-resource r 3)) ≡ true
 
--- what is found of a resource: the locks on its queues, in a small number; where nothing is wrong, also how many are blocked, and how many have an
--- unread completion
+-- what is found of a resource: how many locks are on its queues, a small number; and if nothing is wrong, how many are blocked and how many belong on
+-- the notice chain
 pub record Counted (ws : List ℕ) (r : ℕ) (x : Census) : Type 0 where
   pub met : x .met ≡ resource-walk ws r
   pub short : x .met ≤ 3 * locks-in ws + 1

@@ -1,5 +1,5 @@
-// One resource's queues: each lock on them is fine, the held modes go together, and no head can be granted.
-use check_laws::Held;
+// One resource's queues: each lock on them is fine, the held modes are compatible, and no head can be granted.
+use check_laws::HolderCount;
 use check_locks::stands_converting;
 use check_locks::stands_granted;
 use check_locks::stands_waiting;
@@ -19,7 +19,7 @@ ghost use mathlib.Core.Path.{_≡_};
 ghost use mathlib.Core.Bool.{true};
 ghost use Prim.Native.Nat.{_+_, _-_, _<_, _≤_};
 ghost use Rattle.tables.specs.Lists.{bit};
-ghost use Rattle.tables.specs.State.{told};
+ghost use Rattle.tables.specs.State.{noticed, «state-waiting»};
 ghost use Rattle.tables.specs.Layout.{«of-resource», «word-in», «resources-in», «locks-in», «read-lock»};
 ghost use Rattle.table_fields.specs.Sizes.{Sized};
 ghost use Rattle.table_names.specs.Names.{named};
@@ -28,8 +28,8 @@ ghost use Rattle.check_resources.specs.Passes.{Fine};
 ghost use Rattle.check_queues.specs.QueueWalks.{over, «grants-over», «queues-over», «fits-beside», Walked, Granting, Heads, Counted};
 
 // What the walk along the grant chain finds: how many locks, or one more than there are; the set of their modes; how
-// many have an unread completion.
-pub struct Granted {
+// many belong on the notice chain.
+pub struct GrantCount {
     pub met: u32,
     pub modes: u32,
     pub noticed: u32,
@@ -43,22 +43,22 @@ pub struct Census {
     pub noticed: u32,
 }
 
-// What a walk says of a chain on which something is wrong: one more than the n that there may be.
-fn over(n: u32, set: u32) -> Held
+// What a walk answers if something is wrong with a chain: one lock more than the n that there may be.
+fn over(n: u32, set: u32) -> HolderCount
     requires { ⌜ n ≤ 1024 ⌝ }
     ensures { λ x. ⌜ x ≡ over n set ⌝ }
 {
-    Held {
+    HolderCount {
         met: n + 1,
         modes: set,
     }
 }
 
-fn grants_over(n: u32, set: u32) -> Granted
+fn grants_over(n: u32, set: u32) -> GrantCount
     requires { ⌜ n ≤ 1024 ⌝ }
     ensures { λ x. ⌜ x ≡ grants-over n set ⌝ }
 {
-    Granted {
+    GrantCount {
         met: n + 1,
         modes: set,
         noticed: 0,
@@ -76,17 +76,17 @@ fn queues_over(n: u32) -> Census
     }
 }
 
-// 1 if lock k has an unread completion.
-fn unread(words: &[u32], k: u32) -> u32
+// 1 if lock k belongs on the notice chain.
+fn notice_bit(words: &[u32], k: u32) -> u32
     requires { ⌜ Sized (now words) ⌝ }
     requires { ⌜ (1 ≤ k) × (k ≤ locks-in (now words)) ⌝ }
-    ensures { λ x. ⌜ (x ≡ bit (told (read-lock (now (words .entry)) k))) × (x ≤ 1) ⌝ }
+    ensures { λ x. ⌜ (x ≡ bit (noticed (read-lock (now (words .entry)) k))) × (x ≤ 1) ⌝ }
 {
     bit(lock_word(words, k, LOCK_COMPLETION) != COMPLETION_NONE)
 }
 
-// The holders on a resource's grant chain: each mode is to fit those before it.
-fn grant_walk(words: &[u32], r: u32) -> Granted
+// Walks along a resource's grant chain: each held mode must fit those before it.
+fn grant_walk(words: &[u32], r: u32) -> GrantCount
     requires { ⌜ Fine (now words) ⌝ }
     requires { ⌜ (1 ≤ r) × (r ≤ resources-in (now words)) ⌝ }
     requires { ⌜ named (now words) r ≡ true ⌝ }
@@ -108,15 +108,15 @@ fn grant_walk(words: &[u32], r: u32) -> Granted
             return grants_over(n, set);
         }
         let held = lock_word(words, k, LOCK_HELD);
-        if !modes::fits(set, held) {
+        if !modes::fits_by_masks(set, held) {
             return grants_over(n, set);
         }
         set = modes::with_mode(set, held);
-        noticed += unread(words, k);
+        noticed += notice_bit(words, k);
         k = lock_word(words, k, LOCK_NEXT);
         met += 1;
     }
-    Granted {
+    GrantCount {
         met: met,
         modes: set,
         noticed: noticed,
@@ -130,12 +130,12 @@ fn fits_beside(head: u32, set: u32, mode: u32) -> bool
     requires { ⌜ mode < 6 ⌝ }
     ensures { λ x. ⌜ x ≡ fits-beside head set mode ⌝ }
 {
-    modes::fits(modes::with_mode(set, head), mode)
+    modes::fits_by_masks(modes::with_mode(set, head), mode)
 }
 
-// The locks behind the convert head: each mode is to fit those before it, the granted ones and the head's. The set
-// leaves the head's out.
-fn tail_walk(words: &[u32], r: u32, head: u32, first: u32, granted: u32) -> Held
+// Walks along the locks behind the convert head: each held mode must fit those before it, the granted ones and the
+// head's. The set that is answered leaves the head's mode out.
+fn tail_walk(words: &[u32], r: u32, head: u32, first: u32, granted: u32) -> HolderCount
     requires { ⌜ Fine (now words) ⌝ }
     requires { ⌜ (1 ≤ r) × (r ≤ resources-in (now words)) ⌝ }
     requires { ⌜ named (now words) r ≡ true ⌝ }
@@ -166,14 +166,14 @@ fn tail_walk(words: &[u32], r: u32, head: u32, first: u32, granted: u32) -> Held
         k = lock_word(words, k, LOCK_NEXT);
         met += 1;
     }
-    Held {
+    HolderCount {
         met: met,
         modes: set,
     }
 }
 
-// The convert chain from its head c on: c's held mode is to fit the granted ones.
-fn convert_from(words: &[u32], r: u32, c: u32, granted: u32) -> Held
+// Walks along the convert chain from its head c on: c's held mode must fit the granted ones.
+fn convert_from(words: &[u32], r: u32, c: u32, granted: u32) -> HolderCount
     requires { ⌜ Fine (now words) ⌝ }
     requires { ⌜ (1 ≤ r) × (r ≤ resources-in (now words)) ⌝ }
     requires { ⌜ named (now words) r ≡ true ⌝ }
@@ -189,18 +189,18 @@ fn convert_from(words: &[u32], r: u32, c: u32, granted: u32) -> Held
         return over(n, granted);
     }
     let held = lock_word(words, c, LOCK_HELD);
-    if !modes::fits(granted, held) {
+    if !modes::fits_by_masks(granted, held) {
         return over(n, granted);
     }
     let first = lock_word(words, c, LOCK_NEXT);
     let rest = tail_walk(words, r, held, first, granted);
-    Held {
+    HolderCount {
         met: rest.met + 1,
         modes: rest.modes,
     }
 }
 
-fn convert_walk(words: &[u32], r: u32, granted: u32) -> Held
+fn convert_walk(words: &[u32], r: u32, granted: u32) -> HolderCount
     requires { ⌜ Fine (now words) ⌝ }
     requires { ⌜ (1 ≤ r) × (r ≤ resources-in (now words)) ⌝ }
     requires { ⌜ named (now words) r ≡ true ⌝ }
@@ -209,7 +209,7 @@ fn convert_walk(words: &[u32], r: u32, granted: u32) -> Held
 {
     let c = resource_word(words, r, RESOURCE_CONVERT);
     if c == 0 {
-        return Held {
+        return HolderCount {
             met: 0,
             modes: granted,
         };
@@ -217,13 +217,13 @@ fn convert_walk(words: &[u32], r: u32, granted: u32) -> Held
     convert_from(words, r, c, granted)
 }
 
-// How many locks the wait chain of r has; one more than there are if it does not end, or has another. It has an inner
-// loop for a run of records, as the walks of `check_chains` have.
+// How many locks the wait chain of r has; one more than there are if it does not end, or has a lock that does not
+// belong there. The walk has an inner loop for runs of records, as those of `check_chains` have.
 pub fn waiting_met(words: &[u32], r: u32) -> u32
     requires { ⌜ Sized (now words) ⌝ }
     requires { ⌜ (1 ≤ r) × (r ≤ resources-in (now words)) ⌝ }
     requires { ⌜ named (now words) r ≡ true ⌝ }
-    ensures { λ x. ⌜ (x ≡ home-steps (now (words .entry)) 3 r (word-in (now (words .entry)) (of-resource r 3))) × (x ≤ locks-in (now (words .entry)) + 1) ⌝ }
+    ensures { λ x. ⌜ (x ≡ home-steps (now (words .entry)) state-waiting r (word-in (now (words .entry)) (of-resource r 3))) × (x ≤ locks-in (now (words .entry)) + 1) ⌝ }
 {
     let n = words[LOCKS];
     let mut k = resource_word(words, r, RESOURCE_WAIT);
@@ -252,7 +252,8 @@ pub fn waiting_met(words: &[u32], r: u32) -> u32
     met
 }
 
-// The convert head is kept out by the others' modes; where there is none, the wait head by the granted ones.
+// The convert head is kept out by the others' modes. If there is no convert head, the wait head is kept out by the
+// granted ones.
 fn heads_wait(words: &[u32], r: u32, granted: u32, others: u32) -> bool
     requires { ⌜ Fine (now words) ⌝ }
     requires { ⌜ (1 ≤ r) × (r ≤ resources-in (now words)) ⌝ }
@@ -262,13 +263,13 @@ fn heads_wait(words: &[u32], r: u32, granted: u32, others: u32) -> bool
 {
     let c = resource_word(words, r, RESOURCE_CONVERT);
     if c != 0 {
-        return !modes::fits(others, lock_word(words, c, LOCK_ASKED));
+        return !modes::fits_by_masks(others, lock_word(words, c, LOCK_ASKED));
     }
     let w = resource_word(words, r, RESOURCE_WAIT);
     if w == 0 {
         return true;
     }
-    !modes::fits(granted, lock_word(words, w, LOCK_ASKED))
+    !modes::fits_by_masks(granted, lock_word(words, w, LOCK_ASKED))
 }
 
 // The locks on the three queues of a resource in use.

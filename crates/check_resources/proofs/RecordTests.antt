@@ -12,7 +12,7 @@ use Rattle.tables.specs.Lists.{bit}
 use Rattle.tables.specs.Layout.{header-width, resource-width, size, slot-width, resources-in, locks-in}
 use Rattle.tables.specs.Sound.{sizes-right}
 use Rattle.table_names.specs.Names.{slot-fine}
-use Rattle.check_laws.specs.declared.Row.{Row}
+use Rattle.check_laws.specs.declared.ResourceRow.{ResourceRow}
 use Rattle.check_laws.specs.Check.{row-in, free-row, used-row, row-fine, resource-fine}
 
 -- SIZES. Words that lack a header are not as long as they say
@@ -42,7 +42,7 @@ pub row-read : (ws : List ℕ) (r : ℕ) {x : ℕ} → x ≡ header-width + reso
 unfolding row-in
 row-read ws r e = rw e
 
-module _ (x : Row) where
+module _ (x : ResourceRow) where
   pub row-nonzero : not (eqb (x .zero) 0 && eqb (x .last) 0) ≡ true → false ≡ row-fine x
   unfolding row-fine
   row-nonzero f = rw (not-true (eqb (x .zero) 0 && eqb (x .last) 0) f)
@@ -55,7 +55,7 @@ module _ (x : Row) where
   unfolding row-fine
   row-used f e w = rw (not-false (eqb (x .zero) 0 && eqb (x .last) 0) f, ne-eqb (x .bytes) 0 e) w
 
-module _ (ws ss : List ℕ) (r : ℕ) {x : Row} {f : Bool} (e : x ≡ row-in ws r) (g : f ≡ row-fine x) where
+module _ (ws ss : List ℕ) (r : ℕ) {x : ResourceRow} {f : Bool} (e : x ≡ row-in ws r) (g : f ≡ row-fine x) where
   pub resource-stop : not f ≡ true → false ≡ resource-fine ws ss r
   unfolding resource-fine
   resource-stop t = rw (← e, ← g, not-true f t)

@@ -1,5 +1,5 @@
-// The header, the sizes and the resources of whatever tables are lent: what each is to be.
-use check_laws::Row;
+// Tests of the sizes, the header and the resources of whatever tables are lent.
+use check_laws::ResourceRow;
 use table_fields::HEADER_WORDS;
 use table_fields::HEADER_ZERO;
 use table_fields::LOCK_WORDS;
@@ -68,13 +68,13 @@ pub fn bit(b: bool) -> u32
 }
 
 // The words of resource r.
-pub fn row_at(words: &[u32], r: u32) -> Row
+pub fn row_at(words: &[u32], r: u32) -> ResourceRow
     requires { ⌜ Sized (now words) ⌝ }
     requires { ⌜ (1 ≤ r) × (r ≤ resources-in (now words)) ⌝ }
     ensures { λ x. ⌜ x ≡ row-in (now (words .entry)) r ⌝ }
 {
     let start = resource_start(words, r);
-    Row {
+    ResourceRow {
         next: words[start + RESOURCE_NEXT],
         grant: words[start + RESOURCE_GRANT],
         convert: words[start + RESOURCE_CONVERT],
@@ -87,14 +87,14 @@ pub fn row_at(words: &[u32], r: u32) -> Row
 }
 
 // Free: no value, and no lock on any queue.
-fn free_row(x: Row) -> bool
+fn free_row(x: ResourceRow) -> bool
     ensures { λ b. ⌜ b ≡ free-row x ⌝ }
 {
     (x.valid == 0) & (x.grant == 0) & (x.convert == 0) & (x.wait == 0)
 }
 
 // In use: off the free chain, a name of at most 64 bytes, valid or not, and a lock on some queue.
-fn used_row(x: Row) -> bool
+fn used_row(x: ResourceRow) -> bool
     ensures { λ b. ⌜ b ≡ used-row x ⌝ }
 {
     let idle = (x.grant == 0) & (x.convert == 0) & (x.wait == 0);
@@ -102,7 +102,7 @@ fn used_row(x: Row) -> bool
 }
 
 // A resource is in use exactly if it has a name.
-fn row_fine(x: Row) -> bool
+fn row_fine(x: ResourceRow) -> bool
     ensures { λ b. ⌜ b ≡ row-fine x ⌝ }
 {
     if !((x.zero == 0) & (x.last == 0)) {
@@ -115,7 +115,7 @@ fn row_fine(x: Row) -> bool
 }
 
 // A resource's words, which are x, and its slot.
-pub fn resource_fine(words: &[u32], slots: &[u8], r: u32, x: Row) -> bool
+pub fn resource_fine(words: &[u32], slots: &[u8], r: u32, x: ResourceRow) -> bool
     requires { ⌜ Slotted (now words) (now slots) ⌝ }
     requires { ⌜ (1 ≤ r) × (r ≤ resources-in (now words)) ⌝ }
     requires { ⌜ x ≡ row-in (now words) r ⌝ }

@@ -10,7 +10,7 @@ use Rattle.tables.specs.Lists.{keep}
 use Rattle.tables.specs.Layout.{of-resource, of-lock, locks-in, word-in}
 use Rattle.tables.proofs.Cases.{and-left, and-right, parts}
 use Rattle.table_names.specs.Names.{named, slot-fine}
-use Rattle.check_laws.specs.declared.Row.{Row}
+use Rattle.check_laws.specs.declared.ResourceRow.{ResourceRow}
 use Rattle.check_laws.specs.Check.{row-in, free-row, row-fine, resource-fine, steps, home-on, home-steps, held-steps, grant-walk, convert-walk, heads-wait, wait-part, convert-part, resource-walk, queue-from, blocked-at, noticed-at}
 use Rattle.check_laws.proofs.ChainSteps.{follow-zero}
 use Rattle.check_chains.proofs.ChainWalk.{steps-zero}
@@ -22,7 +22,7 @@ no-holders ws s r zero set = refl
 no-holders ws s r (suc n) set = refl
 
 -- by its words a resource has a name or not
-module _ (ws : List ℕ) (r : ℕ) {x : Row} (e : x ≡ row-in ws r) where
+module _ (ws : List ℕ) (r : ℕ) {x : ResourceRow} (e : x ≡ row-in ws r) where
   bytes : x .bytes ≡ word-in ws (of-resource r 4)
   unfolding row-in
   bytes = rw e

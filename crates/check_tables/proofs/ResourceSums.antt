@@ -13,7 +13,7 @@ use Rattle.tables.specs.Lists.{bit, all, from, keep}
 use Rattle.tables.specs.Layout.{of-header, resources-in, locks-in, word-in}
 use Rattle.tables.proofs.Cases.{clash, and-right}
 use Rattle.table_names.specs.Names.{named}
-use Rattle.check_laws.specs.declared.Row.{Row}
+use Rattle.check_laws.specs.declared.ResourceRow.{ResourceRow}
 use Rattle.check_laws.specs.Check.{row-in, resource-fine, home-steps, resource-walk, queues-walk, homes-fine, blocked-at, noticed-at, sum-over}
 use Rattle.check_laws.proofs.SideCounts.{blocked-counted, noticed-counted}
 use Rattle.check_resources.specs.Passes.{upto, free-count, blocked-count, noticed-count, Fine}
@@ -55,7 +55,7 @@ bit-few true free r h = omega arith
 bit-few false free r h = omega arith
 
 -- IN THE MIDDLE OF THE PASS, before r: those before it are fine, and what was counted is what the ones from r on leave of the whole
-pub record Left (ws ss : List ℕ) (others unread met blocked noticed free r : ℕ) : Type 0 where
+pub record Left (ws ss : List ℕ) (others denied met blocked noticed free r : ℕ) : Type 0 where
   pub low : 1 ≤ r
   pub met-few : met ≤ 4 * locks-in ws + 2
   pub blocked-few : blocked ≤ 3073 * r
@@ -65,10 +65,10 @@ pub record Left (ws ss : List ℕ) (others unread met blocked noticed free r : �
   pub homes : others + queues-walk ws (from 1 (resources-in ws)) ≡ met + queues-walk ws (upto r (resources-in ws))
   pub spare : free-count ws ≡ free + length (keep (λ r. not (named ws r)) (upto r (resources-in ws)))
   pub waits : met ≤ locks-in ws → sum-over (blocked-at ws) (from 1 (resources-in ws)) ≡ blocked + sum-over (blocked-at ws) (upto r (resources-in ws))
-  pub tells : met ≤ locks-in ws → unread + sum-over (noticed-at ws) (from 1 (resources-in ws)) ≡ noticed + sum-over (noticed-at ws) (upto r (resources-in ws))
+  pub tells : met ≤ locks-in ws → denied + sum-over (noticed-at ws) (from 1 (resources-in ws)) ≡ noticed + sum-over (noticed-at ws) (upto r (resources-in ws))
 
-module _ (ws ss : List ℕ) (others unread : ℕ) where
-  pub left-start : Fine ws → (others ≤ 2 * locks-in ws + 2) × (unread ≤ locks-in ws + 1) → Left ws ss others unread others 0 unread 0 1
+module _ (ws ss : List ℕ) (others denied : ℕ) where
+  pub left-start : Fine ws → (others ≤ 2 * locks-in ws + 2) × (denied ≤ locks-in ws + 1) → Left ws ss others denied others 0 denied 0 1
   unfolding resources-fine free-count
   left-start f h =
       record {
@@ -85,7 +85,7 @@ module _ (ws ss : List ℕ) (others unread : ℕ) where
       }
 
   -- what is said where something is wrong
-  said-no : {x : HomeCounts} → (resources-fine ws ss && eqb (others + queues-walk ws (from 1 (resources-in ws))) (locks-in ws)) ≡ false → x .fine ≡ false → Queues ws ss others unread x
+  said-no : {x : HomeCounts} → (resources-fine ws ss && eqb (others + queues-walk ws (from 1 (resources-in ws))) (locks-in ws)) ≡ false → x .fine ≡ false → Queues ws ss others denied x
   said-no {x} e f =
       record {
         fine = f ∙ sym e;
@@ -94,15 +94,15 @@ module _ (ws ss : List ℕ) (others unread : ℕ) where
         noticed = λ t. clash (x .fine) t f;
       }
 
-  module _ {met blocked noticed free r : ℕ} (i : Left ws ss others unread met blocked noticed free r) where
-    pub left-unfit : {f : Bool} {x : HomeCounts} → r ≤ resources-in ws → f ≡ resource-fine ws ss r → not f ≡ true → x .fine ≡ false → Queues ws ss others unread x
+  module _ {met blocked noticed free r : ℕ} (i : Left ws ss others denied met blocked noticed free r) where
+    pub left-unfit : {f : Bool} {x : HomeCounts} → r ≤ resources-in ws → f ≡ resource-fine ws ss r → not f ≡ true → x .fine ≡ false → Queues ws ss others denied x
     unfolding all
     left-unfit {f} h e n q = said-no (rw (i .fine, upto-more h, ← e, not-true f n)) q
 
-    pub left-many : {x : HomeCounts} → locks-in ws < met → x .fine ≡ false → Queues ws ss others unread x
+    pub left-many : {x : HomeCounts} → locks-in ws < met → x .fine ≡ false → Queues ws ss others denied x
     left-many h q = said-no (rw (queues-over ws met r (resources-in ws) (i .homes) (locks-in ws) h) (and-false (resources-fine ws ss))) q
 
-    pub left-end : resources-in ws < r → Queues ws ss others unread (record { fine = eqb met (locks-in ws); free = free; blocked = blocked; noticed = noticed })
+    pub left-end : resources-in ws < r → Queues ws ss others denied (record { fine = eqb met (locks-in ws); free = free; blocked = blocked; noticed = noticed })
     unfolding all keep
     left-end h =
         record {
@@ -114,7 +114,7 @@ module _ (ws ss : List ℕ) (others unread : ℕ) where
 
     -- A TURN: what is found of r is added
     module _ {f : Bool} (right : Fine ws) (h : r ≤ resources-in ws) (e : f ≡ resource-fine ws ss r) (n : not f ≡ false) (few : met ≤ locks-in ws) where
-      turn : {y : Census} → Counted ws r y → Left ws ss others unread (met + y .met) (blocked + y .blocked) (noticed + y .noticed) (free + bit (not (named ws r))) (r + 1)
+      turn : {y : Census} → Counted ws r y → Left ws ss others denied (met + y .met) (blocked + y .blocked) (noticed + y .noticed) (free + bit (not (named ws r))) (r + 1)
       unfolding all keep
       turn {y} c =
           let l = right .sized .few-locks in
@@ -131,14 +131,14 @@ module _ (ws ss : List ℕ) (others unread : ℕ) where
             tells = sums-next (noticed-at ws) noticed r (resources-in ws) met (locks-in ws) (i .tells) h (c .noticed);
           }
 
-      module _ {x : Row} (w : x ≡ row-in ws r) {met' blocked' noticed' free' : ℕ} where
-        pub left-free : x .bytes ≡ 0 → met' ≡ met → blocked' ≡ blocked → noticed' ≡ noticed → free' ≡ free + 1 → Left ws ss others unread met' blocked' noticed' free' (r + 1)
+      module _ {x : ResourceRow} (w : x ≡ row-in ws r) {met' blocked' noticed' free' : ℕ} where
+        pub left-free : x .bytes ≡ 0 → met' ≡ met → blocked' ≡ blocked → noticed' ≡ noticed → free' ≡ free + 1 → Left ws ss others denied met' blocked' noticed' free' (r + 1)
         left-free z p q s u =
             let d = nameless ws r w z in
             let t = turn (no-queues ws ss r (sym e ∙ not-false f n) d) in
             rw (p, q, s, u) (rw (d, add-zero met, add-zero blocked, add-zero noticed) at t)
 
-        pub left-used : {y : Census} → (x .bytes ≡ 0 → ⊥) → Counted ws r y → met' ≡ met + y .met → blocked' ≡ blocked + y .blocked → noticed' ≡ noticed + y .noticed → free' ≡ free → Left ws ss others unread met' blocked' noticed' free' (r + 1)
+        pub left-used : {y : Census} → (x .bytes ≡ 0 → ⊥) → Counted ws r y → met' ≡ met + y .met → blocked' ≡ blocked + y .blocked → noticed' ≡ noticed + y .noticed → free' ≡ free → Left ws ss others denied met' blocked' noticed' free' (r + 1)
         left-used {y} z c p q s u =
             let t = turn c in
             rw (p, q, s, u) (rw (in-use ws r w z, add-zero free) at t)

@@ -21,13 +21,13 @@ resources-fine ws ss = all (resource-fine ws ss) (from 1 (resources-in ws))
 unfoldable pub sides-fine : List ℕ → List ℕ → Bool
 sides-fine ws ss = free-resources-fine ws && (blocked-fine ws && (notices-fine ws && names-differ ws ss))
 
--- what is found of the resources after so many locks on the other home chains, of which so many have an unread completion: each resource is fine, and
--- with those on the queues these are all the locks; then so many records belong on the side chains
-pub record Queues (ws ss : List ℕ) (others unread : ℕ) (x : HomeCounts) : Type 0 where
+-- what the pass finds, if there are `others` locks on the other home chains, `denied` of them denied, which belong on the notice chain: whether each
+-- resource is fine and these locks and those on the queues are all that there are; and if so, how many records belong on the side chains
+pub record Queues (ws ss : List ℕ) (others denied : ℕ) (x : HomeCounts) : Type 0 where
   pub fine : x .fine ≡ (resources-fine ws ss && eqb (others + queues-walk ws (from 1 (resources-in ws))) (locks-in ws))
   pub free : x .fine ≡ true → x .free ≡ free-count ws
   pub blocked : x .fine ≡ true → x .blocked ≡ sum-over (blocked-at ws) (from 1 (resources-in ws))
-  pub noticed : x .fine ≡ true → x .noticed ≡ unread + sum-over (noticed-at ws) (from 1 (resources-in ws))
+  pub noticed : x .fine ≡ true → x .noticed ≡ denied + sum-over (noticed-at ws) (from 1 (resources-in ws))
 
 -- what is found of the resources and on all home chains
 pub record Homes (ws ss : List ℕ) (x : HomeCounts) : Type 0 where

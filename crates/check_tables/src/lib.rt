@@ -42,19 +42,19 @@ fn wrong() -> HomeCounts
     }
 }
 
-// Each resource, and its queues if it is in use: a free one has none. With so many locks on the other home chains, so
-// many of them with an unread completion, the queues are to make up the number of locks.
-fn queues(words: &[u32], slots: &[u8], others: u32, unread: u32) -> HomeCounts
+// Checks each resource, and its queues if it is in use. `others` locks were met on the other home chains, `denied` of
+// them on the chain of denied locks. Together with those on the queues they must be all the locks that there are.
+fn queues(words: &[u32], slots: &[u8], others: u32, denied: u32) -> HomeCounts
     requires { ⌜ Fine (now words) ⌝ }
     requires { ⌜ Slotted (now words) (now slots) ⌝ }
-    requires { ⌜ (others ≤ 2 * locks-in (now words) + 2) × (unread ≤ locks-in (now words) + 1) ⌝ }
-    ensures { λ x. ⌜ Queues (now (words .entry)) (now (slots .entry)) others unread x ⌝ }
+    requires { ⌜ (others ≤ 2 * locks-in (now words) + 2) × (denied ≤ locks-in (now words) + 1) ⌝ }
+    ensures { λ x. ⌜ Queues (now (words .entry)) (now (slots .entry)) others denied x ⌝ }
 {
     let n = words[LOCKS];
     let last = words[RESOURCES];
     let mut met = others;
     let mut blocked = 0;
-    let mut noticed = unread;
+    let mut noticed = denied;
     let mut free = 0;
     let mut r = 1;
     while r <= last {
@@ -94,8 +94,8 @@ fn homes(words: &[u32], slots: &[u8]) -> HomeCounts
     queues(words, slots, free + denied, denied)
 }
 
-// The chains of free resources, of blocked locks and of notices have as many as were counted, and the names differ. It
-// is a function of its own because `sound` compiles to faster code so.
+// The chains of free resources, of blocked locks and of notices have as many records as were counted, and the names
+// differ. This is a function of its own because `sound` then compiles to faster code.
 fn sides(words: &[u32], slots: &[u8], found: HomeCounts) -> bool
     requires { ⌜ Checked (now words) (now slots) found ⌝ }
     ensures { λ x. ⌜ x ≡ sides-fine (now (words .entry)) (now (slots .entry)) ⌝ }
@@ -112,7 +112,7 @@ fn sides(words: &[u32], slots: &[u8], found: HomeCounts) -> bool
     check_names::names_differ(words, slots)
 }
 
-// Whether the tables are sound: sizes, header, homes, and what hangs on them.
+// Whether the tables are sound: sizes and header, then the home chains, then the other chains and the names.
 fn all_fine(words: &[u32], slots: &[u8]) -> bool
     ensures { λ x. ⌜ x ≡ sound (now (words .entry)) (now (slots .entry)) ⌝ }
 {
@@ -129,8 +129,8 @@ fn all_fine(words: &[u32], slots: &[u8]) -> bool
     sides(words, slots, found)
 }
 
-// Whether the tables are sound. They are lent on as wholes of themselves, not as they came: the compiler then hands over
-// where they are and how long in registers, not through memory.
+// Whether the tables are sound. The slices are passed on as `[..]` of themselves and not as they came: the compiler
+// then passes their addresses and lengths in registers and not through memory.
 pub fn sound(words: &[u32], slots: &[u8]) -> bool
     ensures { λ x. ⌜ x ≡ sound (now (words .entry)) (now (slots .entry)) ⌝ }
 {

@@ -9,11 +9,12 @@ use Rattle.tables.specs.Lists.{count}
 use Rattle.tables.specs.State.{Tables, resource, Queue, grants, converts, waits, LockChain, blocked, queue, of-locks, queue-of, chain}
 use Rattle.tables.specs.Layout.{of-header, of-resource, of-lock, place, queue-head, head, link, cell, words, resources-in, locks-in, word-in, follow}
 use Rattle.tables.proofs.Counts.{within-le, count-same, count-step}
-use Rattle.tables.proofs.Chains.{Present, spot}
+use Rattle.tables.specs.Threads.{Present}
+use Rattle.tables.proofs.Chains.{spot}
 use Rattle.tables.proofs.WordChanges.{length-words}
 use Rattle.tables.proofs.ChainWalk.{Leads, words-lead}
 use Rattle.tables.proofs.ReadBack.{resources-word, locks-word, chain-most}
-use Rattle.tables.proofs.Valid.{Core}
+use Rattle.tables.specs.Validity.{Core}
 use Rattle.tables.proofs.ChainMembers.{on-chain}
 use Rattle.tables.proofs.ThreadedChains.{core-threaded}
 use Rattle.table_fields.specs.Sizes.{Sized}

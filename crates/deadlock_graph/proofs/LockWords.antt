@@ -16,7 +16,8 @@ use Rattle.tables.specs.Layout.{of-lock, resources-in, locks-in, word-in, read-
 use Rattle.tables.proofs.Cases.{by-cases}
 use Rattle.tables.proofs.Counts.{within-le}
 use Rattle.tables.proofs.ReadBack.{resources-word, locks-word, lock-read}
-use Rattle.tables.proofs.Valid.{used, StateOk, ok-at, Core, used-within}
+use Rattle.tables.specs.Validity.{used, StateOk, Core}
+use Rattle.tables.proofs.Valid.{ok-at, used-within}
 use Rattle.tables.proofs.ChainMembers.{state-within, on-chain, chain-has}
 use Rattle.rules.specs.Deadlock.{owner}
 use Rattle.table_fields.specs.Sizes.{Sized}

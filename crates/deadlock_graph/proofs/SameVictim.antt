@@ -16,7 +16,8 @@ use Rattle.tables.proofs.Cases.{by-cases}
 use Rattle.tables.proofs.Blocks.{tabulated}
 use Rattle.tables.proofs.ReadBack.{resources-word, locks-word, chain-read, lock-read}
 use Rattle.tables.proofs.ThreadedChains.{core-threaded}
-use Rattle.tables.proofs.Valid.{Core, absent}
+use Rattle.tables.specs.Validity.{Core}
+use Rattle.tables.proofs.Valid.{absent}
 use Rattle.rules.specs.Walks.{reaches}
 use Rattle.rules.specs.Deadlock.{ahead, obstacles, leads, deadlocked, victim}
 use Rattle.deadlock_graph.specs.Contracts.{seen}

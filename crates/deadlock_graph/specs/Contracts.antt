@@ -4,7 +4,7 @@ use Prim.Native.Nat.{ℕ, _≤_}
 use Rattle.tables.specs.Lists.{count}
 use Rattle.tables.specs.State.{Tables}
 use Rattle.tables.specs.Layout.{locks-in, read}
-use Rattle.tables.proofs.Valid.{Core}
+use Rattle.tables.specs.Validity.{Core}
 use Rattle.table_chains.specs.Contracts.{Some}
 
 -- the state in the words, which tell no names and no values

@@ -1,5 +1,5 @@
-// Blocked locks in the lent words: who has a lock, and who is in whose way. The definitions and laws that `clearing` and
-// `deadlock` share are here, so that an edit of their code does not prove these again.
+// Blocked locks in the lent words: who has a lock, and who is in whose way. The definitions and laws that `deadlock_prune`
+// and `deadlock_search` share are here, so that an edit of their code does not prove these again.
 use modes::goes_with;
 use table_fields::LOCK_ASKED;
 use table_fields::LOCK_CLIENT;
@@ -16,7 +16,7 @@ pub const LOCK_PLACES: usize = 1025;
 // A place for each owner: clients are 1 to 255.
 pub const OWNER_PLACES: usize = 256;
 
-// Who has lock k. A lock leads to those of the owners that are in its way.
+// Who owns lock k. A blocked lock leads to the blocked locks of the owners that are in its way.
 pub fn owner_of(words: &[u32], k: u32) -> usize
     requires { ⌜ At (now words) k ⌝ }
     ensures { λ r. ⌜ Owned (now (words .entry)) k r ⌝ }

@@ -13,7 +13,7 @@ use Rattle.tables.specs.State.{lock}
 use Rattle.tables.specs.Layout.{of-header, of-lock, word-in}
 use Rattle.tables.proofs.Cases.{by-equal, clash}
 use Rattle.tables.proofs.Counts.{count-nil, count-other}
-use Rattle.tables.proofs.Valid.{Core}
+use Rattle.tables.specs.Validity.{Core}
 use Rattle.rules.specs.Deadlock.{owner}
 use Rattle.table_chains.specs.Contracts.{Some}
 use Rattle.deadlock_graph.specs.Contracts.{seen, At}

@@ -16,7 +16,7 @@ use Rattle.tables.specs.Layout.{of-resource, of-lock, resources-in, word-in}
 use Rattle.tables.specs.Grants.{holders}
 use Rattle.tables.proofs.Cases.{by-cases, by-equal, clash, and-left, and-right, or-left}
 use Rattle.tables.proofs.Counts.{count-nil, count-same, count-other, count-append, by-append}
-use Rattle.tables.proofs.Valid.{Core, line}
+use Rattle.tables.specs.Validity.{Core, line}
 use Rattle.tables.proofs.ChainMembers.{on-converts}
 use Rattle.rules.specs.Deadlock.{before, ahead, obstacles, owner, leads}
 use Rattle.rules.proofs.WalkSearch.{any-has}
@@ -30,7 +30,7 @@ use Rattle.deadlock_graph.proofs.ChainWalks.{some-sized, walk-splits, walk-ends
 use Rattle.deadlock_graph.proofs.LockWords.{some-alike, asked-told, asked-mode, is-blocked, blocked-at}
 use Rattle.deadlock_graph.proofs.LineAhead.{before-here, before-past, any-counted, line-blocked, line-here, ahead-line, line-alike}
 use Rattle.deadlock_graph.proofs.Marks.{mark-same, mark-kept, clear-behind}
-use Rattle.deadlock_prune.specs.Clearing.{is-busy, hinders, busy-modes, Busy, Clearing, AllCleared, Converted}
+use Rattle.deadlock_prune.specs.Clearing.{is-busy, hinders, busy-modes, Busy, Clearing, AllCleared, AfterConversions}
 use Rattle.deadlock_prune.proofs.BusyOwners.{mark-place}
 use Rattle.deadlock_prune.proofs.OwnersInTheWay.{modes-few, Unhindered, unhindered, fits-unhindered}
 
@@ -203,14 +203,14 @@ module _ {ws : List ℕ} {b m : List Bool} {r : ℕ} (i : Clearing ws b m) (ther
 -- ---- the convert chain
 
 module _ {ws : List ℕ} {b m₀ m : List Bool} {k : ℕ} (r : ℕ) (i : Passing ws (resource (seen ws) r .convert) b m₀ m k) where
-  pub converts-stop : Converted ws r b m false
+  pub converts-stop : AfterConversions ws r b m false
   converts-stop = record { clearing = i .clearing; ahead = λ e. clash false e refl }
 
   pub converts-again : {f : Bool} {x : ℕ} → k ≢ 0 → f ≡ any (hinders (seen ws) b k) (holders (seen ws) (lock (seen ws) k .resource)) → f ≡ false →
       x ≡ word-in ws (of-lock k 0) → Passing ws (resource (seen ws) r .convert) b m₀ (set m k true) x
   converts-again n e h = passing-again i n (unhindered ws b k (sym e ∙ h))
 
-  pub converts-end : k ≡ 0 → Converted ws r b m true
+  pub converts-end : k ≡ 0 → AfterConversions ws r b m true
   converts-end e =
       let all : resource (seen ws) r .convert ≡ i .passed = i .is ∙ rw (e, walk-ends ws 0) (append-nil (i .passed)) in
       record { clearing = i .clearing; ahead = λ h. rw all (i .done) }
@@ -243,7 +243,7 @@ pub ruleset waits-laws = (needs, clearing-sized, walk-sized, walk-low, walk-high
 
 -- ---- a line
 
-pub converted-ahead : {ws : List ℕ} {r : ℕ} {b m : List Bool} {all : Bool} → Converted ws r b m all → not all ≡ false → AllCleared (resource (seen ws) r .convert) m
+pub converted-ahead : {ws : List ℕ} {r : ℕ} {b m : List Bool} {all : Bool} → AfterConversions ws r b m all → not all ≡ false → AllCleared (resource (seen ws) r .convert) m
 converted-ahead {all = all} i h = i .ahead (not-false all h)
 
 pub ruleset line-laws = (needs, converted-ahead)

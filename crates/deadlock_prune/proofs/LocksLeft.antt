@@ -11,7 +11,7 @@ use borrow.Author.Tests.{ltb-true, not-true, not-false}
 use borrow.Author.Needs.{needs}
 use Rattle.tables.specs.Layout.{of-header, of-lock, word-in}
 use Rattle.tables.proofs.Cases.{and-left}
-use Rattle.tables.proofs.Valid.{Core}
+use Rattle.tables.specs.Validity.{Core}
 use Rattle.rules.specs.Deadlock.{leads}
 use Rattle.table_chains.specs.Contracts.{Some}
 use Rattle.deadlock_graph.specs.Contracts.{seen}
@@ -19,7 +19,7 @@ use Rattle.deadlock_graph.specs.Chained.{onward, Walking}
 use Rattle.deadlock_graph.specs.Marks.{marked, unmarked, Cleared}
 use Rattle.deadlock_graph.proofs.ChainWalks.{some-sized, walk-splits, walk-ends, blocked-walks, blocked-onward, walk-sized, walk-low, walk-high, walk-stands, walk-less, walk-on}
 use Rattle.deadlock_graph.proofs.Marks.{unmarked-le}
-use Rattle.deadlock_prune.specs.Clearing.{Left}
+use Rattle.deadlock_prune.specs.Clearing.{Uncleared}
 use Rattle.deadlock_prune.proofs.BusyOwners.{mark-place}
 
 -- ---- how many are left
@@ -83,7 +83,7 @@ pub ruleset count-laws = (needs, some-sized, walk-sized, walk-low, walk-high, wa
 
 -- n blocked locks are left; m₀ are the marks before the first pass
 pub record Passes (ws : List ℕ) (m₀ m : List Bool) (n : ℕ) : Type 0 where
-  pub left : Left ws m n
+  pub left : Uncleared ws m n
   pub size : length m ≡ length m₀
 
 module _ {ws : List ℕ} {m : List Bool} {n : ℕ} (c : Cleared (leads (seen ws)) (seen ws .blocked) m) (e : n ≡ unmarked (seen ws .blocked) m) where

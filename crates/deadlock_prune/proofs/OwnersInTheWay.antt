@@ -18,7 +18,7 @@ use Rattle.tables.specs.Layout.{of-resource, of-lock, resources-in, word-in}
 use Rattle.tables.specs.Grants.{holders}
 use Rattle.tables.proofs.Cases.{by-cases, by-equal, clash, and-left, and-right, or-left}
 use Rattle.tables.proofs.Counts.{count-nil, count-other, count-keep, any-intro}
-use Rattle.tables.proofs.Valid.{Core}
+use Rattle.tables.specs.Validity.{Core}
 use Rattle.rules.specs.Deadlock.{obstacles}
 use Rattle.table_chains.specs.Contracts.{Some}
 use Rattle.deadlock_graph.specs.Contracts.{seen, At, Blocked}

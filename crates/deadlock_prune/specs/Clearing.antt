@@ -8,7 +8,7 @@ use Rattle.modes.specs.Sets.{with-mode}
 use Rattle.tables.specs.Lists.{count}
 use Rattle.tables.specs.State.{Tables, lock, resource}
 use Rattle.tables.specs.Grants.{holders}
-use Rattle.tables.proofs.Valid.{Core}
+use Rattle.tables.specs.Validity.{Core}
 use Rattle.rules.specs.Deadlock.{owner, leads}
 use Rattle.table_chains.specs.Contracts.{Some}
 use Rattle.deadlock_graph.specs.Contracts.{seen}
@@ -19,12 +19,12 @@ use Rattle.deadlock_graph.specs.Marks.{marked, unmarked, Cleared}
 unfoldable pub is-busy : Tables → List Bool → ℕ → Bool
 is-busy t b j = getD b (owner (lock t j)) false
 
--- the owner of k is busy now, unless k is cleared; who was busy still is
+-- unless k is cleared, its owner is busy afterwards; whoever was busy before still is
 pub record BusyNoted (ws : List ℕ) (m : List Bool) (k : ℕ) (b b′ : List Bool) : Type 0 where
   pub here : marked m k ≡ false → is-busy (seen ws) b′ k ≡ true
   pub kept : (j : ℕ) → is-busy (seen ws) b j ≡ true → is-busy (seen ws) b′ j ≡ true
 
--- who has a blocked lock that is not cleared is busy
+-- whoever has a blocked lock that is not cleared is busy
 pub record Busy (ws : List ℕ) (m b : List Bool) : Type 0 where
   pub wide : length b ≡ 256
   pub each : (j : ℕ) → 1 ≤ count j (seen ws .blocked) → marked m j ≡ false → is-busy (seen ws) b j ≡ true
@@ -33,7 +33,7 @@ pub record Busy (ws : List ℕ) (m b : List Bool) : Type 0 where
 unfoldable pub hinders : Tables → List Bool → ℕ → ℕ → Bool
 hinders t b a j = in-way t a j && is-busy t b j
 
--- the set with the mode that j holds, if its owner is busy; with those that busy owners hold of a list of locks; on r
+-- the set with the mode that j holds, if its owner is busy; the same for a list of locks; the modes that busy owners hold on r
 unfoldable pub with-busy : Tables → List Bool → ℕ → ℕ → ℕ
 with-busy t b set j = cond (is-busy t b j) (with-mode set (lock t j .held)) set
 
@@ -56,11 +56,11 @@ pub record AllCleared (xs : List ℕ) (m : List Bool) : Type 0 where
   pub each : (j : ℕ) → 1 ≤ count j xs → marked m j ≡ true
 
 -- what is known after the conversions on r; `all`: whether all of them are cleared
-pub record Converted (ws : List ℕ) (r : ℕ) (b m : List Bool) (all : Bool) : Type 0 where
+pub record AfterConversions (ws : List ℕ) (r : ℕ) (b m : List Bool) (all : Bool) : Type 0 where
   pub clearing : Clearing ws b m
   pub ahead : all ≡ true → AllCleared (resource (seen ws) r .convert) m
 
 -- n blocked locks are not cleared
-pub record Left (ws : List ℕ) (m : List Bool) (n : ℕ) : Type 0 where
+pub record Uncleared (ws : List ℕ) (m : List Bool) (n : ℕ) : Type 0 where
   pub cleared : Cleared (leads (seen ws)) (seen ws .blocked) m
   pub is : n ≡ unmarked (seen ws .blocked) m

@@ -24,13 +24,13 @@ ghost use Rattle.tables.specs.Lists.{any};
 ghost use Rattle.tables.specs.State.{lock, resource};
 ghost use Rattle.tables.specs.Layout.{«resources-in»};
 ghost use Rattle.tables.specs.Grants.{holders};
-ghost use Rattle.tables.proofs.Valid.{Core};
+ghost use Rattle.tables.specs.Validity.{Core};
 ghost use Rattle.rules.specs.Deadlock.{leads};
 ghost use Rattle.table_chains.specs.Contracts.{Some};
 ghost use Rattle.deadlock_graph.specs.Contracts.{seen, At, Blocked};
 ghost use Rattle.deadlock_graph.specs.Chained.{onward, Walking};
 ghost use Rattle.deadlock_graph.specs.Marks.{unmarked, Cleared};
-ghost use Rattle.deadlock_prune.specs.Clearing.{hinders, «with-busy», «with-all-busy», «busy-modes», BusyNoted, Busy, Clearing, AllCleared, Converted, Left};
+ghost use Rattle.deadlock_prune.specs.Clearing.{hinders, «with-busy», «with-all-busy», «busy-modes», BusyNoted, Busy, Clearing, AllCleared, AfterConversions, Uncleared};
 
 // The owner of the blocked lock k is busy, unless k is cleared.
 fn note_busy(words: &[u32], cleared: &[bool], k: u32, busy: &mut [bool])
@@ -74,7 +74,7 @@ fn hinders(words: &[u32], busy: &[bool], a: u32, j: u32) -> bool
     busy[owner]
 }
 
-// .. and so for some lock of a home chain, from `first` on.
+// Whether that holds of some lock of a home chain, from `first` on.
 fn hindered_from(words: &[u32], busy: &[bool], a: u32, first: u32) -> bool
     requires { ⌜ At (now words) a ⌝ }
     requires { ⌜ Walking (now words) 0 first ⌝ }
@@ -104,11 +104,12 @@ fn hindered(words: &[u32], busy: &[bool], a: u32) -> bool
     hindered_from(words, busy, a, resource_word(words, r, RESOURCE_CONVERT))
 }
 
-// The conversions on resource r are cleared, up to the first that a busy owner is in the way of. Answers whether all are.
+// The conversions on resource r are cleared, up to the first one with a busy owner in its way. Answers whether all of
+// them were.
 fn clear_conversions(words: &[u32], busy: &[bool], r: u32, cleared: &mut [bool]) -> bool
     requires { ⌜ Clearing (now words) (now busy) (now cleared) ⌝ }
     requires { ⌜ (1 ≤ r) × (r ≤ resources-in (now words)) ⌝ }
-    ensures { λ all. ⌜ Converted (now (words .entry)) r (now (busy .entry)) (now (cleared .exit)) all ⌝ }
+    ensures { λ all. ⌜ AfterConversions (now (words .entry)) r (now (busy .entry)) (now (cleared .exit)) all ⌝ }
 {
     let mut k = resource_word(words, r, RESOURCE_CONVERT);
     while k != 0 {
@@ -135,7 +136,7 @@ fn with_busy(words: &[u32], busy: &[bool], set: u32, j: u32) -> u32
     with_mode(set, lock_word(words, j, LOCK_HELD))
 }
 
-// .. and so for each lock of a home chain, from `first` on.
+// The same for each lock of a home chain, from `first` on.
 fn with_all_busy(words: &[u32], busy: &[bool], set: u32, first: u32) -> u32
     requires { ⌜ Walking (now words) 0 first ⌝ }
     requires { ⌜ length (now busy) ≡ 256 ⌝ }
@@ -162,8 +163,8 @@ fn busy_modes(words: &[u32], busy: &[bool], r: u32) -> u32
     with_all_busy(words, busy, held, resource_word(words, r, RESOURCE_CONVERT))
 }
 
-// The waiting locks on resource r are cleared, up to the first that a busy owner is in the way of. A waiting lock holds
-// nothing, so that one set of modes does for all.
+// The waiting locks on resource r are cleared, up to the first one with a busy owner in its way. A waiting lock holds
+// nothing, so one set of modes serves for all of them.
 fn clear_waits(words: &[u32], busy: &[bool], r: u32, cleared: &mut [bool])
     requires { ⌜ Clearing (now words) (now busy) (now cleared) ⌝ }
     requires { ⌜ (1 ≤ r) × (r ≤ resources-in (now words)) ⌝ }
@@ -185,7 +186,7 @@ fn clear_waits(words: &[u32], busy: &[bool], r: u32, cleared: &mut [bool])
     }
 }
 
-// The line of resource r, up to the first lock that can't be cleared: all behind lead to it.
+// Clears the line of resource r up to the first lock that can't be cleared: all locks behind that one lead to it.
 fn clear_line(words: &[u32], busy: &[bool], r: u32, cleared: &mut [bool])
     requires { ⌜ Clearing (now words) (now busy) (now cleared) ⌝ }
     requires { ⌜ (1 ≤ r) × (r ≤ resources-in (now words)) ⌝ }
@@ -232,11 +233,11 @@ fn count_left(words: &[u32], cleared: &[bool]) -> u32
     n
 }
 
-// Passes, as long as they clear locks. Answers how many are left.
+// Makes passes as long as they clear locks. Answers how many blocked locks are left.
 pub fn clear_all(words: &[u32], cleared: &mut [bool]) -> u32
     requires { ⌜ Some Core (now words) ⌝ }
     requires { ⌜ Cleared (leads (seen (now words))) (seen (now words) .blocked) (now cleared) ⌝ }
-    ensures { λ r. ⌜ Left (now (words .entry)) (now (cleared .exit)) r ⌝ }
+    ensures { λ r. ⌜ Uncleared (now (words .entry)) (now (cleared .exit)) r ⌝ }
 {
     let mut left = count_left(words, cleared);
     let mut before = left + 1;

@@ -11,7 +11,7 @@ use Rattle.tables.specs.Lists.{count, first-that}
 use Rattle.tables.specs.Layout.{of-header, of-lock, locks-in, word-in}
 use Rattle.tables.proofs.Cases.{by-cases, clash}
 use Rattle.tables.proofs.Counts.{count-same, count-step}
-use Rattle.tables.proofs.Valid.{Core}
+use Rattle.tables.specs.Validity.{Core}
 use Rattle.rules.specs.Deadlock.{leads, deadlocked, victim}
 use Rattle.rules.proofs.DeadlockVictim.{deadlocked-walk}
 use Rattle.table_chains.specs.Contracts.{Some, Tells}
@@ -22,7 +22,7 @@ use Rattle.deadlock_graph.proofs.SameVictim.{alike, victim-alike}
 use Rattle.deadlock_graph.proofs.ChainWalks.{some-sized, walk-splits, walk-ends, blocked-walks, blocked-onward, walk-sized, walk-low, walk-high, walk-less, walk-on}
 use Rattle.deadlock_graph.proofs.LockWords.{blocked-at}
 use Rattle.deadlock_graph.proofs.Marks.{mark-kept, clear-more}
-use Rattle.deadlock_prune.specs.Clearing.{Left}
+use Rattle.deadlock_prune.specs.Clearing.{Uncleared}
 use Rattle.deadlock_search.specs.Ranks.{Unranked, Ranked}
 use Rattle.deadlock_search.specs.SearchMarks.{Searched}
 use Rattle.deadlock_search.specs.Searches.{Searching, Trying}
@@ -48,7 +48,7 @@ module _ {ws ranks : List ℕ} {a d : ℕ} {m : List Bool} (i : Trying ws ranks 
       record {
         some = s;
         ranked = i .ranked;
-        ready = record {
+        start-node = record {
           start = i .stands .stands;
           below = blocked-below s a (i .stands .stands);
           wide = i .cleared .wide;
@@ -92,7 +92,7 @@ pub record Seeking (ws m : List ℕ) (d k : ℕ) (c : List Bool) : Type 0 where
   pub cleared : Cleared (leads (seen ws)) (seen ws .blocked) c
   pub deep : unmarked (seen ws .blocked) c ≤ d
 
-pub seeking-starts : {ws m : List ℕ} {d k : ℕ} {c : List Bool} → Some Core ws → Ranked ws m → Left ws c d → k ≡ word-in ws (of-header 5) → Seeking ws m d k c
+pub seeking-starts : {ws m : List ℕ} {d k : ℕ} {c : List Bool} → Some Core ws → Ranked ws m → Uncleared ws c d → k ≡ word-in ws (of-header 5) → Seeking ws m d k c
 unfolding victim
 seeking-starts {ws} {m} {d} {k} {c} s r l e =
     let all = blocked-onward ws k s e in
@@ -173,7 +173,7 @@ first-none p [] h = refl
 first-none p (x ∷ xs) h = rw (h x (rw count-same (omega arith)), first-that) (first-none p xs (λ j m. h j (omega (arith, count-step j x xs))))
 
 -- where no blocked lock is left, none is on a cycle
-all-free : (ws : List ℕ) (m : List Bool) → Left ws m 0 → 0 ≡ victim (seen ws)
+all-free : (ws : List ℕ) (m : List Bool) → Uncleared ws m 0 → 0 ≡ victim (seen ws)
 unfolding victim
 all-free ws m l =
     sym (first-none (deadlocked (seen ws)) (seen ws .blocked)
@@ -186,7 +186,7 @@ all-free ws m l =
 pub victim-told : {ws : List ℕ} {r : ℕ} → r ≡ victim (seen ws) → Tells Core victim ws r
 victim-told {ws} e = record { then = λ t c is. e ∙ victim-alike t (seen ws) (alike t c ws is) }
 
-pub victim-none : {ws : List ℕ} {m : List Bool} {n : ℕ} → Left ws m n → n ≡ 0 → Tells Core victim ws 0
+pub victim-none : {ws : List ℕ} {m : List Bool} {n : ℕ} → Uncleared ws m n → n ≡ 0 → Tells Core victim ws 0
 victim-none {ws} {m} l e = victim-told (all-free ws m (rw e at l))
 
 pub ruleset victim-laws = (needs, none-cleared, victim-none, victim-told)

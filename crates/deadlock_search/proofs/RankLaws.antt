@@ -13,10 +13,10 @@ use Rattle.tables.specs.Lists.{count, any}
 use Rattle.tables.specs.State.{Tables, lock, resource, blocked-lock}
 use Rattle.tables.proofs.Cases.{by-cases, by-equal, clash, or-left}
 use Rattle.tables.proofs.Counts.{count-nil, count-same, count-other}
-use Rattle.tables.proofs.Valid.{Core, line}
+use Rattle.tables.specs.Validity.{Core, line}
 use Rattle.rules.specs.Deadlock.{before, ahead}
 use Rattle.deadlock_graph.proofs.LineAhead.{before-here, before-past, count-before, any-counted, line-blocked, line-here, line-has, ahead-line}
-use Rattle.deadlock_search.specs.Ranks.{rank, rank-of, number}
+use Rattle.deadlock_search.specs.Ranks.{rank, rank-of, write-ranks}
 
 -- ---- the place on a list
 
@@ -102,26 +102,26 @@ module _ (t : Tables) (c : Core t) where
 
 -- ---- writing down
 
-pub length-number : (n : ℕ) (xs m : List ℕ) → length (number n xs m) ≡ length m
-unfolding number
+pub length-number : (n : ℕ) (xs m : List ℕ) → length (write-ranks n xs m) ≡ length m
+unfolding write-ranks
 length-number n [] m = refl
 length-number n (x ∷ xs) m = length-number (suc n) xs (set m x (suc n)) ∙ length-set m x (suc n)
 
-pub number-append : (n : ℕ) (xs ys m : List ℕ) → number n (xs ++ ys) m ≡ number (n + length xs) ys (number n xs m)
-unfolding number
-number-append n [] ys m = ap (λ i. number i ys m) (omega arith)
-number-append n (x ∷ xs) ys m = number-append (suc n) xs ys (set m x (suc n)) ∙ ap (λ i. number i ys (number (suc n) xs (set m x (suc n)))) (omega arith)
+pub number-append : (n : ℕ) (xs ys m : List ℕ) → write-ranks n (xs ++ ys) m ≡ write-ranks (n + length xs) ys (write-ranks n xs m)
+unfolding write-ranks
+number-append n [] ys m = ap (λ i. write-ranks i ys m) (omega arith)
+number-append n (x ∷ xs) ys m = number-append (suc n) xs ys (set m x (suc n)) ∙ ap (λ i. write-ranks i ys (write-ranks (suc n) xs (set m x (suc n)))) (omega arith)
 
-pub number-off : (n : ℕ) (xs m : List ℕ) (k : ℕ) → count k xs ≡ 0 → getD (number n xs m) k 0 ≡ getD m k 0
-unfolding number
+pub number-off : (n : ℕ) (xs m : List ℕ) (k : ℕ) → count k xs ≡ 0 → getD (write-ranks n xs m) k 0 ≡ getD m k 0
+unfolding write-ranks
 number-off n [] m k z = refl
 number-off n (x ∷ xs) m k z =
     by-equal k x
     (λ e. absurd (omega (arith, rw (e, count-same x xs) at z)))
     (λ e. number-off (suc n) xs (set m x (suc n)) k (rw (count-other k x xs e) at z) ∙ getD-set-other m x k (suc n) 0 e)
 
-pub number-at : (n : ℕ) (xs m : List ℕ) (k : ℕ) → count k xs ≤ 1 → k < length m → 1 ≤ count k xs → getD (number n xs m) k 0 ≡ rank n k xs
-unfolding number
+pub number-at : (n : ℕ) (xs m : List ℕ) (k : ℕ) → count k xs ≤ 1 → k < length m → 1 ≤ count k xs → getD (write-ranks n xs m) k 0 ≡ rank n k xs
+unfolding write-ranks
 number-at n [] m k o l z = absurd (omega (arith, count-nil k))
 number-at n (x ∷ xs) m k o l z =
     by-equal k x

@@ -14,7 +14,8 @@ use Rattle.tables.specs.State.{Tables, lock, resource, converts, waits}
 use Rattle.tables.specs.Layout.{of-resource, of-lock, resources-in, locks-in, word-in}
 use Rattle.tables.proofs.Cases.{by-cases, by-equal}
 use Rattle.tables.proofs.Counts.{within-le}
-use Rattle.tables.proofs.Valid.{used, StateOk, Core, line, used-within}
+use Rattle.tables.specs.Validity.{used, StateOk, Core, line}
+use Rattle.tables.proofs.Valid.{used-within}
 use Rattle.tables.proofs.ChainMembers.{line-once, blocked-place}
 use Rattle.table_fields.specs.Sizes.{Sized}
 use Rattle.table_chains.specs.Contracts.{Some}
@@ -24,7 +25,7 @@ use Rattle.deadlock_graph.proofs.SameVictim.{Alike}
 use Rattle.deadlock_graph.proofs.ChainWalks.{some-sized, walk-splits, walk-ends, queue-onward, walk-sized, walk-low, walk-high, walk-less, walk-on, line-converts}
 use Rattle.deadlock_graph.proofs.LockWords.{some-alike, resources-told}
 use Rattle.deadlock_graph.proofs.LineAhead.{line-here, line-alike}
-use Rattle.deadlock_search.specs.Ranks.{rank, rank-of, number, Unranked, Numbered, Ranked}
+use Rattle.deadlock_search.specs.Ranks.{rank, rank-of, write-ranks, Unranked, Numbered, Ranked}
 use Rattle.deadlock_search.proofs.RankLaws.{rank-none, length-number, number-append, number-off, number-at}
 
 -- ---- a chain
@@ -35,7 +36,7 @@ pub record Numbering (ws : List ℕ) (first n₀ : ℕ) (m₀ m : List ℕ) (k n
   pub size : length m ≡ length m₀
   pub below : n + length (onward ws 0 k) ≤ 2048
   pub count : n₀ + length (onward ws 0 first) ≡ n + length (onward ws 0 k)
-  pub whole : number n₀ (onward ws 0 first) m₀ ≡ number n (onward ws 0 k) m
+  pub whole : write-ranks n₀ (onward ws 0 first) m₀ ≡ write-ranks n (onward ws 0 k) m
 
 pub numbering-starts : {ws : List ℕ} {k n : ℕ} {m : List ℕ} → Walking ws 0 k → n ≤ 1024 → length m ≡ 1025 → Numbering ws k n m m k n
 numbering-starts w h l =
@@ -55,7 +56,7 @@ module _ {ws : List ℕ} {first n₀ k n : ℕ} {m₀ m : List ℕ} (i : Numberi
       numbering-place = omega (arith, i .wide, walk-high (i .walks) e, some-sized (i .walks .some) .few-locks)
 
       pub numbering-again : {x : ℕ} → x ≡ word-in ws (of-lock k 0) → Numbering ws first n₀ m₀ (set m j (n + 1)) x (n + 1)
-      unfolding number
+      unfolding write-ranks
       numbering-again h =
           let size : length (set m j (n + 1)) ≡ length m = length-set m j (n + 1) in
           record {
@@ -68,7 +69,7 @@ module _ {ws : List ℕ} {first n₀ k n : ℕ} {m₀ m : List ℕ} (i : Numberi
           }
 
   pub numbering-ends : k ≡ 0 → Numbered ws first n₀ m₀ m n
-  unfolding number
+  unfolding write-ranks
   numbering-ends e =
       let none : onward ws 0 k ≡ [] = rw (e, walk-ends ws 0) in
       record {
@@ -88,7 +89,7 @@ module _ {ws : List ℕ} {r : ℕ} (s : Some Core ws) (there : (1 ≤ r) × (r �
     line-last d = omega (arith, d .last, line-converts s there e .short, some-sized s .few-locks)
 
     module _ {y : ℕ} (h : y ≡ word-in ws (of-resource r 3)) where
-      pub line-done : {n p : ℕ} {m m₁ m₂ : List ℕ} → Numbered ws x 0 m m₁ n → Numbered ws y n m₁ m₂ p → m₂ ≡ number 0 (line (seen ws) r) m
+      pub line-done : {n p : ℕ} {m m₁ m₂ : List ℕ} → Numbered ws x 0 m m₁ n → Numbered ws y n m₁ m₂ p → m₂ ≡ write-ranks 0 (line (seen ws) r) m
       unfolding line
       line-done {n} {p} {m} {m₁} {m₂} a b =
           let cs : onward ws 0 x ≡ resource (seen ws) r .convert = ap (onward ws 0) e ∙ queue-onward ws s r converts (there .0) (there .1) in
@@ -147,7 +148,7 @@ module _ {ws m₀ m : List ℕ} {r : ℕ} (i : RankedBelow ws m₀ m r) where
       (λ p. absurd (n (here k (leb-true 1 (count k (line (seen ws) r)) p))))
       (λ p. omega (arith, leb-false 1 (count k (line (seen ws) r)) p))
 
-  module _ {m′ : List ℕ} (e : m′ ≡ number 0 (line (seen ws) r) m) where
+  module _ {m′ : List ℕ} (e : m′ ≡ write-ranks 0 (line (seen ws) r) m) where
     kept : (k : ℕ) → lock (seen ws) k .resource ≢ r → getD m′ k 0 ≡ getD m k 0
     kept k n = ap (λ x. getD x k 0) e ∙ number-off 0 (line (seen ws) r) m k (apart k n)
 

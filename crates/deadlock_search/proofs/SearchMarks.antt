@@ -14,7 +14,7 @@ use Rattle.rules.specs.Walks.{reaches, Walk, step, through}
 use Rattle.rules.proofs.WalkSearch.{search-complete}
 use Rattle.deadlock_graph.specs.Marks.{marked, unmarked, Cleared}
 use Rattle.deadlock_graph.proofs.Marks.{mark-same, mark-other, Keeping, mark-kept, join}
-use Rattle.deadlock_search.specs.SearchMarks.{Passed, Tried, Grown, Ready, Followed, Searched}
+use Rattle.deadlock_search.specs.SearchMarks.{Passed, Tried, Grown, StartNode, Followed, Searched}
 
 -- ---- how many are left
 
@@ -100,7 +100,7 @@ module _ {leads : ℕ → ℕ → Bool} {t : ℕ} where
 
       -- ---- the loop of a search, which tries each step from `from`
 
-      pub loop-start : {from d : ℕ} {m : List Bool} → leads from 0 ≡ false → Ready nodes n from m → marked m from ≡ false → unmarked nodes m ≤ d →
+      pub loop-start : {from d : ℕ} {m : List Bool} → leads from 0 ≡ false → StartNode nodes n from m → marked m from ≡ false → unmarked nodes m ≤ d →
           Loop leads nodes n t from d (set m from true) (set m from true) 1
       loop-start {from} {d} {m} z r f u =
           let l : from < length m = omega (arith, r .below, r .wide, r .small) in
@@ -134,7 +134,7 @@ module _ {leads : ℕ → ℕ → Bool} {t : ℕ} where
       pub loop-found : {from b : ℕ} {m m₁ m′ : List Bool} {r : Bool} → r ≡ true → Followed leads nodes n from b t m₁ m′ r → Searched leads nodes n from t m m′ true
       loop-found e f = record { found = λ q. f .found e; grown = λ q. clash true refl q; entered = λ q. clash true refl q }
 
-      pub loop-done : {from d b : ℕ} {m m′ : List Bool} → Ready nodes n from m → Loop leads nodes n t from d (set m from true) m′ b → n ≤ b → Searched leads nodes n from t m m′ false
+      pub loop-done : {from d b : ℕ} {m m′ : List Bool} → StartNode nodes n from m → Loop leads nodes n t from d (set m from true) m′ b → n ≤ b → Searched leads nodes n from t m m′ false
       loop-done {from} {d} {b} {m} {m′} r i h =
           let l : from < length m = omega (arith, r .below, r .wide, r .small) in
           let here : Tried leads t m′ from n = record { each = λ y j. i .tried .each y (omega arith) } in

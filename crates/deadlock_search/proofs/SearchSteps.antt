@@ -12,7 +12,7 @@ use Rattle.tables.specs.Lists.{any}
 use Rattle.tables.specs.State.{Tables, lock, blocked-lock}
 use Rattle.tables.specs.Layout.{of-lock, locks-in, word-in}
 use Rattle.tables.proofs.Cases.{by-cases, and-left}
-use Rattle.tables.proofs.Valid.{Core}
+use Rattle.tables.specs.Validity.{Core}
 use Rattle.rules.specs.Deadlock.{ahead, leads}
 use Rattle.table_fields.specs.Sizes.{Sized}
 use Rattle.table_chains.specs.Contracts.{Some}
@@ -113,10 +113,10 @@ leads-only-blocked ws a b s h = is-blocked ws b s (and-left (blocked-lock (lock 
 
 module _ {ws ranks : List ℕ} {owners m : List Bool} {from b d : ℕ} (i : Following ws ranks owners from b d m) where
   pub follow-blocked : Blocked ws from
-  follow-blocked = record { some = i .some; stands = i .ready .start }
+  follow-blocked = record { some = i .some; stands = i .start-node .start }
 
   pub follow-place : b < length m
-  follow-place = omega (arith, i .at .high, some-sized (i .some) .few-locks, i .ready .wide)
+  follow-place = omega (arith, i .at .high, some-sized (i .some) .few-locks, i .start-node .wide)
 
   pub follow-depth : 1 ≤ d
   follow-depth = omega (arith, i .deep)
@@ -144,7 +144,7 @@ module _ {ws ranks : List ℕ} {owners m : List Bool} {from b d : ℕ} (i : Foll
         record {
           some = i .some;
           ranked = i .ranked;
-          ready = record { start = b-blocked .stands; below = omega (arith, i .at .high); wide = i .ready .wide; small = i .ready .small };
+          start-node = record { start = b-blocked .stands; below = omega (arith, i .at .high); wide = i .start-node .wide; small = i .start-node .small };
           fresh = f;
           deep = omega (arith, i .deep);
         }
@@ -160,16 +160,16 @@ module _ {ws ranks : List ℕ} {m : List Bool} {from d : ℕ} (s : Searching ws 
   search-sized = some-sized (s .some)
 
   pub search-blocked : Blocked ws from
-  search-blocked = record { some = s .some; stands = s .ready .start }
+  search-blocked = record { some = s .some; stands = s .start-node .start }
 
   pub search-deep : d ≡ 0 → ⊥
-  search-deep e = omega (arith, s .deep, some-left (seen ws .blocked) m from (s .ready .start) (s .fresh))
+  search-deep e = omega (arith, s .deep, some-left (seen ws .blocked) m from (s .start-node .start) (s .fresh))
 
   pub search-place : from < length m
-  search-place = omega (arith, s .ready .below, s .ready .wide, s .ready .small)
+  search-place = omega (arith, s .start-node .below, s .start-node .wide, s .start-node .small)
 
   pub search-starts : {t : ℕ} → Loop (leads (seen ws)) (seen ws .blocked) (locks-in ws + 1) t from d (set m from true) (set m from true) 1
-  search-starts = loop-start (no-zero (seen ws) from) (s .ready) (s .fresh) (s .deep)
+  search-starts = loop-start (no-zero (seen ws) from) (s .start-node) (s .fresh) (s .deep)
 
   module _ {t b : ℕ} {m′ : List Bool} (i : Loop (leads (seen ws)) (seen ws .blocked) (locks-in ws + 1) t from d (set m from true) m′ b) {last : ℕ} (e : last ≡ locks-in ws) where
     pub search-follows : {owners : List Bool} → Barred ws from owners → b ≤ last → Following ws ranks owners from b d m′
@@ -179,7 +179,7 @@ module _ {ws ranks : List ℕ} {m : List Bool} {from d : ℕ} (s : Searching ws 
           ranked = s .ranked;
           barred = z;
           at = record { some = s .some; low = i .low; high = omega arith };
-          ready = record { start = s .ready .start; below = s .ready .below; wide = i .wide; small = s .ready .small };
+          start-node = record { start = s .start-node .start; below = s .start-node .below; wide = i .wide; small = s .start-node .small };
           deep = i .deep;
         }
 
@@ -187,7 +187,7 @@ module _ {ws ranks : List ℕ} {m : List Bool} {from d : ℕ} (s : Searching ws 
     search-fits l = omega (arith, some-sized (s .some) .few-locks)
 
     pub search-done : last < b → Searched (leads (seen ws)) (seen ws .blocked) (locks-in ws + 1) from t m m′ false
-    search-done h = loop-done (s .ready) i (omega arith)
+    search-done h = loop-done (s .start-node) i (omega arith)
 
 -- the marks keep their number
 module _ {step : ℕ → ℕ → Bool} {nodes : List ℕ} {n t from d b : ℕ} {m′ : List Bool} (m : List Bool) where

@@ -11,7 +11,7 @@ use Rattle.rules.specs.Deadlock.{obstacles, owner}
 use Rattle.deadlock_graph.specs.Contracts.{seen}
 use Rattle.deadlock_graph.specs.Owners.{in-way}
 
--- the owner of a lock that is in a's way is written down; the owners of all such of a list
+-- the owner of j is written down if j is in a's way; the same for each lock of a list
 unfoldable pub note : Tables → ℕ → ℕ → List Bool → List Bool
 note t a j o = cond (in-way t a j) (set o (owner (lock t j)) true) o
 

@@ -7,7 +7,7 @@ use lib.ListN.{getD, set, length}
 use lib.Dec.{eqb}
 use Rattle.tables.specs.State.{Tables, lock}
 use Rattle.tables.specs.Layout.{locks-in}
-use Rattle.tables.proofs.Valid.{line}
+use Rattle.tables.specs.Validity.{line}
 use Rattle.deadlock_graph.specs.Contracts.{seen}
 use Rattle.deadlock_graph.specs.Chained.{onward}
 
@@ -21,9 +21,9 @@ unfoldable pub rank-of : Tables → ℕ → ℕ
 rank-of t k = rank 0 k (line t (lock t k .resource))
 
 -- the places of a list's members, counted on from n, are written down
-unfoldable pub number : ℕ → List ℕ → List ℕ → List ℕ
-number n [] m = m
-number n (k ∷ ks) m = number (suc n) ks (set m k (suc n))
+unfoldable pub write-ranks : ℕ → List ℕ → List ℕ → List ℕ
+write-ranks n [] m = m
+write-ranks n (k ∷ ks) m = write-ranks (suc n) ks (set m k (suc n))
 
 -- none is written down yet
 pub record Unranked (m : List ℕ) : Type 0 where
@@ -33,7 +33,7 @@ pub record Unranked (m : List ℕ) : Type 0 where
 -- the locks from `first` on have got their ranks, counted on from n up to r
 pub record Numbered (ws : List ℕ) (first n : ℕ) (m m′ : List ℕ) (r : ℕ) : Type 0 where
   pub last : r ≡ n + length (onward ws 0 first)
-  pub written : m′ ≡ number n (onward ws 0 first) m
+  pub written : m′ ≡ write-ranks n (onward ws 0 first) m
 
 -- the ranks are written down
 pub record Ranked (ws m : List ℕ) : Type 0 where

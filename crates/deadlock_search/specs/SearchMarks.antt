@@ -17,13 +17,13 @@ pub record Passed (t : ℕ) (m : List Bool) (y : ℕ) : Type 0 where
 pub record Tried (leads : ℕ → ℕ → Bool) (t : ℕ) (m : List Bool) (x b : ℕ) : Type 0 where
   pub each : (y : ℕ) → y < b → leads x y ≡ true → Passed t m y
 
--- from the marks m to the marks m′: no mark is taken away, and each node that was entered has been tried in vain. n: past the last node
+-- between the marks m and the marks m′ no mark is taken away, and each node that was entered has been tried in vain; the nodes are below n
 pub record Grown (leads : ℕ → ℕ → Bool) (n t : ℕ) (m m′ : List Bool) : Type 0 where
   pub kept : (x : ℕ) → marked m x ≡ true → marked m′ x ≡ true
   pub closed : (x : ℕ) → marked m x ≡ false → marked m′ x ≡ true → Tried leads t m′ x n
 
 -- a node to begin at, and a mark for each number below n
-pub record Ready (nodes : List ℕ) (n from : ℕ) (m : List Bool) : Type 0 where
+pub record StartNode (nodes : List ℕ) (n from : ℕ) (m : List Bool) : Type 0 where
   pub start : 1 ≤ count from nodes
   pub below : from < n
   pub wide : length m ≡ 1025

@@ -4,14 +4,14 @@ use mathlib.Core.Bool.{Bool, false}
 use mathlib.Core.List.{List}
 use Prim.Native.Nat.{ℕ, _+_, _<_, _≤_}
 use Rattle.tables.specs.Layout.{locks-in}
-use Rattle.tables.proofs.Valid.{Core}
+use Rattle.tables.specs.Validity.{Core}
 use Rattle.rules.specs.Deadlock.{leads}
 use Rattle.table_chains.specs.Contracts.{Some}
 use Rattle.deadlock_graph.specs.Contracts.{seen, At, Blocked}
 use Rattle.deadlock_graph.specs.Marks.{marked, unmarked, Cleared}
 use Rattle.deadlock_search.specs.Ranks.{Ranked}
 use Rattle.deadlock_search.specs.OwnersInTheWay.{Barred}
-use Rattle.deadlock_search.specs.SearchMarks.{Ready}
+use Rattle.deadlock_search.specs.SearchMarks.{StartNode}
 
 -- `from` is entered, and fewer blocked locks than the depth are left
 pub record Following (ws ranks : List ℕ) (owners : List Bool) (from b d : ℕ) (m : List Bool) : Type 0 where
@@ -19,14 +19,14 @@ pub record Following (ws ranks : List ℕ) (owners : List Bool) (from b d : ℕ)
   pub ranked : Ranked ws ranks
   pub barred : Barred ws from owners
   pub at : At ws b
-  pub ready : Ready (seen ws .blocked) (locks-in ws + 1) from m
+  pub start-node : StartNode (seen ws .blocked) (locks-in ws + 1) from m
   pub deep : unmarked (seen ws .blocked) m < d
 
 -- `from` is to be entered, and no more blocked locks than the depth are left
 pub record Searching (ws ranks : List ℕ) (from d : ℕ) (m : List Bool) : Type 0 where
   pub some : Some Core ws
   pub ranked : Ranked ws ranks
-  pub ready : Ready (seen ws .blocked) (locks-in ws + 1) from m
+  pub start-node : StartNode (seen ws .blocked) (locks-in ws + 1) from m
   pub fresh : marked m from ≡ false
   pub deep : unmarked (seen ws .blocked) m ≤ d
 

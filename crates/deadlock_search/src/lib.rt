@@ -23,16 +23,16 @@ ghost use lib.Dec.{eqb};
 ghost use lib.ListN.{length};
 ghost use Rattle.tables.specs.Lists.{any};
 ghost use Rattle.tables.specs.Layout.{«resources-in», «locks-in»};
-ghost use Rattle.tables.proofs.Valid.{Core, line};
+ghost use Rattle.tables.specs.Validity.{Core, line};
 ghost use Rattle.rules.specs.Deadlock.{ahead, leads, deadlocked, victim};
 ghost use Rattle.table_chains.specs.Contracts.{Some, Tells};
 ghost use Rattle.deadlock_graph.specs.Contracts.{seen, At, Blocked};
 ghost use Rattle.deadlock_graph.specs.Chained.{onward, Walking};
-ghost use Rattle.deadlock_search.specs.Ranks.{number, Unranked, Numbered, Ranked};
+ghost use Rattle.deadlock_search.specs.Ranks.{«write-ranks», Unranked, Numbered, Ranked};
 ghost use Rattle.deadlock_search.specs.OwnersInTheWay.{note, «note-all», Unbarred, Barred};
 ghost use Rattle.deadlock_search.specs.SearchMarks.{Followed, Searched};
 ghost use Rattle.deadlock_search.specs.Searches.{Following, Searching, Trying};
-ghost use Rattle.deadlock_prune.specs.Clearing.{Left};
+ghost use Rattle.deadlock_prune.specs.Clearing.{Uncleared};
 
 // The owner of j is written down, if j is in a's way.
 fn note_owner(words: &[u32], a: u32, j: u32, owners: &mut [bool])
@@ -48,7 +48,7 @@ fn note_owner(words: &[u32], a: u32, j: u32, owners: &mut [bool])
     owners[owner] = true;
 }
 
-// .. and so for each lock of a home chain, from `first` on.
+// The same for each lock of a home chain, from `first` on.
 fn note_owners(words: &[u32], a: u32, first: u32, owners: &mut [bool])
     requires { ⌜ At (now words) a ⌝ }
     requires { ⌜ Walking (now words) 0 first ⌝ }
@@ -96,7 +96,7 @@ fn rank_line(words: &[u32], r: u32, ranks: &mut [u32])
     requires { ⌜ Some Core (now words) ⌝ }
     requires { ⌜ (1 ≤ r) × (r ≤ resources-in (now words)) ⌝ }
     requires { ⌜ length (now ranks) ≡ 1025 ⌝ }
-    ensures { λ _. ⌜ now (ranks .exit) ≡ number 0 (line (seen (now (words .entry))) r) (now (ranks .entry)) ⌝ }
+    ensures { λ _. ⌜ now (ranks .exit) ≡ write-ranks 0 (line (seen (now (words .entry))) r) (now (ranks .entry)) ⌝ }
 {
     let last = rank_chain(words, resource_word(words, r, RESOURCE_CONVERT), 0, ranks);
     rank_chain(words, resource_word(words, r, RESOURCE_WAIT), last, ranks);
@@ -217,7 +217,7 @@ fn on_cycle(words: &[u32], ranks: &[u32], a: u32, depth: u32, cleared: &[bool; L
 // enters it. A search is never deeper than the count of blocked locks that were left.
 fn first_on_cycle(words: &[u32], left: u32, cleared: [bool; LOCK_PLACES]) -> u32
     requires { ⌜ Some Core (now words) ⌝ }
-    requires { ⌜ Left (now words) cleared left ⌝ }
+    requires { ⌜ Uncleared (now words) cleared left ⌝ }
     ensures { λ r. ⌜ r ≡ victim (seen (now (words .entry))) ⌝ }
 {
     let mut ranks = [0; LOCK_PLACES];

@@ -18,7 +18,7 @@ use Rattle.tables.proofs.Counts.{within-le, count-same, count-step, count-appen
 use Rattle.tables.proofs.ReadBack.{word-read, chain-read}
 use Rattle.tables.proofs.ChainMembers.{on-chain}
 use Rattle.tables.proofs.Soundness.{sound-valid, sound-words, sound-slots}
-use Rattle.tables.proofs.Valid.{Core}
+use Rattle.tables.specs.Validity.{Core}
 use Rattle.rules.specs.Queues.{find}
 use Rattle.rules.specs.Images.{holder-of, ex}
 use Rattle.table_fields.specs.Sizes.{Sized}

@@ -15,7 +15,7 @@ use Rattle.rules.specs.Calls.{unless, name-right}
 use Rattle.rules.specs.Images.{image-size, image-words, image-slots, image-sound, holder-of, holder-refusal, holder-answer, holder-entry}
 use Rattle.entry_image.specs.Contracts.{Measured}
 use Rattle.entry_image.proofs.ImageMeasure.{measured, sound-measure, sound-inside, rest-slots}
-use Rattle.entry_holder.specs.Contracts.{Whole}
+use Rattle.entry_holder.specs.Contracts.{HasAllWords}
 
 module _ (bs nm : List ℕ) (x : Bool) (ex : x ≡ image-sound bs) where
   pub answer-unsound : not x ≡ true → 257 ≡ holder-entry bs nm
@@ -37,7 +37,7 @@ module _ (bs nm : List ℕ) (x : Bool) (ex : x ≡ image-sound bs) where
       slots-here : take (length bs - 4 * n) (drop (4 * n) bs) ≡ image-slots bs
       slots-here = rest-slots bs n size-here
 
-      pub answer-whole : Whole bs
+      pub answer-whole : HasAllWords bs
       answer-whole =
           let s = sound-inside bs sound-here in
           record {

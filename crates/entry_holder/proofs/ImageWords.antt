@@ -10,9 +10,9 @@ use Rattle.tables.specs.Layout.{size, header-width, resource-width, lock-width,
 use Rattle.tables.proofs.Blocks.{getD-map-from, length-map-from}
 use Rattle.rules.specs.Images.{word-from, image-size, image-words}
 use Rattle.entry_image.proofs.ImageMeasure.{first-word}
-use Rattle.entry_holder.specs.Contracts.{Whole}
+use Rattle.entry_holder.specs.Contracts.{HasAllWords}
 
-module _ (bs : List ℕ) (w : Whole bs) where
+module _ (bs : List ℕ) (w : HasAllWords bs) where
   size-is : image-size bs ≡ size (resources-in (image-words bs)) (locks-in (image-words bs))
   unfolding image-words
   size-is = sym (length-map-from (λ i. word-from bs (4 * i)) 0 (image-size bs)) ∙ w .sized .long

@@ -13,7 +13,7 @@ use Rattle.table_fields.specs.Sizes.{Sized}
 use Rattle.queues.specs.Holders.{held-in, Linked}
 
 -- the bytes have all the words that their first two say
-pub record Whole (bs : List ℕ) : Type 0 where
+pub record HasAllWords (bs : List ℕ) : Type 0 where
   pub sized : Sized (image-words bs)
   pub inside : 4 * image-size bs ≤ length bs
 
@@ -24,7 +24,7 @@ pub record Chained (ws : List ℕ) (j : ℕ) : Type 0 where
   pub linked : Linked ws j locks
   pub few : length locks ≤ locks-in ws
 
--- a lock that holds EX, by the words; on a state the first on the resource r that does, or 0
+-- whether a lock holds EX, by the words; and on a state the first lock on the resource r that does, or 0
 unfoldable pub holds-ex : List ℕ → ℕ → Bool
 holds-ex ws k = eqb (held-in ws k) ex
 

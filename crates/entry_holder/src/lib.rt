@@ -20,21 +20,21 @@ ghost use Rattle.table_names.specs.Names.{«name-in», «find-in»};
 ghost use Rattle.table_names.specs.Contracts.{Short, Named};
 ghost use Rattle.table_chains.specs.Contracts.{Some, Tells, Resourced};
 ghost use Rattle.queues.specs.Holders.{«locks-from»};
-ghost use Rattle.entry_holder.specs.Contracts.{Whole, Chained, «holds-ex», «ex-lock»};
+ghost use Rattle.entry_holder.specs.Contracts.{HasAllWords, Chained, «holds-ex», «ex-lock»};
 
-// To the takeover program a refusal is this plus its number.
+// The takeover program gets a refusal as this plus its number.
 const REFUSED: u32 = 256;
 
-// The words of the image's tables, as `fields` gives those of tables.
+// The words of the image's tables, as `table_fields` gives those of tables.
 fn resource_count(image: &[u8]) -> u32
-    requires { ⌜ Whole (now image) ⌝ }
+    requires { ⌜ HasAllWords (now image) ⌝ }
     ensures { λ x. ⌜ x ≡ resources-in (image-words (now (image .entry))) ⌝ }
 {
     word_at(image, WORD_BYTES * table_fields::RESOURCES)
 }
 
 fn resource_word(image: &[u8], r: u32, field: usize) -> u32
-    requires { ⌜ Whole (now image) ⌝ }
+    requires { ⌜ HasAllWords (now image) ⌝ }
     requires { ⌜ (1 ≤ r) × (r ≤ resources-in (image-words (now image))) ⌝ }
     requires { ⌜ field < resource-width ⌝ }
     ensures { λ x. ⌜ x ≡ word-in (image-words (now (image .entry))) (of-resource r field) ⌝ }
@@ -44,7 +44,7 @@ fn resource_word(image: &[u8], r: u32, field: usize) -> u32
 }
 
 fn lock_word(image: &[u8], k: u32, field: usize) -> u32
-    requires { ⌜ Whole (now image) ⌝ }
+    requires { ⌜ HasAllWords (now image) ⌝ }
     requires { ⌜ (1 ≤ k) × (k ≤ locks-in (image-words (now image))) ⌝ }
     requires { ⌜ field < lock-width ⌝ }
     ensures { λ x. ⌜ x ≡ word-in (image-words (now (image .entry))) (of-lock k field) ⌝ }
@@ -57,7 +57,7 @@ fn lock_word(image: &[u8], k: u32, field: usize) -> u32
 }
 
 fn name_length(image: &[u8], r: u32) -> usize
-    requires { ⌜ Whole (now image) ⌝ }
+    requires { ⌜ HasAllWords (now image) ⌝ }
     requires { ⌜ Short (image-words (now image)) ⌝ }
     requires { ⌜ (1 ≤ r) × (r ≤ resources-in (image-words (now image))) ⌝ }
     ensures { λ x. ⌜ (x ≡ word-in (image-words (now (image .entry))) (of-resource r 4)) × (x ≤ name-width) ⌝ }
@@ -67,7 +67,7 @@ fn name_length(image: &[u8], r: u32) -> usize
 
 // Whether that is the name of r.
 fn has_name(image: &[u8], slots: &[u8], r: u32, name: &[u8]) -> bool
-    requires { ⌜ Whole (now image) ⌝ }
+    requires { ⌜ HasAllWords (now image) ⌝ }
     requires { ⌜ Named (image-words (now image)) (now slots) ⌝ }
     requires { ⌜ (1 ≤ r) × (r ≤ resources-in (image-words (now image))) ⌝ }
     ensures { λ x. ⌜ x ≡ same (name-in (image-words (now (image .entry))) (now (slots .entry)) r) (now (name .entry)) ⌝ }
@@ -83,7 +83,7 @@ fn has_name(image: &[u8], slots: &[u8], r: u32, name: &[u8]) -> bool
 
 // The resource of that name, or 0.
 fn named_resource(image: &[u8], slots: &[u8], name: &[u8]) -> u32
-    requires { ⌜ Whole (now image) ⌝ }
+    requires { ⌜ HasAllWords (now image) ⌝ }
     requires { ⌜ Named (image-words (now image)) (now slots) ⌝ }
     ensures { λ x. ⌜ x ≡ find-in (image-words (now (image .entry))) (now (slots .entry)) (now (name .entry)) ⌝ }
 {
@@ -100,7 +100,7 @@ fn named_resource(image: &[u8], slots: &[u8], name: &[u8]) -> u32
 
 // The first lock from `first` on along its queue that holds EX, or 0.
 fn ex_from(image: &[u8], first: u32) -> u32
-    requires { ⌜ Whole (now image) ⌝ }
+    requires { ⌜ HasAllWords (now image) ⌝ }
     requires { ⌜ Chained (image-words (now image)) first ⌝ }
     ensures { λ k. ⌜ k ≡ first-that (holds-ex (image-words (now (image .entry)))) (locks-from (image-words (now (image .entry))) first) ⌝ }
 {
@@ -116,7 +116,7 @@ fn ex_from(image: &[u8], first: u32) -> u32
 
 // The first lock that holds EX on r, or 0: granted, or converting.
 fn ex_lock(image: &[u8], r: u32) -> u32
-    requires { ⌜ Whole (now image) ⌝ }
+    requires { ⌜ HasAllWords (now image) ⌝ }
     requires { ⌜ Some (Resourced r) (image-words (now image)) ⌝ }
     ensures { λ k. ⌜ Tells (Resourced r) (ex-lock r) (image-words (now (image .entry))) k ⌝ }
 {
@@ -131,7 +131,7 @@ fn ex_lock(image: &[u8], r: u32) -> u32
 
 // The client that holds EX on that name in the tables of the image, whose slots are these, or 0.
 fn ex_holder(image: &[u8], slots: &[u8], name: &[u8]) -> u32
-    requires { ⌜ Whole (now image) ⌝ }
+    requires { ⌜ HasAllWords (now image) ⌝ }
     requires { ⌜ sound (image-words (now image)) (now slots) ≡ true ⌝ }
     ensures { λ x. ⌜ x ≡ holder-of (find (now (name .entry)) (read (image-words (now (image .entry))) (now (slots .entry)))) (read (image-words (now (image .entry))) (now (slots .entry))) ⌝ }
 {

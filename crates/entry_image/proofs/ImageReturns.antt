@@ -13,12 +13,12 @@ use lib.Seq.{take-at, length-take-le}
 use Rattle.tables.specs.Sound.{sound}
 use Rattle.tables.proofs.Cases.{by-cases, and-left, and-right}
 use Rattle.tables.proofs.Conditions.{words-sized}
-use Rattle.rules.specs.Calls.{unless}
-use Rattle.rules.specs.Entries.{Outcome}
+use Rattle.rules.specs.Calls.{accepted, refused, unless}
+use Rattle.rules.specs.Entries.{Lent, lent, Outcome, outcome}
 use Rattle.rules.specs.Images.{image-bytes, image-refusal, image-into, image-entry, image-size, image-words, image-slots, image-sound, load-refusal, load-into, load-entry}
 use Rattle.answers.specs.declared.Done.{Done}
 use Rattle.answers.specs.declared.Done.the-variants.{Accepted, Refused}
-use Rattle.answers.specs.Answers.{accepted, refused, done, outcome}
+use Rattle.answers.specs.Answers.{done}
 use Rattle.table_bytes.specs.Bytes.{encoded}
 use Rattle.table_bytes.proofs.Loops.{length-encoded}
 use Rattle.entry_image.specs.Contracts.{imaged, Decoded}
@@ -72,7 +72,7 @@ pub both-fit : (a b : ℕ) (y : Bool) → not (eqb a b && y) ≡ false → a ≡
 both-fit a b y h = eqb-true a b (and-left _ _ (not-false (eqb a b && y) h))
 
 module _ (bs ws ss : List ℕ) (x : Bool) (ex : x ≡ image-sound bs) where
-  pub load-unsound : not x ≡ true → outcome (refused 1) ws ss ≡ load-entry bs ws ss
+  pub load-unsound : not x ≡ true → outcome (refused 1) (lent ws ss) ≡ load-entry bs (lent ws ss)
   unfolding load-entry load-refusal unless load-into
   load-unsound h = let s : image-sound bs ≡ false = sym ex ∙ not-true x h in rw s
 
@@ -87,7 +87,7 @@ module _ (bs ws ss : List ℕ) (x : Bool) (ex : x ≡ image-sound bs) where
     unfolding image-slots
     slots-long = length-drop (4 * image-size bs) bs ∙ ap (λ (k : ℕ). length bs - 4 * k) (sym (decoded-size bs zs d sound-here))
 
-    pub load-misfit : not (eqb (length ws) (length zs) && eqb (length ss) (length bs - 4 * length zs)) ≡ true → outcome (refused 14) ws ss ≡ load-entry bs ws ss
+    pub load-misfit : not (eqb (length ws) (length zs) && eqb (length ss) (length bs - 4 * length zs)) ≡ true → outcome (refused 14) (lent ws ss) ≡ load-entry bs (lent ws ss)
     unfolding load-entry load-refusal unless load-into
     load-misfit h = rw (sound-here, words-long, slots-long, not-true (eqb (length ws) (length zs) && eqb (length ss) (length bs - 4 * length zs)) h)
 
@@ -105,24 +105,24 @@ module _ (bs ws ss : List ℕ) (x : Bool) (ex : x ≡ image-sound bs) where
       load-slots = slots-fit ∙ sym slots-long ∙ ap length (sym part-is)
 
       pub load-done : (vs ts : List ℕ) → vs ≡ zs → ts ≡ take (length bs - 4 * length zs) (drop (4 * length zs) bs)
-          → outcome (accepted 0 0) vs ts ≡ load-entry bs ws ss
+          → outcome (accepted 0 0) (lent vs ts) ≡ load-entry bs (lent ws ss)
       unfolding load-entry load-refusal unless load-into
       load-done vs ts ev et =
           rw (sound-here, words-long, slots-long, both)
-          (ap₂ (outcome (accepted 0 0)) (ev ∙ decoded-words bs zs d sound-here) (et ∙ part-is))
+          (ap₂ (λ (v z : List ℕ). outcome (accepted 0 0) (lent v z)) (ev ∙ decoded-words bs zs d sound-here) (et ∙ part-is))
 
 pub ruleset loading = (needs, load-unsound, load-misfit, load-slots, load-done)
 
 -- sound_image: a large image that is loaded into nothing is refused for the lengths where it is sound
-refusal-kept : (bs ws ss : List ℕ) (n : ℕ) → load-into n bs ws ss .refusal ≡ n
+refusal-kept : (bs : List ℕ) (t : Lent) (n : ℕ) → load-into n bs t .said .refusal ≡ n
 unfolding load-into
-refusal-kept bs ws ss zero = refl
-refusal-kept bs ws ss (suc n) = refl
+refusal-kept bs t zero = refl
+refusal-kept bs t (suc n) = refl
 
-module _ (bs ws ss : List ℕ) (d : Done) (told : outcome (done d) ws ss ≡ load-entry bs [] []) where
+module _ (bs ws ss : List ℕ) (d : Done) (told : outcome (done d) (lent ws ss) ≡ load-entry bs (lent [] [])) where
   refusal-told : done d .refusal ≡ load-refusal bs [] []
   unfolding load-entry
-  refusal-told = ap (λ (o : Outcome). o .refusal) told ∙ refusal-kept bs [] [] (load-refusal bs [] [])
+  refusal-told = ap (λ (o : Outcome). o .said .refusal) told ∙ refusal-kept bs (lent [] []) (load-refusal bs [] [])
 
   nothing-fits : image-sound bs ≡ true → load-refusal bs [] [] ≡ 14
   unfolding load-refusal unless

@@ -9,12 +9,12 @@ use lib.ListN.{length, getD, drop, length-append, take-append-drop}
 use lib.Seq.{drop-at}
 use Rattle.tables.specs.Layout.{size, slot-width, resources-in, locks-in}
 use Rattle.tables.specs.Sound.{sound}
-use Rattle.tables.proofs.Links.{Each}
+use Rattle.tables.specs.Threads.{Each}
 use Rattle.tables.proofs.Blocks.{getD-map-from}
 use Rattle.tables.proofs.Conditions.{words-sized, slots-sized}
-use Rattle.rules.specs.Calls.{unless}
+use Rattle.rules.specs.Calls.{accepted, unless}
+use Rattle.rules.specs.Entries.{lent, outcome}
 use Rattle.rules.specs.Images.{image-bytes, word-from, image-size, image-words, image-slots, image-sound, load-refusal, load-into, load-entry}
-use Rattle.answers.specs.Answers.{accepted, outcome}
 use Rattle.table_bytes.specs.Bytes.{encoded, decoded}
 use Rattle.table_bytes.proofs.Loops.{length-encoded}
 use Rattle.table_bytes.proofs.Inverse.{decoded-encoded, encoded-decoded}
@@ -62,11 +62,11 @@ module _ (ws ss : List ℕ) (h : sound ws ss ≡ true) (small : Each (λ w. w < 
   image-is-sound = rw (eq-eqb _ _ length-is, words-are, slots-are) h
 
   -- LOAD OF IMAGE: into tables of these lengths the image of sound tables is loaded as it was
-  pub load-of-image : (vs ts : List ℕ) → length vs ≡ length ws → length ts ≡ length ss → load-entry (image-bytes ws ss) vs ts ≡ outcome (accepted 0 0) ws ss
+  pub load-of-image : (vs ts : List ℕ) → length vs ≡ length ws → length ts ≡ length ss → load-entry (image-bytes ws ss) (lent vs ts) ≡ outcome (accepted 0 0) (lent ws ss)
   unfolding load-entry load-refusal unless load-into
   load-of-image vs ts p q =
       rw (image-is-sound, words-are, slots-are, eq-eqb (length vs) (length ws) p, eq-eqb (length ts) (length ss) q)
-      (ap₂ (outcome (accepted 0 0)) words-are slots-are)
+      (ap₂ (λ (v z : List ℕ). outcome (accepted 0 0) (lent v z)) words-are slots-are)
 
 -- IMAGE OF LOAD: what is loaded from an image has that image. Bytes are below 256.
 pub image-of-load : (bs : List ℕ) → image-sound bs ≡ true → Each (λ b. b < 256) bs → image-bytes (image-words bs) (image-slots bs) ≡ bs

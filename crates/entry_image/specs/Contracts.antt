@@ -7,11 +7,11 @@ use lib.ListN.{length}
 use lib.Dec.{eqb, leb}
 use Rattle.tables.specs.Layout.{size, slot-width}
 use Rattle.rules.specs.Images.{Imaged, image-length, word-from, image-size}
-use Rattle.answers.specs.Answers.{Numbers}
+use Rattle.rules.specs.Calls.{Said}
 use Rattle.table_bytes.specs.Bytes.{decoded}
 
 -- the answer, and what the lent area then holds
-abbrev pub imaged : Numbers → List ℕ → Imaged
+abbrev pub imaged : Said → List ℕ → Imaged
 imaged x area = record { refusal = x .refusal; area = area }
 
 -- the words of the largest tables
@@ -24,7 +24,7 @@ measures bs =
     leb 1 (word-from bs 0) && leb (word-from bs 0) 256 && leb 1 (word-from bs 4) && leb (word-from bs 4) 1024
     && eqb (length bs) (image-length (image-size bs) (slot-width * word-from bs 0))
 
--- then n is the number of its words; else 0
+-- n is the number of its words if they are, else 0
 pub record Measured (bs : List ℕ) (n : ℕ) : Type 0 where
   pub many : n ≡ cond (measures bs) (image-size bs) 0
   pub inside : 4 * n ≤ length bs

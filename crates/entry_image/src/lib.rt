@@ -1,4 +1,4 @@
-// The image of the two tables, its words little-endian and then its slots; and loading one.
+// The image of the two tables, first the words, little-endian, and then the slots; and loading an image.
 use answers::Done;
 use call_refusals::LENGTHS;
 use call_refusals::UNSOUND;
@@ -11,7 +11,8 @@ use table_fields::wide;
 ghost use mathlib.Core.Path.{_≡_};
 ghost use lib.ListN.{length};
 ghost use Rattle.rules.specs.Images.{«image-sound», «image-entry», «load-entry»};
-ghost use Rattle.answers.specs.Answers.{done, outcome};
+ghost use Rattle.rules.specs.Entries.{lent, outcome};
+ghost use Rattle.answers.specs.Answers.{done};
 ghost use Rattle.entry_image.specs.Contracts.{imaged, Measured, Decoded};
 
 // The words of the largest tables.
@@ -19,7 +20,8 @@ const MOST_WORDS: usize = table_fields::HEADER_WORDS
     + table_fields::RESOURCE_WORDS * table_fields::MOST_RESOURCES
     + table_fields::LOCK_WORDS * table_fields::MOST_LOCKS;
 
-// The smaller buffers. What decoding leaves over is cleared, so an image's words go to the smallest that has room for them.
+// The smaller buffers. What decoding leaves over is cleared, so an image's words go to the smallest buffer that has
+// room.
 const SMALL_WORDS: usize = 128;
 
 const MIDDLE_WORDS: usize = 3072;
@@ -67,7 +69,7 @@ pub fn words_in(image: &[u8]) -> usize
     n
 }
 
-// Whether it is an image of sound tables. `decoded` holds its words; an image with none isn't.
+// Whether it is an image of sound tables. `decoded` holds its words; it is empty if R, L or the length is wrong.
 fn is_sound(image: &[u8], decoded: &[u32]) -> bool
     requires { ⌜ Decoded (now image) (now decoded) ⌝ }
     ensures { λ x. ⌜ x ≡ image-sound (now (image .entry)) ⌝ }
@@ -92,7 +94,7 @@ fn copy_words(d: &mut [u32], s: &[u32])
 // where it is refused.
 fn load_from(image: &[u8], decoded: &[u32], words: &mut [u32], slots: &mut [u8]) -> Done
     requires { ⌜ Decoded (now image) (now decoded) ⌝ }
-    ensures { λ r. ⌜ outcome (done r) (now (words .exit)) (now (slots .exit)) ≡ load-entry (now (image .entry)) (now (words .entry)) (now (slots .entry)) ⌝ }
+    ensures { λ r. ⌜ outcome (done r) (lent (now (words .exit)) (now (slots .exit))) ≡ load-entry (now (image .entry)) (lent (now (words .entry)) (now (slots .entry))) ⌝ }
 {
     if !is_sound(image, decoded) {
         return Done::Refused(NO_IMAGE);
@@ -106,12 +108,12 @@ fn load_from(image: &[u8], decoded: &[u32], words: &mut [u32], slots: &mut [u8])
     Done::Accepted
 }
 
-// The same, the image's words in a large buffer. They are decoded where it is made: the optimizer then sees that nobody
-// else has it, clears only what they leave over, and copies by the C library. What is lent is lent on as wholes of itself,
-// as in `check_tables::sound`. Two functions call this one, so that the compiler leaves it a function: these buffers are then
-// not on the stack where the image is small.
+// The same with the image's words in a large buffer. This function also decodes them: the optimizer then sees that
+// nobody else has the buffer, clears only what the words leave over, and copies through the C library. The slices are
+// passed on as `[..]` of themselves, as in `check_tables::sound`. Two functions call this one, so that the compiler
+// does not inline it: the large buffers are then not on the stack when the image is small.
 fn load_large(image: &[u8], words: &mut [u32], slots: &mut [u8]) -> Done
-    ensures { λ r. ⌜ outcome (done r) (now (words .exit)) (now (slots .exit)) ≡ load-entry (now (image .entry)) (now (words .entry)) (now (slots .entry)) ⌝ }
+    ensures { λ r. ⌜ outcome (done r) (lent (now (words .exit)) (now (slots .exit))) ≡ load-entry (now (image .entry)) (lent (now (words .entry)) (now (slots .entry))) ⌝ }
 {
     let bytes = &image[..];
     let n = words_in(bytes);
@@ -125,9 +127,9 @@ fn load_large(image: &[u8], words: &mut [u32], slots: &mut [u8]) -> Done
     load_from(bytes, &buffer[..n], &mut words[..], &mut slots[..])
 }
 
-// The tables become those of the image, whatever they held before: an entry. A small image's words are decoded here.
+// An entry: the tables become those of the image, whatever they held before. A small image's words are decoded here.
 pub fn load(image: &[u8], words: &mut [u32], slots: &mut [u8]) -> Done
-    ensures { λ r. ⌜ outcome (done r) (now (words .exit)) (now (slots .exit)) ≡ load-entry (now (image .entry)) (now (words .entry)) (now (slots .entry)) ⌝ }
+    ensures { λ r. ⌜ outcome (done r) (lent (now (words .exit)) (now (slots .exit))) ≡ load-entry (now (image .entry)) (lent (now (words .entry)) (now (slots .entry))) ⌝ }
 {
     let n = words_in(image);
     if n <= SMALL_WORDS {
@@ -138,8 +140,8 @@ pub fn load(image: &[u8], words: &mut [u32], slots: &mut [u8]) -> Done
     load_large(image, words, slots)
 }
 
-// Whether it is an image of sound tables; n is how many words it has. A large one is loaded into nothing: lengths that are
-// wrong are refused only where it is sound.
+// Whether it is an image of sound tables; n is how many words it has. A large image is loaded into empty tables: their
+// lengths are wrong, and they are refused for that only if the image is sound.
 pub fn sound_image(image: &[u8], n: usize) -> bool
     requires { ⌜ Measured (now image) n ⌝ }
     ensures { λ x. ⌜ x ≡ image-sound (now (image .entry)) ⌝ }

@@ -8,19 +8,20 @@ use borrow.Author.Needs.{needs}
 use Rattle.tables.specs.State.{Tables}
 use Rattle.tables.specs.Layout.{words, slots, read}
 use Rattle.tables.specs.Sound.{sound}
-use Rattle.tables.proofs.Valid.{Core, Valid}
+use Rattle.tables.specs.Validity.{Core, Valid}
 use Rattle.tables.proofs.Soundness.{sound-valid, sound-words, sound-slots}
-use Rattle.rules.specs.Calls.{Step, refused-or, request-refusal, request-change, request, convert-refusal, convert-change, convert, release-refusal, release-change, release, cancel-refusal, cancel-change, cancel, purge-refusal, purge-change, purge, break, poll-refusal, poll-change, poll}
-use Rattle.rules.specs.Entries.{if-sound, entry, Call, step-of, to-request, to-convert, to-release, to-cancel, to-purge, to-break, to-poll, call-entry, request-entry, convert-entry, release-entry, cancel-entry, purge-entry, break-entry, poll-entry}
-use Rattle.rules.proofs.QueueTheorem.{out-of, outcome-is}
-use Rattle.rules.proofs.AcceptedCalls.{Requestable, Releasable, Convertible, Cancellable, Purgeable, request-passed, convert-passed, release-passed, cancel-passed, purge-passed}
+use Rattle.rules.specs.Calls.{Said, Step, refused-or, request-refusal, request-change, request, convert-refusal, convert-change, convert, release-refusal, release-change, release, cancel-refusal, cancel-change, cancel, purge-refusal, purge-change, purge, break, poll-refusal, poll-change, poll}
+use Rattle.rules.specs.Entries.{lent, lent-of, outcome, written, if-sound, entry, Call, step-of, to-request, to-convert, to-release, to-cancel, to-purge, to-break, to-poll, call-entry, Keeps}
+use Rattle.rules.proofs.QueueTheorem.{outcome-is}
+use Rattle.rules.specs.Accepted.{Requestable, Releasable, Convertible, Cancellable, Purgeable}
+use Rattle.rules.proofs.AcceptedCalls.{request-passed, convert-passed, release-passed, cancel-passed, purge-passed}
 use Rattle.table_chains.specs.Contracts.{Some, Tells}
 use Rattle.table_names.specs.Names.{find-in}
 use Rattle.table_names.specs.Contracts.{Named}
 use Rattle.table_names.proofs.StateNames.{core-named, find-is}
-use Rattle.queues.specs.Contracts.{Lent}
+use Rattle.queues.specs.Contracts.{SomeTables}
 use Rattle.call_refusals.specs.Contracts.{Finds}
-use Rattle.answers.specs.Answers.{Numbers, refused, outcome}
+use Rattle.answers.specs.Answers.{refused-with}
 use Rattle.answers.specs.Contracts.{Makes, MakesWords}
 
 -- a call's rule: its refusal, its change, and what the change stands on
@@ -56,7 +57,7 @@ break-ruled : Ruled to-break (λ t. 0) break Valid
 unfolding refused-or
 break-ruled = record { step-is = λ t. refl; passes = λ t val h. val }
 
-refused-step : (n : ℕ) (s : Step) (t : Tables) → (n ≡ 0 → ⊥) → outcome (refused n) (words t) (slots t) ≡ out-of (refused-or n s t)
+refused-step : (n : ℕ) (s : Step) (t : Tables) → (n ≡ 0 → ⊥) → outcome (refused-with n) (lent-of t) ≡ written (refused-or n s t)
 unfolding refused-or
 refused-step zero s t z = absurd (z refl)
 refused-step (suc n) s t z = refl
@@ -70,7 +71,7 @@ module _ (t : Tables) (core : Core t) (ws ss : List ℕ) (words-are : ws ≡ wor
   finds-at n r e = record { core = core; found = e ∙ (rw (words-are, slots-are) (find-is t core n)) }
 
 module _ (ws ss : List ℕ) (b : Bool) (checked : b ≡ sound ws ss) where
-  pub entry-unsound : (call : Call) → not b ≡ true → outcome (refused 1) ws ss ≡ call-entry call ws ss
+  pub entry-unsound : (call : Call) → not b ≡ true → Keeps call (lent ws ss) (refused-with 1) (lent ws ss)
   unfolding call-entry entry if-sound
   entry-unsound call q = rw (← checked, not-true b q)
 
@@ -99,38 +100,38 @@ module _ (ws ss : List ℕ) (b : Bool) (checked : b ≡ sound ws ss) where
     pub entry-valid : Some Valid ws
     entry-valid = record { state = t; good = val; is = words-are }
 
-    entry-is : (call : Call) → out-of (step-of call t) ≡ call-entry call ws ss
-    entry-is call = sym (outcome-is call t val) ∙ ap₂ (call-entry call) (sym words-are) (sym slots-are)
+    entry-is : (call : Call) → written (step-of call t) ≡ call-entry call (lent ws ss)
+    entry-is call = sym (outcome-is call t val) ∙ ap₂ (λ (v z : List ℕ). call-entry call (lent v z)) (sym words-are) (sym slots-are)
 
     -- the code's number is the refusal of the state in the tables
     module _ {call : Call} {refusal : Tables → ℕ} {change : Tables → Step} {P : Tables → Type 0} (rule : Ruled call refusal change P)
         (n : ℕ) (n-is : n ≡ refusal t) where
-      refused-by : (n ≡ 0 → ⊥) → outcome (refused n) ws ss ≡ call-entry call ws ss
+      refused-by : (n ≡ 0 → ⊥) → Keeps call (lent ws ss) (refused-with n) (lent ws ss)
       refused-by z =
-          ap₂ (outcome (refused n)) words-are slots-are
+          ap₂ (λ (v z : List ℕ). outcome (refused-with n) (lent v z)) words-are slots-are
           ∙ refused-step n (change t) t z
-          ∙ ap out-of (ap (λ (i : ℕ). refused-or i (change t) t) n-is ∙ sym (rule .step-is t))
+          ∙ ap (λ (z : Step). written z) (ap (λ (i : ℕ). refused-or i (change t) t) n-is ∙ sym (rule .step-is t))
           ∙ entry-is call
 
       module _ (none : n ≡ 0) where
         good : P t
         good = rule .passes t val (sym n-is ∙ none)
 
-        lent-for : Lent P ws ss
+        lent-for : SomeTables P ws ss
         lent-for = record { state = t; good = good; is = words-are; slots-are = slots-are }
 
         some-for : Some P ws
         some-for = record { state = t; good = good; is = words-are }
 
-        change-is : out-of (change t) ≡ call-entry call ws ss
+        change-is : written (change t) ≡ call-entry call (lent ws ss)
         unfolding refused-or
-        change-is = ap (λ (i : ℕ). out-of (refused-or i (change t) t)) (sym none ∙ n-is) ∙ ap out-of (sym (rule .step-is t)) ∙ entry-is call
+        change-is = ap (λ (i : ℕ). written (refused-or i (change t) t)) (sym none ∙ n-is) ∙ ap (λ (z : Step). written z) (sym (rule .step-is t)) ∙ entry-is call
 
-        made-by : (ds es : List ℕ) (x : Numbers) → Makes P change ws ss ds es x → outcome x ds es ≡ call-entry call ws ss
+        made-by : (ds es : List ℕ) (x : Said) → Makes P change ws ss ds es x → Keeps call (lent ws ss) x (lent ds es)
         made-by ds es x m = m .then t good words-are slots-are ∙ change-is
 
-        words-made-by : (ds : List ℕ) (x : Numbers) → MakesWords P change ws ds x → outcome x ds ss ≡ call-entry call ws ss
-        words-made-by ds x m = ap (outcome x ds) slots-are ∙ m .then t good words-are ∙ change-is
+        words-made-by : (ds : List ℕ) (x : Said) → MakesWords P change ws ds x → Keeps call (lent ws ss) x (lent ds ss)
+        words-made-by ds x m = ap (λ (z : List ℕ). outcome x (lent ds z)) slots-are ∙ m .then t good words-are ∙ change-is
 
     told-by : {g : Tables → ℕ} (n : ℕ) → Tells Core g ws n → n ≡ g t
     told-by n en = en .then t (val .core) words-are
@@ -147,64 +148,64 @@ module _ (ws ss : List ℕ) (b : Bool) (checked : b ≡ sound ws ss) where
         request-number : n ≡ request-refusal c m f name t
         request-number = en .then t finds words-are
 
-        pub request-refused : (n ≡ 0 → ⊥) → outcome (refused n) ws ss ≡ request-entry ws ss c m f name
+        pub request-refused : (n ≡ 0 → ⊥) → Keeps (to-request c m f name) (lent ws ss) (refused-with n) (lent ws ss)
         request-refused = refused-by (request-ruled c m f name) n request-number
 
-        pub request-lent : n ≡ 0 → Lent (Requestable c m name) ws ss
+        pub request-lent : n ≡ 0 → SomeTables (Requestable c m name) ws ss
         request-lent = lent-for (request-ruled c m f name) n request-number
 
-        pub request-made : n ≡ 0 → (ds es : List ℕ) (x : Numbers) → Makes (Requestable c m name) (request-change c m name) ws ss ds es x
-            → outcome x ds es ≡ request-entry ws ss c m f name
+        pub request-made : n ≡ 0 → (ds es : List ℕ) (x : Said) → Makes (Requestable c m name) (request-change c m name) ws ss ds es x
+            → Keeps (to-request c m f name) (lent ws ss) x (lent ds es)
         request-made = made-by (request-ruled c m f name) n request-number
 
     -- RELEASE
     module _ (c k f : ℕ) (v : List ℕ) (n : ℕ) (en : Tells Core (release-refusal c k f v) ws n) where
-      pub release-refused : (n ≡ 0 → ⊥) → outcome (refused n) ws ss ≡ release-entry ws ss c k f v
+      pub release-refused : (n ≡ 0 → ⊥) → Keeps (to-release c k f v) (lent ws ss) (refused-with n) (lent ws ss)
       release-refused = refused-by (release-ruled c k f v) n (told-by n en)
 
-      pub release-lent : n ≡ 0 → Lent (Releasable k f v) ws ss
+      pub release-lent : n ≡ 0 → SomeTables (Releasable k f v) ws ss
       release-lent = lent-for (release-ruled c k f v) n (told-by n en)
 
-      pub release-made : n ≡ 0 → (ds es : List ℕ) (x : Numbers) → Makes (Releasable k f v) (release-change k f v) ws ss ds es x
-          → outcome x ds es ≡ release-entry ws ss c k f v
+      pub release-made : n ≡ 0 → (ds es : List ℕ) (x : Said) → Makes (Releasable k f v) (release-change k f v) ws ss ds es x
+          → Keeps (to-release c k f v) (lent ws ss) x (lent ds es)
       release-made = made-by (release-ruled c k f v) n (told-by n en)
 
     -- CONVERT
     module _ (c k m f : ℕ) (v : List ℕ) (n : ℕ) (en : Tells Core (convert-refusal c k m f v) ws n) where
-      pub convert-refused : (n ≡ 0 → ⊥) → outcome (refused n) ws ss ≡ convert-entry ws ss c k m f v
+      pub convert-refused : (n ≡ 0 → ⊥) → Keeps (to-convert c k m f v) (lent ws ss) (refused-with n) (lent ws ss)
       convert-refused = refused-by (convert-ruled c k m f v) n (told-by n en)
 
-      pub convert-lent : n ≡ 0 → Lent (Convertible k m f v) ws ss
+      pub convert-lent : n ≡ 0 → SomeTables (Convertible k m f v) ws ss
       convert-lent = lent-for (convert-ruled c k m f v) n (told-by n en)
 
-      pub convert-made : n ≡ 0 → (ds es : List ℕ) (x : Numbers) → Makes (Convertible k m f v) (convert-change k m f v) ws ss ds es x
-          → outcome x ds es ≡ convert-entry ws ss c k m f v
+      pub convert-made : n ≡ 0 → (ds es : List ℕ) (x : Said) → Makes (Convertible k m f v) (convert-change k m f v) ws ss ds es x
+          → Keeps (to-convert c k m f v) (lent ws ss) x (lent ds es)
       convert-made = made-by (convert-ruled c k m f v) n (told-by n en)
 
     -- CANCEL
     module _ (c k n : ℕ) (en : Tells Core (cancel-refusal c k) ws n) where
-      pub cancel-refused : (n ≡ 0 → ⊥) → outcome (refused n) ws ss ≡ cancel-entry ws ss c k
+      pub cancel-refused : (n ≡ 0 → ⊥) → Keeps (to-cancel c k) (lent ws ss) (refused-with n) (lent ws ss)
       cancel-refused = refused-by (cancel-ruled c k) n (told-by n en)
 
       pub cancel-some : n ≡ 0 → Some (Cancellable k) ws
       cancel-some = some-for (cancel-ruled c k) n (told-by n en)
 
-      pub cancel-made : n ≡ 0 → (ds : List ℕ) (x : Numbers) → MakesWords (Cancellable k) (cancel-change k) ws ds x → outcome x ds ss ≡ cancel-entry ws ss c k
+      pub cancel-made : n ≡ 0 → (ds : List ℕ) (x : Said) → MakesWords (Cancellable k) (cancel-change k) ws ds x → Keeps (to-cancel c k) (lent ws ss) x (lent ds ss)
       cancel-made = words-made-by (cancel-ruled c k) n (told-by n en)
 
     -- PURGE
     module _ (c n : ℕ) (en : n ≡ purge-refusal c) where
-      pub purge-refused : (n ≡ 0 → ⊥) → outcome (refused n) ws ss ≡ purge-entry ws ss c
+      pub purge-refused : (n ≡ 0 → ⊥) → Keeps (to-purge c) (lent ws ss) (refused-with n) (lent ws ss)
       purge-refused = refused-by (purge-ruled c) n en
 
-      pub purge-lent : n ≡ 0 → Lent (Purgeable c) ws ss
+      pub purge-lent : n ≡ 0 → SomeTables (Purgeable c) ws ss
       purge-lent = lent-for (purge-ruled c) n en
 
-      pub purge-made : n ≡ 0 → (ds es : List ℕ) (x : Numbers) → Makes (Purgeable c) (purge-change c) ws ss ds es x → outcome x ds es ≡ purge-entry ws ss c
+      pub purge-made : n ≡ 0 → (ds es : List ℕ) (x : Said) → Makes (Purgeable c) (purge-change c) ws ss ds es x → Keeps (to-purge c) (lent ws ss) x (lent ds es)
       purge-made = made-by (purge-ruled c) n en
 
     -- BREAK
-    pub break-made : (ds : List ℕ) (x : Numbers) → MakesWords Valid break ws ds x → outcome x ds ss ≡ break-entry ws ss
+    pub break-made : (ds : List ℕ) (x : Said) → MakesWords Valid break ws ds x → Keeps to-break (lent ws ss) x (lent ds ss)
     break-made = words-made-by break-ruled 0 refl refl
 
     -- POLL: its refusal is that of a purge
@@ -213,10 +214,10 @@ module _ (ws ss : List ℕ) (b : Bool) (checked : b ≡ sound ws ss) where
       unfolding purge-refusal poll-refusal
       poll-number = en
 
-      pub poll-refused : (n ≡ 0 → ⊥) → outcome (refused n) ws ss ≡ poll-entry ws ss c
+      pub poll-refused : (n ≡ 0 → ⊥) → Keeps (to-poll c) (lent ws ss) (refused-with n) (lent ws ss)
       poll-refused = refused-by (poll-ruled c) n poll-number
 
-      pub poll-made : n ≡ 0 → (ds : List ℕ) (x : Numbers) → MakesWords Valid (poll-change c) ws ds x → outcome x ds ss ≡ poll-entry ws ss c
+      pub poll-made : n ≡ 0 → (ds : List ℕ) (x : Said) → MakesWords Valid (poll-change c) ws ds x → Keeps (to-poll c) (lent ws ss) x (lent ds ss)
       poll-made = words-made-by (poll-ruled c) n poll-number
 
 pub ruleset entering = (

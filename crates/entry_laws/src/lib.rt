@@ -1,1 +1,1 @@
-// No code: what the proofs of all entries share (proofs/Entering.antt).
+// No code: what the proofs of all entries share (proofs/EntryOutcomes.antt).

@@ -1,11 +1,12 @@
 -- A lent list that is filled lock by lock: what stands in it after each, and at the end.
 use mathlib.Core.Path.{_≡_, refl, sym, _∙_, ap, ap₂, subst}
+use mathlib.Core.Bool.{true, false, cond, not, _&&_}
 use mathlib.Core.List.{List, [], _∷_, _++_, map}
 use Prim.Native.Nat.{ℕ, zero, suc, _≤_, _<_, _^_}
 use native.Mathlib.Omega.{arith}
 use lib.ListN.{getD, set, length, take}
-use lib.Dec.{ltb}
-use borrow.Author.Tests.{ltb-true, ltb-false}
+use lib.Dec.{eqb, ltb}
+use borrow.Author.Tests.{ltb-true, ltb-false, lt-ltb, le-ltb, ne-eqb}
 use Rattle.tables.specs.declared.LockEntry.{LockEntry}
 use Rattle.tables.specs.Lists.{count, next}
 use Rattle.tables.specs.State.{Tables, lock, resource, Queue, grants, converts, waits, queue, queue-of, of-locks}
@@ -13,15 +14,16 @@ use Rattle.tables.specs.Layout.{words, read-chain, read-lock}
 use Rattle.tables.specs.Grants.{holders}
 use Rattle.tables.proofs.Cases.{by-cases}
 use Rattle.tables.proofs.Counts.{within-le, count-same, count-step}
-use Rattle.tables.proofs.Chains.{Present}
+use Rattle.tables.specs.Threads.{Present}
 use Rattle.tables.proofs.ReadBack.{chain-read, lock-read}
 use Rattle.tables.proofs.ThreadedChains.{core-threaded}
 use Rattle.rules.specs.Entries.{lock-entry, listed, fill}
 use Rattle.table_chains.specs.Contracts.{Some, Tells, Resourced}
-use Rattle.list_walker.specs.Order.{locks-on, first-on, count-on, Queued, following}
+use Rattle.list_walker.specs.Order.{locks-on, first-on, Queued, next-on, Place, SomePlace, Counted}
 use Rattle.list_walker.proofs.ListsInARow.{first-at, at-on, at-next}
 use Rattle.list_walker.proofs.ResourceLocks.{resource-on, range-on, once-on, few-on, queued-at}
-use Rattle.entry_list.specs.Listings.{counted, listing, entry-of, fitting, listing-of}
+use Rattle.rules.specs.Calls.{accepted}
+use Rattle.entry_list.specs.Listings.{listing, entry-of, listing-of}
 use Rattle.entry_list.proofs.ListCore.{entry-by}
 
 -- FILLED LISTS
@@ -57,6 +59,10 @@ fill-some [] [] h = refl
 fill-some [] (y ∷ ys) h = absurd (omega arith)
 fill-some (x ∷ xs) [] h = refl
 fill-some (x ∷ xs) (y ∷ ys) h = ap (λ (l : List LockEntry). x ∷ l) (fill-some xs ys (omega arith))
+
+-- as many of n as fit into that room
+unfoldable pub fitting : ℕ → ℕ → ℕ
+fitting n room = cond (ltb n room) n room
 
 pub fill-fitting : (xs ys : List LockEntry) → fill (take (fitting (length xs) (length ys)) xs) ys ≡ fill xs ys
 unfolding fitting
@@ -127,22 +133,45 @@ module _ (r : ℕ) (t u : Tables) (p : Resourced r t) (g : Resourced r u) (same 
       ∙ map-same (lock-entry t) (lock-entry u) (locks-on r t) (λ k m. ap (entry-by k) (lock-same k m))
       ∙ ap (map (lock-entry u)) locks-same ∙ sym (listed-locks r u)
 
+past-last : (xs : List ℕ) → getD xs (length xs) 0 ≡ 0
+past-last [] = refl
+past-last (x ∷ xs) = past-last xs
+
 -- LIST_INTO, lock by lock: what the walker and the core say
 module _ (r : ℕ) (t : Tables) (p : Resourced r t) (ws : List ℕ) (is : ws ≡ words t) where
   pub fill-first : (x : ℕ) → Tells (Resourced r) (first-on r) ws x → x ≡ getD (locks-on r t) 0 0
   unfolding first-on
   fill-first x told = told .then t p is ∙ first-at (locks-on r t)
 
-  pub fill-count : (n : ℕ) → Tells (Resourced r) (count-on r) ws n → n ≡ length (locks-on r t)
-  unfolding count-on
-  fill-count n told = told .then t p is
+  -- the loop goes on while there is room and a lock, so it ends where as many are listed as fit
+  pub fill-on : (i room : ℕ) → i < length (locks-on r t) → i < room → (ltb i room && not (eqb (getD (locks-on r t) i 0) 0)) ≡ true
+  fill-on i room h g =
+      let some = range-on t (p .core) r (getD (locks-on r t) i 0) (at-on (locks-on r t) i h) .0 in
+      rw (lt-ltb i room g, ne-eqb (getD (locks-on r t) i 0) 0 (λ z. omega arith))
+
+  pub fill-off : (room : ℕ) → (ltb (fitting (length (locks-on r t)) room) room && not (eqb (getD (locks-on r t) (fitting (length (locks-on r t)) room) 0) 0)) ≡ false
+  unfolding fitting
+  fill-off room =
+      by-cases (ltb (length (locks-on r t)) room)
+      (λ h. rw (h, past-last (locks-on r t), h))
+      (λ h. rw (h, le-ltb room room (omega arith)))
+
+  -- the rest is counted from there
+  place-at : (i : ℕ) → i ≤ length (locks-on r t) → Place r i (getD (locks-on r t) i 0) t
+  place-at i h = record { there = p; near = h; here = refl }
+
+  pub fill-place : (i : ℕ) → i ≤ length (locks-on r t) → SomePlace i (getD (locks-on r t) i 0) ws
+  fill-place i h = record { state = t; resource = r; good = place-at i h; is = is }
+
+  pub fill-count : (i n : ℕ) → i ≤ length (locks-on r t) → Counted i (getD (locks-on r t) i 0) ws n → n ≡ length (locks-on r t)
+  fill-count i n h told = told .then r t (place-at i h) is
 
   module _ (i : ℕ) (h : i < length (locks-on r t)) where
     pub fill-queued : Some (Queued (getD (locks-on r t) i 0)) ws
     fill-queued = record { state = t; good = queued-at t (p .core) r i h; is = is }
 
-    pub fill-follows : (x : ℕ) → Tells (Queued (getD (locks-on r t) i 0)) (following (getD (locks-on r t) i 0)) ws x → x ≡ getD (locks-on r t) (suc i) 0
-    unfolding following
+    pub fill-follows : (x : ℕ) → Tells (Queued (getD (locks-on r t) i 0)) (next-on (getD (locks-on r t) i 0)) ws x → x ≡ getD (locks-on r t) (suc i) 0
+    unfolding next-on
     fill-follows x told =
         told .then t (queued-at t (p .core) r i h) is
         ∙ ap (λ (s : ℕ). next (getD (locks-on r t) i 0) (locks-on s t)) (resource-on t (p .core) r (getD (locks-on r t) i 0) (at-on (locks-on r t) i h))
@@ -153,7 +182,7 @@ module _ (r : ℕ) (t : Tables) (p : Resourced r t) (ws : List ℕ) (is : ws ≡
     fill-entry e d told = told .then t (queued-at t (p .core) r i h) is ∙ at-map (lock-entry t) (locks-on r t) i d h ∙ sym (ap (λ (l : List LockEntry). getD l i d) (listed-locks r t))
 
   -- and at the end
-  pub fill-ends : (ys : List LockEntry) → Tells (Resourced r) (listing-of r ys) ws (listing (counted (length (locks-on r t))) (fill (take (fitting (length (locks-on r t)) (length ys)) (listed t r)) ys))
+  pub fill-ends : (ys : List LockEntry) → Tells (Resourced r) (listing-of r ys) ws (listing (accepted (length (locks-on r t)) 0) (fill (take (fitting (length (locks-on r t)) (length ys)) (listed t r)) ys))
   unfolding listing-of
   fill-ends ys = record {
     then = λ u g same.

@@ -2,21 +2,21 @@
 use mathlib.Core.Path.{_≡_, sym, _∙_, ap}
 use mathlib.Core.Bool.{Bool, true, false, not}
 use mathlib.Core.List.{List}
-use Prim.Native.Nat.{ℕ, _≤_, _<_}
+use Prim.Native.Nat.{ℕ}
 use borrow.Author.Needs.{needs}
-use borrow.Author.Tests.{lt-ltb, le-ltb, not-true, not-false}
+use borrow.Author.Tests.{not-true, not-false}
 use Rattle.tables.specs.declared.Lock.{Lock}
 use Rattle.tables.specs.declared.LockEntry.{LockEntry}
 use Rattle.tables.specs.Layout.{of-lock, word-in, read-lock, read}
 use Rattle.tables.specs.Sound.{sound}
-use Rattle.tables.proofs.Valid.{Core}
+use Rattle.tables.specs.Validity.{Core}
 use Rattle.tables.proofs.Soundness.{sound-valid, sound-words}
 use Rattle.rules.specs.Calls.{unless}
 use Rattle.rules.specs.Entries.{look-refusal}
 use Rattle.table_chains.specs.Contracts.{Some, Tells}
 use Rattle.list_walker.specs.Order.{Queued}
 use Rattle.list_walker.proofs.WalkerReads.{queued-sized, queued-low, queued-high, queued-record}
-use Rattle.entry_list.specs.Listings.{list-refusal, resource-of, entry-of, fitting}
+use Rattle.entry_list.specs.Listings.{list-refusal, resource-of, entry-of}
 
 -- list_refusal
 module _ (ws ss : List ℕ) (c k : ℕ) (a : Bool) (ea : a ≡ sound ws ss) where
@@ -56,15 +56,3 @@ module _ (ws : List ℕ) (k : ℕ) where
   }
 
 pub ruleset lock-laws = (needs, queued-sized, queued-low, queued-high, resource-told, entry-told)
-
--- fitting
-module _ (n room : ℕ) where
-  pub fitting-all : n < room → n ≡ fitting n room
-  unfolding fitting
-  fitting-all h = rw (lt-ltb n room h)
-
-  pub fitting-some : room ≤ n → room ≡ fitting n room
-  unfolding fitting
-  fitting-some h = rw (le-ltb n room h)
-
-pub ruleset fitting-laws = (needs, fitting-all, fitting-some)

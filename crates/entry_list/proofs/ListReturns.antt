@@ -1,4 +1,4 @@
--- A listing by its entry's definition: refused, or what was listed.
+-- A listing by its entry's definition: refused-with, or what was listed.
 use mathlib.Core.Path.{_≡_, refl, sym, _∙_, ap, subst}
 use mathlib.Core.Bool.{true}
 use mathlib.Core.List.{List}
@@ -10,18 +10,19 @@ use Rattle.tables.specs.Layout.{read}
 use Rattle.tables.specs.Sound.{sound}
 use Rattle.tables.proofs.Cases.{by-cases}
 use Rattle.tables.proofs.Counts.{count-append}
-use Rattle.tables.proofs.Valid.{Core}
+use Rattle.tables.specs.Validity.{Core}
 use Rattle.tables.proofs.ChainMembers.{holder-in}
 use Rattle.tables.proofs.Soundness.{sound-valid, sound-words}
-use Rattle.rules.specs.Calls.{unless}
+use Rattle.rules.specs.Calls.{accepted, unless}
 use Rattle.rules.specs.Entries.{look-refusal, list-locks, list-if, list-entry}
 use Rattle.rules.proofs.AcceptedCalls.{passed, next-test}
 use Rattle.table_chains.specs.Contracts.{Some, Tells, Resourced}
 use Rattle.list_walker.specs.Order.{locks-on, Queued}
 use Rattle.list_walker.proofs.ResourceLocks.{queued-resourced}
-use Rattle.entry_list.specs.Listings.{counted, refused, listing, list-refusal, resource-of, listing-of}
+use Rattle.answers.specs.Answers.{refused-with}
+use Rattle.entry_list.specs.Listings.{listing, list-refusal, resource-of, listing-of}
 
-locks-refused : (n r : ℕ) (t : Tables) (es : List LockEntry) → (n ≡ 0 → ⊥) → listing (refused n) es ≡ list-locks n r t es
+locks-refused : (n r : ℕ) (t : Tables) (es : List LockEntry) → (n ≡ 0 → ⊥) → listing (refused-with n) es ≡ list-locks n r t es
 unfolding list-locks
 locks-refused zero r t es h = absurd (h refl)
 locks-refused (suc n) r t es h = refl
@@ -32,7 +33,7 @@ unfolding locks-on
 holder-queued k t core h = record { core = core; on = rw count-append (omega (arith, holder-in t (core .linked) (lock t k .resource) k h refl)) }
 
 module _ (ws ss : List ℕ) (c k n : ℕ) (en : n ≡ list-refusal ws ss c k) where
-  pub answer-refused : (es : List LockEntry) → (n ≡ 0 → ⊥) → listing (refused n) es ≡ list-entry ws ss c k es
+  pub answer-refused : (es : List LockEntry) → (n ≡ 0 → ⊥) → listing (refused-with n) es ≡ list-entry ws ss c k es
   unfolding list-entry list-if list-refusal unless
   answer-refused es h =
       by-cases (sound ws ss)
@@ -71,7 +72,7 @@ module _ (ws ss : List ℕ) (c k n : ℕ) (en : n ≡ list-refusal ws ss c k) wh
       pub answer-resourced : Some (Resourced r) ws
       answer-resourced = record { state = read ws ss; good = resourced; is = sound-words ws ss is-sound }
 
-      pub answer-listed : (m : ℕ) (es zs : List LockEntry) → Tells (Resourced r) (listing-of r es) ws (listing (counted m) zs) → listing (counted m) zs ≡ list-entry ws ss c k es
+      pub answer-listed : (m : ℕ) (es zs : List LockEntry) → Tells (Resourced r) (listing-of r es) ws (listing (accepted m 0) zs) → listing (accepted m 0) zs ≡ list-entry ws ss c k es
       unfolding list-entry list-if list-locks listing-of
       answer-listed m es zs told =
           rw (is-sound, list-if, looked)

@@ -1,19 +1,20 @@
 // The lock manager: the entries by which clients ask for locks, over the two lent tables. Each checks the tables, then
-// gives the first refusal that fits, then makes its change. Numbers, names and values may be any; nothing lent is changed
-// where a call is refused.
+// gives the first refusal that fits, then makes its change. Any numbers, names and values may be passed. A refused call
+// changes nothing that is lent.
 use answers::Converted;
 use answers::Done;
+use answers::Released;
 use answers::Requested;
 use call_refusals::SIZES;
 use call_refusals::UNSOUND;
 use check_tables::sound;
 ghost use mathlib.Core.Path.{_≡_};
-ghost use Rattle.rules.specs.Entries.{«start-entry», «request-entry», «convert-entry», «release-entry»};
-ghost use Rattle.answers.specs.Answers.{requested, converted, done, outcome};
+ghost use Rattle.rules.specs.Entries.{lent, outcome, «to-request», «to-convert», «to-release», Keeps, «start-entry»};
+ghost use Rattle.answers.specs.Answers.{requested, converted, released, done};
 
 // The lent tables become fresh ones: all records free, chained upward. They may hold anything before.
 pub fn start(words: &mut [u32], slots: &mut [u8], resources: u32, locks: u32) -> Done
-    ensures { λ r. ⌜ outcome (done r) (now (words .exit)) (now (slots .exit)) ≡ start-entry (now (words .entry)) (now (slots .entry)) resources locks ⌝ }
+    ensures { λ r. ⌜ outcome (done r) (lent (now (words .exit)) (now (slots .exit))) ≡ start-entry (lent (now (words .entry)) (now (slots .entry))) resources locks ⌝ }
 {
     if !call_start::sizes_right(words, slots, resources, locks) {
         return Done::Refused(SIZES);
@@ -23,7 +24,8 @@ pub fn start(words: &mut [u32], slots: &mut [u8], resources: u32, locks: u32) ->
     Done::Accepted
 }
 
-// A lock of a mode on a name: granted at once, or it waits. The name is looked up once, for its refusals and its change.
+// A client asks for a mode on a name: it is granted at once, or waits. The name is looked up once, for the refusals and
+// for the change.
 pub fn request(
     words: &mut [u32],
     slots: &mut [u8],
@@ -32,7 +34,7 @@ pub fn request(
     flags: u32,
     name: &[u8],
 ) -> Requested
-    ensures { λ r. ⌜ outcome (requested r) (now (words .exit)) (now (slots .exit)) ≡ request-entry (now (words .entry)) (now (slots .entry)) client mode flags (now (name .entry)) ⌝ }
+    ensures { λ r. ⌜ Keeps (to-request client mode flags (now (name .entry))) (lent (now (words .entry)) (now (slots .entry))) (requested r) (lent (now (words .exit)) (now (slots .exit))) ⌝ }
 {
     if !sound(words, slots) {
         return Requested::Refused(UNSOUND);
@@ -55,7 +57,7 @@ pub fn convert(
     flags: u32,
     value: &[u8],
 ) -> Converted
-    ensures { λ r. ⌜ outcome (converted r) (now (words .exit)) (now (slots .exit)) ≡ convert-entry (now (words .entry)) (now (slots .entry)) client lock mode flags (now (value .entry)) ⌝ }
+    ensures { λ r. ⌜ Keeps (to-convert client lock mode flags (now (value .entry))) (lent (now (words .entry)) (now (slots .entry))) (converted r) (lent (now (words .exit)) (now (slots .exit))) ⌝ }
 {
     if !sound(words, slots) {
         return Converted::Refused(UNSOUND);
@@ -75,16 +77,15 @@ pub fn release(
     lock: u32,
     flags: u32,
     value: &[u8],
-) -> Done
-    ensures { λ r. ⌜ outcome (done r) (now (words .exit)) (now (slots .exit)) ≡ release-entry (now (words .entry)) (now (slots .entry)) client lock flags (now (value .entry)) ⌝ }
+) -> Released
+    ensures { λ r. ⌜ Keeps (to-release client lock flags (now (value .entry))) (lent (now (words .entry)) (now (slots .entry))) (released r) (lent (now (words .exit)) (now (slots .exit))) ⌝ }
 {
     if !sound(words, slots) {
-        return Done::Refused(UNSOUND);
+        return Released::Refused(UNSOUND);
     }
     let refusal = call_refusals::release_refusal(words, client, lock, flags, value);
     if refusal != 0 {
-        return Done::Refused(refusal);
+        return Released::Refused(refusal);
     }
-    call_release::release_change(words, slots, lock, flags, value);
-    Done::Accepted
+    call_release::release_change(words, slots, lock, flags, value)
 }

@@ -16,7 +16,8 @@ use Rattle.tables.proofs.Cases.{by-cases}
 use Rattle.tables.proofs.Counts.{within-le}
 use Rattle.tables.proofs.ReadBack.{word-read, lock-read}
 use Rattle.tables.proofs.ChainMembers.{state-within}
-use Rattle.tables.proofs.Valid.{used, Core, holder-place, used-within}
+use Rattle.tables.specs.Validity.{used, Core}
+use Rattle.tables.proofs.Valid.{holder-place, used-within}
 use Rattle.tables.proofs.Soundness.{sound-valid, sound-words, sound-slots}
 use Rattle.rules.specs.Calls.{unless}
 use Rattle.rules.specs.Entries.{Reading, look-refusal, read-value, read-if, read-entry}
@@ -25,11 +26,11 @@ use Rattle.table_fields.specs.Sizes.{Sized}
 use Rattle.table_chains.specs.Contracts.{Some, Tells}
 use Rattle.table_chains.proofs.ChainCells.{locks-is, resources-is, sized-is}
 use Rattle.table_names.proofs.StateNames.{slot-there, value-is}
-use Rattle.queues.specs.Contracts.{Lent}
-use Rattle.entry_read.specs.Reads.{unread, Placed, TellsBoth, value-beside}
+use Rattle.queues.specs.Contracts.{SomeTables}
+use Rattle.entry_read.specs.Reads.{no-reading, HoldingLock, TellsBoth, value-beside}
 
 -- a lock that holds a mode is one of the locks, and its resource is one of the resources
-module _ (k : ℕ) (t : Tables) (p : Placed k t) where
+module _ (k : ℕ) (t : Tables) (p : HoldingLock k t) where
   lock-there : within (length (t .locks)) k ≡ true
   lock-there =
       by-cases (granted (lock t k))
@@ -40,36 +41,36 @@ module _ (k : ℕ) (t : Tables) (p : Placed k t) where
   resource-there = used-within t (lock t k .resource) (holder-place (used t) (lock t k) (p .core .lock-ok k) (p .is-holder) .in-use)
 
 module _ (k : ℕ) (ws ss : List ℕ) where
-  pub placed-sized : Lent (Placed k) ws ss → Sized ws
+  pub placed-sized : SomeTables (HoldingLock k) ws ss → Sized ws
   placed-sized s = sized-is (s .state) ws (s .is) (s .good .core .resources-high) (s .good .core .locks-high)
 
-  pub placed-lock : Lent (Placed k) ws ss → (1 ≤ k) × (k ≤ locks-in ws)
+  pub placed-lock : SomeTables (HoldingLock k) ws ss → (1 ≤ k) × (k ≤ locks-in ws)
   placed-lock s =
       let w = within-le (length (s .state .locks)) k (lock-there k (s .state) (s .good)) in
       (w .0, omega (arith, w .1, locks-is (s .state) ws (s .is)))
 
   module _ (r : ℕ) (e : r ≡ word-in ws (of-lock k 3)) where
-    resource-is : (t : Tables) → Placed k t → ws ≡ words t → r ≡ lock t k .resource
+    resource-is : (t : Tables) → HoldingLock k t → ws ≡ words t → r ≡ lock t k .resource
     unfolding read-lock
     resource-is t p is =
         let w = within-le (length (t .locks)) k (lock-there k t p) in
         e ∙ ap (λ (v : List ℕ). read-lock v k .resource) is ∙ ap (λ (l : Lock). l .resource) (lock-read t k (w .0) (w .1))
 
-    in-range : (t : Tables) → Placed k t → ws ≡ words t → (1 ≤ r) × (r ≤ length (t .resources))
+    in-range : (t : Tables) → HoldingLock k t → ws ≡ words t → (1 ≤ r) × (r ≤ length (t .resources))
     in-range t p is = rw (resource-is t p is) (within-le (length (t .resources)) (lock t k .resource) (resource-there k t p))
 
-    pub placed-resource : Lent (Placed k) ws ss → (1 ≤ r) × (r ≤ resources-in ws)
+    pub placed-resource : SomeTables (HoldingLock k) ws ss → (1 ≤ r) × (r ≤ resources-in ws)
     placed-resource s =
         let w = in-range (s .state) (s .good) (s .is) in
         (w .0, omega (arith, w .1, resources-is (s .state) ws (s .is)))
 
-    pub placed-slot : Lent (Placed k) ws ss → (1 ≤ r) × (slot-width * r ≤ length ss)
+    pub placed-slot : SomeTables (HoldingLock k) ws ss → (1 ≤ r) × (slot-width * r ≤ length ss)
     placed-slot s =
         let w = in-range (s .state) (s .good) (s .is) in
         (w .0, rw (s .slots-are) (slot-there (s .state) (s .good .core) r (w .0) (w .1)))
 
     pub value-told : (v : List ℕ) → v ≡ drop name-width (slot-in ss r) → (n : ℕ) → n ≡ word-in ws (of-resource r 5)
-        → TellsBoth (Placed k) (value-beside k) ws ss (record { refusal = 0; value = v; valid = n })
+        → TellsBoth (HoldingLock k) (value-beside k) ws ss (record { refusal = 0; value = v; valid = n })
     unfolding value-beside
     value-told v ev n en =
         record {
@@ -84,7 +85,7 @@ module _ (k : ℕ) (ws ss : List ℕ) where
         }
 
 -- THE ENTRY
-refused-reading : (n : ℕ) (r : ℕ) (t : Tables) → (n ≡ 0 → ⊥) → unread n ≡ read-value n r t
+refused-reading : (n : ℕ) (r : ℕ) (t : Tables) → (n ≡ 0 → ⊥) → no-reading n ≡ read-value n r t
 unfolding read-value
 refused-reading zero r t z = absurd (z refl)
 refused-reading (suc n) r t z = refl
@@ -94,7 +95,7 @@ unfolding look-refusal
 look-passed c k t h = passed _ 9 _ (next-test _ 7 _ (next-test _ 2 _ h))
 
 module _ (ws ss : List ℕ) (b : Bool) (checked : b ≡ sound ws ss) (c k : ℕ) where
-  pub read-unsound : not b ≡ true → (x : Reading) → x ≡ unread 1 → x ≡ read-entry ws ss c k
+  pub read-unsound : not b ≡ true → (x : Reading) → x ≡ no-reading 1 → x ≡ read-entry ws ss c k
   unfolding read-entry read-if
   read-unsound q x e = rw (← checked, not-true b q) e
 
@@ -119,17 +120,17 @@ module _ (ws ss : List ℕ) (b : Bool) (checked : b ≡ sound ws ss) (c k : ℕ)
       n-is : n ≡ look-refusal c k t
       n-is = en .then t core (sound-words ws ss is-sound)
 
-      pub read-refused : (n ≡ 0 → ⊥) → (x : Reading) → x ≡ unread n → x ≡ read-entry ws ss c k
+      pub read-refused : (n ≡ 0 → ⊥) → (x : Reading) → x ≡ no-reading n → x ≡ read-entry ws ss c k
       read-refused z x e = e ∙ refused-reading n (lock t k .resource) t z ∙ ap (λ (i : ℕ). read-value i (lock t k .resource) t) n-is ∙ entry-is
 
       module _ (none : n ≡ 0) where
-        good : Placed k t
+        good : HoldingLock k t
         good = record { core = core; is-holder = look-passed c k t (sym n-is ∙ none) }
 
-        pub read-lent : Lent (Placed k) ws ss
+        pub read-lent : SomeTables (HoldingLock k) ws ss
         read-lent = record { state = t; good = good; is = sound-words ws ss is-sound; slots-are = sound-slots ws ss is-sound }
 
-        pub read-done : (x : Reading) → TellsBoth (Placed k) (value-beside k) ws ss x → x ≡ read-entry ws ss c k
+        pub read-done : (x : Reading) → TellsBoth (HoldingLock k) (value-beside k) ws ss x → x ≡ read-entry ws ss c k
         unfolding value-beside read-value
         read-done x told =
             told .then t good (sound-words ws ss is-sound) (sound-slots ws ss is-sound)

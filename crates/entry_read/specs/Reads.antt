@@ -5,7 +5,7 @@ use mathlib.Core.List.{List}
 use Prim.Native.Nat.{ℕ}
 use Rattle.tables.specs.State.{Tables, no-value, lock, resource, holds}
 use Rattle.tables.specs.Layout.{words, slots}
-use Rattle.tables.proofs.Valid.{Core}
+use Rattle.tables.specs.Validity.{Core}
 use Rattle.rules.specs.Entries.{Reading}
 use Rattle.entry_read.specs.declared.ValueRead.{ValueRead}
 
@@ -14,11 +14,11 @@ abbrev pub reading : ValueRead → Reading
 reading x = record { refusal = x .refusal; value = x .value; valid = x .valid }
 
 -- zeros where refused
-abbrev pub unread : ℕ → Reading
-unread n = record { refusal = n; value = no-value; valid = 0 }
+abbrev pub no-reading : ℕ → Reading
+no-reading n = record { refusal = n; value = no-value; valid = 0 }
 
 -- the lock k holds a mode, so it stands on a resource
-pub record Placed (k : ℕ) (t : Tables) : Type 0 where
+pub record HoldingLock (k : ℕ) (t : Tables) : Type 0 where
   pub core : Core t
   pub is-holder : holds (lock t k) ≡ true
 

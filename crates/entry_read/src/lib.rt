@@ -6,8 +6,8 @@ use table_fields::resource_word;
 use table_names::VALUE_BYTES;
 ghost use mathlib.Core.Path.{_≡_};
 ghost use Rattle.rules.specs.Entries.{«read-entry»};
-ghost use Rattle.queues.specs.Contracts.{Lent};
-ghost use Rattle.entry_read.specs.Reads.{reading, unread, Placed, TellsBoth, «value-beside»};
+ghost use Rattle.queues.specs.Contracts.{SomeTables};
+ghost use Rattle.entry_read.specs.Reads.{reading, «no-reading», HoldingLock, TellsBoth, «value-beside»};
 
 // What a read gives: a refusal or 0, and the value block with its validity, zeros where refused.
 pub struct ValueRead {
@@ -17,7 +17,7 @@ pub struct ValueRead {
 }
 
 fn not_read(refusal: u32) -> ValueRead
-    ensures { λ r. ⌜ reading r ≡ unread refusal ⌝ }
+    ensures { λ r. ⌜ reading r ≡ no-reading refusal ⌝ }
 {
     ValueRead {
         refusal: refusal,
@@ -28,8 +28,8 @@ fn not_read(refusal: u32) -> ValueRead
 
 // The value of the resource on which the lock k stands.
 fn value_of(words: &[u32], slots: &[u8], k: u32) -> ValueRead
-    requires { ⌜ Lent (Placed k) (now words) (now slots) ⌝ }
-    ensures { λ r. ⌜ TellsBoth (Placed k) (value-beside k) (now (words .entry)) (now (slots .entry)) (reading r) ⌝ }
+    requires { ⌜ SomeTables (HoldingLock k) (now words) (now slots) ⌝ }
+    ensures { λ r. ⌜ TellsBoth (HoldingLock k) (value-beside k) (now (words .entry)) (now (slots .entry)) (reading r) ⌝ }
 {
     let r = lock_word(words, k, table_fields::LOCK_RESOURCE);
     ValueRead {

@@ -1,19 +1,18 @@
-// The lock manager: the entries by which waiting and holding end otherwise than by a release. A blocked lock is taken back, a
-// client that is gone is purged, a deadlock is broken, and a client takes its notices. Each checks the tables, then gives the
-// first refusal that fits, then makes its change, as those of `manager` do.
+// The lock manager: the entries that end waiting and holding in other ways than by a release. A blocked lock is taken back,
+// a client that is gone is purged, a deadlock is broken, and a client takes its notices. Each checks the tables, then gives
+// the first refusal that fits, then makes its change, as those of `entry_locks` do.
 use answers::Broken;
 use answers::Cancelled;
 use answers::Polled;
 use answers::Purged;
 use call_refusals::UNSOUND;
 use check_tables::sound;
-ghost use mathlib.Core.Path.{_≡_};
-ghost use Rattle.rules.specs.Entries.{«cancel-entry», «purge-entry», «break-entry», «poll-entry»};
-ghost use Rattle.answers.specs.Answers.{cancelled, purged, broken, polled, outcome};
+ghost use Rattle.rules.specs.Entries.{lent, «to-cancel», «to-purge», «to-break», «to-poll», Keeps};
+ghost use Rattle.answers.specs.Answers.{cancelled, purged, broken, polled};
 
 // A blocked lock waits no longer: a conversion is taken back, a waiting request is freed.
 pub fn cancel(words: &mut [u32], slots: &[u8], client: u32, lock: u32) -> Cancelled
-    ensures { λ r. ⌜ outcome (cancelled r) (now (words .exit)) (now (slots .entry)) ≡ cancel-entry (now (words .entry)) (now (slots .entry)) client lock ⌝ }
+    ensures { λ r. ⌜ Keeps (to-cancel client lock) (lent (now (words .entry)) (now (slots .entry))) (cancelled r) (lent (now (words .exit)) (now (slots .entry))) ⌝ }
 {
     if !sound(words, slots) {
         return Cancelled::Refused(UNSOUND);
@@ -27,7 +26,7 @@ pub fn cancel(words: &mut [u32], slots: &[u8], client: u32, lock: u32) -> Cancel
 
 // All of a client's locks are freed, as when its unit died.
 pub fn purge(words: &mut [u32], slots: &mut [u8], client: u32) -> Purged
-    ensures { λ r. ⌜ outcome (purged r) (now (words .exit)) (now (slots .exit)) ≡ purge-entry (now (words .entry)) (now (slots .entry)) client ⌝ }
+    ensures { λ r. ⌜ Keeps (to-purge client) (lent (now (words .entry)) (now (slots .entry))) (purged r) (lent (now (words .exit)) (now (slots .exit))) ⌝ }
 {
     if !sound(words, slots) {
         return Purged::Refused(UNSOUND);
@@ -41,7 +40,7 @@ pub fn purge(words: &mut [u32], slots: &mut [u8], client: u32) -> Purged
 
 // The longest blocked request of a deadlock is denied. (`break` is a word of the language.)
 pub fn break_deadlock(words: &mut [u32], slots: &[u8]) -> Broken
-    ensures { λ r. ⌜ outcome (broken r) (now (words .exit)) (now (slots .entry)) ≡ break-entry (now (words .entry)) (now (slots .entry)) ⌝ }
+    ensures { λ r. ⌜ Keeps to-break (lent (now (words .entry)) (now (slots .entry))) (broken r) (lent (now (words .exit)) (now (slots .entry))) ⌝ }
 {
     if !sound(words, slots) {
         return Broken::Refused(UNSOUND);
@@ -51,7 +50,7 @@ pub fn break_deadlock(words: &mut [u32], slots: &[u8]) -> Broken
 
 // The client's first notice is taken.
 pub fn poll(words: &mut [u32], slots: &[u8], client: u32) -> Polled
-    ensures { λ r. ⌜ outcome (polled r) (now (words .exit)) (now (slots .entry)) ≡ poll-entry (now (words .entry)) (now (slots .entry)) client ⌝ }
+    ensures { λ r. ⌜ Keeps (to-poll client) (lent (now (words .entry)) (now (slots .entry))) (polled r) (lent (now (words .exit)) (now (slots .entry))) ⌝ }
 {
     if !sound(words, slots) {
         return Polled::Refused(UNSOUND);

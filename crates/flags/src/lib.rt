@@ -1,4 +1,4 @@
-// The flags of a call: 1 stores the value, 2 makes it not valid, 4 refuses to queue. Which of them a call takes.
+// The flags of a call: 1 stores the value, 2 makes it not valid, 4 refuses to queue; and which of them each call takes.
 ghost use mathlib.Core.Path.{_≡_};
 ghost use Rattle.rules.specs.Calls.{stores, spoils, «no-queue», «request-flags», «convert-flags», «release-flags»};
 

@@ -12,15 +12,16 @@ use Rattle.tables.specs.Layout.{Address, of-resource, of-lock, queue-head, cont
 use Rattle.tables.specs.Grants.{holders}
 use Rattle.tables.proofs.Counts.{within-le, count-nil, count-append, by-append}
 use Rattle.tables.proofs.Links.{counted-distinct, few, next-here, next-past}
-use Rattle.tables.proofs.Chains.{In}
+use Rattle.tables.specs.Threads.{In}
 use Rattle.tables.proofs.ReadBack.{word-read}
 use Rattle.tables.proofs.ThreadedChains.{each-counted, belongs-home}
-use Rattle.tables.proofs.Valid.{used, ok-at, Core, used-within}
+use Rattle.tables.specs.Validity.{used, Core}
+use Rattle.tables.proofs.Valid.{ok-at, used-within}
 use Rattle.tables.proofs.ChainMembers.{on-chain, chain-once, on-grants, on-converts, on-waits}
 use Rattle.table_fields.specs.Sizes.{Sized}
 use Rattle.table_chains.specs.Contracts.{Resourced}
 use Rattle.table_chains.proofs.ChainCells.{sized-is}
-use Rattle.list_walker.specs.Order.{locks-on, past, Queued}
+use Rattle.list_walker.specs.Order.{locks-on, queues-past, Queued}
 use Rattle.list_walker.proofs.ListsInARow.{next-skip, next-in, next-end, at-on}
 
 exclusive : (g c w s : ℕ) → g ≤ 1 → c ≤ 1 → w ≤ 1 → (1 ≤ g → s ≡ 1) → (1 ≤ c → s ≡ 2) → (1 ≤ w → s ≡ 3) → g + c + w ≤ 1
@@ -142,7 +143,7 @@ module _ (t : Tables) (core : Core t) (ws : List ℕ) (is : ws ≡ words t) wher
         ∙ ap (λ (c : LockChain). next k (0 ∷ chain t c)) (belongs-home (queue r q) (lock t k) tt b)
         ∙ next-past k 0 (queue-of q (resource t r)) (λ z. omega (arith, w .0))
 
-    pub split-here : Split k n (locks-on r t) (past (lock t k .state) (resource t r))
+    pub split-here : Split k n (locks-on r t) (queues-past (lock t k .state) (resource t r))
     unfolding locks-on holders
     split-here =
         let x = resource t r in
@@ -152,7 +153,7 @@ module _ (t : Tables) (core : Core t) (ws : List ℕ) (is : ws ≡ words t) wher
         (λ h. record {
           before = [];
           own = x .grant;
-          parts = append-assoc (x .grant) (x .convert) (x .wait) ∙ sym (ap (λ (s : ℕ). x .grant ++ past s x) (is-granted t core r k h));
+          parts = append-assoc (x .grant) (x .convert) (x .wait) ∙ sym (ap (λ (s : ℕ). x .grant ++ queues-past s x) (is-granted t core r k h));
           not-before = count-nil k;
           on = h;
           no-zero = none-zero t core grants r;
@@ -161,7 +162,7 @@ module _ (t : Tables) (core : Core t) (ws : List ℕ) (is : ws ≡ words t) wher
         (λ h. record {
           before = x .grant;
           own = x .convert;
-          parts = append-assoc (x .grant) (x .convert) (x .wait) ∙ sym (ap (λ (s : ℕ). x .grant ++ (x .convert ++ past s x)) (is-converting t core r k h));
+          parts = append-assoc (x .grant) (x .convert) (x .wait) ∙ sym (ap (λ (s : ℕ). x .grant ++ (x .convert ++ queues-past s x)) (is-converting t core r k h));
           not-before = omega arith;
           on = h;
           no-zero = none-zero t core converts r;
@@ -170,7 +171,7 @@ module _ (t : Tables) (core : Core t) (ws : List ℕ) (is : ws ≡ words t) wher
         (λ h. record {
           before = x .grant ++ x .convert;
           own = x .wait;
-          parts = sym (ap (λ (s : ℕ). (x .grant ++ x .convert) ++ (x .wait ++ past s x)) (is-waiting t core r k h) ∙ ap (λ (ys : List ℕ). (x .grant ++ x .convert) ++ ys) (append-nil (x .wait)));
+          parts = sym (ap (λ (s : ℕ). (x .grant ++ x .convert) ++ (x .wait ++ queues-past s x)) (is-waiting t core r k h) ∙ ap (λ (ys : List ℕ). (x .grant ++ x .convert) ++ ys) (append-nil (x .wait)));
           not-before = rw count-append (omega arith);
           on = h;
           no-zero = none-zero t core waits r;

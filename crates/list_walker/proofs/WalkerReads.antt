@@ -17,12 +17,12 @@ use Rattle.tables.specs.Grants.{holders}
 use Rattle.tables.proofs.Cases.{and-left}
 use Rattle.tables.proofs.Counts.{within-le}
 use Rattle.tables.proofs.ReadBack.{lock-read}
-use Rattle.tables.proofs.Valid.{Core}
+use Rattle.tables.specs.Validity.{Core}
 use Rattle.table_fields.specs.Sizes.{Sized}
 use Rattle.table_chains.specs.Contracts.{Some, Tells, Resourced}
 use Rattle.table_chains.proofs.ChainCells.{resources-is, locks-is}
-use Rattle.list_walker.specs.Order.{locks-on, first-on, count-on, past, first-past, Queued, following}
-use Rattle.list_walker.proofs.ListsInARow.{first-of, first-after, first-at, at-on, at-inside, at-end, at-next}
+use Rattle.list_walker.specs.Order.{locks-on, first-on, queues-past, first-past, Queued, next-on, Place, SomePlace, Counted}
+use Rattle.list_walker.proofs.ListsInARow.{first-of, first-after, at-on, at-inside, at-end, at-next}
 use Rattle.list_walker.proofs.ResourceLocks.{Split, split-next, split-past, none-zero, no-lock-zero, resource-on, once-on, few-on, queued-at, queued-range, queued-resourced, core-sized, head-here, split-here}
 
 -- the resource r
@@ -41,7 +41,7 @@ module _ (ws : List ℕ) (r : ℕ) (s : Some (Resourced r) ws) where
 
 -- first_past: by the numbers of the state, and of the three heads
 module _ (x : Resource) (g c w : ℕ) (eg : g ≡ first (x .grant)) (ec : c ≡ first (x .convert)) (ew : w ≡ first (x .wait)) (zg : count 0 (x .grant) ≡ 0) (zc : count 0 (x .convert) ≡ 0) where
-  past-grant : (s : ℕ) → (ltb s 1 && not (eqb g 0)) ≡ true → g ≡ first (past s x)
+  past-grant : (s : ℕ) → (ltb s 1 && not (eqb g 0)) ≡ true → g ≡ first (queues-past s x)
   past-grant zero h = eg ∙ sym (first-of (x .grant) (x .convert ++ x .wait) (λ z. eqb-false g 0 (not-true (eqb g 0) h) (eg ∙ z)))
   past-grant (suc s) h = absurd (omega (arith, ltb-true (suc s) 1 (and-left (ltb (suc s) 1) _ h)))
 
@@ -49,14 +49,14 @@ module _ (x : Resource) (g c w : ℕ) (eg : g ≡ first (x .grant)) (ec : c ≡ 
   none-granted zero h e = sym eg ∙ eqb-true g 0 (not-false (eqb g 0) h)
   none-granted (suc s) h e = absurd (omega arith)
 
-  past-convert : (s : ℕ) → (ltb s 1 && not (eqb g 0)) ≡ false → (ltb s 2 && not (eqb c 0)) ≡ true → c ≡ first (past s x)
+  past-convert : (s : ℕ) → (ltb s 1 && not (eqb g 0)) ≡ false → (ltb s 2 && not (eqb c 0)) ≡ true → c ≡ first (queues-past s x)
   past-convert zero n h =
       ec ∙ sym (first-of (x .convert) (x .wait) (λ z. eqb-false c 0 (not-true (eqb c 0) h) (ec ∙ z)))
       ∙ sym (first-after (x .grant) (x .convert ++ x .wait) zg (none-granted 0 n refl))
   past-convert (suc zero) n h = ec ∙ sym (first-of (x .convert) (x .wait) (λ z. eqb-false c 0 (not-true (eqb c 0) h) (ec ∙ z)))
   past-convert (suc (suc s)) n h = absurd (omega (arith, ltb-true (suc (suc s)) 2 (and-left (ltb (suc (suc s)) 2) _ h)))
 
-  past-wait : (s : ℕ) → (ltb s 1 && not (eqb g 0)) ≡ false → (ltb s 2 && not (eqb c 0)) ≡ false → s < 3 → w ≡ first (past s x)
+  past-wait : (s : ℕ) → (ltb s 1 && not (eqb g 0)) ≡ false → (ltb s 2 && not (eqb c 0)) ≡ false → s < 3 → w ≡ first (queues-past s x)
   past-wait zero n h l =
       ew ∙ sym (first-after (x .convert) (x .wait) zc (sym ec ∙ eqb-true c 0 (not-false (eqb c 0) h)))
       ∙ sym (first-after (x .grant) (x .convert ++ x .wait) zg (none-granted 0 n refl))
@@ -64,7 +64,7 @@ module _ (x : Resource) (g c w : ℕ) (eg : g ≡ first (x .grant)) (ec : c ≡ 
   past-wait (suc (suc zero)) n h l = ew
   past-wait (suc (suc (suc s))) n h l = absurd (omega arith)
 
-past-end : (x : Resource) (s : ℕ) → 3 ≤ s → 0 ≡ first (past s x)
+past-end : (x : Resource) (s : ℕ) → 3 ≤ s → 0 ≡ first (queues-past s x)
 past-end x zero h = absurd (omega arith)
 past-end x (suc zero) h = absurd (omega arith)
 past-end x (suc (suc zero)) h = absurd (omega arith)
@@ -129,16 +129,16 @@ module _ (ws : List ℕ) (k : ℕ) where
   queued-record t p is = ap (λ (v : List ℕ). read-lock v k) is ∙ lock-read t k (queued-range k t p .0) (queued-range k t p .1)
 
   module _ (n : ℕ) (en : n ≡ word-in ws (of-lock k 0)) where
-    split : (t : Tables) (p : Queued k t) → ws ≡ words t → Split k n (locks-on (lock t k .resource) t) (past (lock t k .state) (resource t (lock t k .resource)))
+    split : (t : Tables) (p : Queued k t) → ws ≡ words t → Split k n (locks-on (lock t k .resource) t) (queues-past (lock t k .state) (resource t (lock t k .resource)))
     split t p is = split-here t (p .core) ws is (lock t k .resource) k (p .on) n en
 
-    pub follows-link : (n ≡ 0 → ⊥) → Tells (Queued k) (following k) ws n
-    unfolding following
+    pub follows-link : (n ≡ 0 → ⊥) → Tells (Queued k) (next-on k) ws n
+    unfolding next-on
     follows-link m = record { then = λ t p is. split-next k n _ _ (split t p is) m }
 
     module _ (e : n ≡ 0) (l : Lock) (el : l ≡ read-lock ws k) where
-      pub follows-past : (x : ℕ) → Tells (Resourced (l .resource)) (first-past (l .resource) (l .state)) ws x → Tells (Queued k) (following k) ws x
-      unfolding following first-past
+      pub follows-past : (x : ℕ) → Tells (Resourced (l .resource)) (first-past (l .resource) (l .state)) ws x → Tells (Queued k) (next-on k) ws x
+      unfolding next-on first-past
       follows-past x told = record {
         then = λ t p is.
             let same : l ≡ lock t k = el ∙ queued-record t p is in
@@ -153,70 +153,80 @@ module _ (ws : List ℕ) (k : ℕ) where
 
 pub ruleset follow-laws = (needs, queued-sized, queued-low, queued-high, follows-link, follows-resourced, follows-past)
 
--- count_on: k is the lock at the place n on r
-pub record Place (r n k : ℕ) (t : Tables) : Type 0 where
-  pub near : n ≤ length (locks-on r t)
-  pub here : k ≡ getD (locks-on r t) n 0
+-- count_from
+module _ (r n k : ℕ) (t : Tables) (p : Place r n k t) (m : k ≡ 0 → ⊥) where
+  core : Core t
+  core = p .there .core
 
-pub record Reached (ws : List ℕ) (r n k : ℕ) : Type 0 where
-  pub some : Some (Resourced r) ws
-  pub then : (t : Tables) → Resourced r t → ws ≡ words t → Place r n k t
-
-module _ (r n k : ℕ) (t : Tables) (core : Core t) (p : Place r n k t) (m : k ≡ 0 → ⊥) where
   place-inside : n < length (locks-on r t)
   place-inside = at-inside (locks-on r t) n (λ z. m (p .here ∙ z))
 
   place-queued : Queued k t
   place-queued = subst (λ (j : ℕ). Queued j t) (sym (p .here)) (queued-at t core r n place-inside)
 
-  place-follows : following k t ≡ getD (locks-on r t) (suc n) 0
-  unfolding following
+  place-follows : next-on k t ≡ getD (locks-on r t) (suc n) 0
+  unfolding next-on
   place-follows =
       ap (λ (s : ℕ). next k (locks-on s t)) (resource-on t core r k (rw (p .here) (at-on (locks-on r t) n place-inside)))
       ∙ ap (λ (j : ℕ). next j (locks-on r t)) (p .here) ∙ at-next (locks-on r t) n (once-on t core r) place-inside
 
-  place-next : Place r (n + 1) (following k t) t
-  place-next = rw (add-one n) (record { near = place-inside; here = place-follows })
+  place-next : Place r (n + 1) (next-on k t) t
+  place-next = rw (add-one n) (record { there = p .there; near = place-inside; here = place-follows })
 
-module _ (ws : List ℕ) (r : ℕ) where
-  pub count-starts : (x : ℕ) → Some (Resourced r) ws → Tells (Resourced r) (first-on r) ws x → Reached ws r 0 x
-  unfolding first-on
-  count-starts x s told = record { some = s; then = λ t p is. record { near = omega arith; here = told .then t p is ∙ first-at (locks-on r t) } }
+-- from the lock k at the place n on, the walk came to j at the place i
+pub record Reached (ws : List ℕ) (n k i j : ℕ) : Type 0 where
+  pub some : SomePlace i j ws
+  pub then : (r : ℕ) (t : Tables) → Place r n k t → ws ≡ words t → Place r i j t
 
-  module _ (n k : ℕ) (g : Reached ws r n k) where
-    pub count-ends : k ≡ 0 → Tells (Resourced r) (count-on r) ws n
-    unfolding count-on
+module _ (ws : List ℕ) (n k : ℕ) where
+  pub count-fits : SomePlace n k ws → n < 2 ^ 32
+  count-fits s =
+      let core = s .good .there .core in
+      let few = few-on (s .state) core (s .resource) in
+      omega (arith, s .good .near, core .locks-high)
+
+  pub count-starts : SomePlace n k ws → Reached ws n k n k
+  count-starts s = record { some = s; then = λ r t p is. p }
+
+  module _ (i j : ℕ) (g : Reached ws n k i j) where
+    pub count-ends : j ≡ 0 → Counted n k ws i
     count-ends e = record {
-      then = λ t p is.
-          at-end (locks-on r t) n (no-lock-zero t (p .core) r) (g .then t p is .near) (sym (g .then t p is .here) ∙ e);
+      then = λ r t p is.
+          let q = g .then r t p is in
+          at-end (locks-on r t) i (no-lock-zero t (q .there .core) r) (q .near) (sym (q .here) ∙ e);
     }
 
-    module _ (m : k ≡ 0 → ⊥) where
-      inside : (n < locks-in ws) × (n < 1024)
+    module _ (m : j ≡ 0 → ⊥) where
+      inside : (i < locks-in ws) × (i < 1024)
       inside =
           let s = g .some in
-          let core = s .good .core in
-          let i = place-inside r n k (s .state) core (g .then (s .state) (s .good) (s .is)) m in
-          let few = few-on (s .state) core r in
+          let core = s .good .there .core in
+          let h = place-inside (s .resource) i j (s .state) (s .good) m in
+          let few = few-on (s .state) core (s .resource) in
           (omega (arith, locks-is (s .state) ws (s .is)), omega (arith, core .locks-high))
 
-      pub count-queued : Some (Queued k) ws
+      pub count-queued : Some (Queued j) ws
       count-queued =
           let s = g .some in
-          record { state = s .state; good = place-queued r n k (s .state) (s .good .core) (g .then (s .state) (s .good) (s .is)) m; is = s .is }
+          record { state = s .state; good = place-queued (s .resource) i j (s .state) (s .good) m; is = s .is }
 
-      pub count-small : n + 1 < 2 ^ 32
+      pub count-small : i + 1 < 2 ^ 32
       count-small = omega (arith, inside .1)
 
-      pub count-less : locks-in ws - (n + 1) < locks-in ws - n
+      pub count-less : locks-in ws - (i + 1) < locks-in ws - i
       count-less = omega (arith, inside .0)
 
-      pub count-next : (y : ℕ) → Tells (Queued k) (following k) ws y → Reached ws r (n + 1) y
-      count-next y told = record {
-        some = g .some;
-        then = λ t p is.
-            let here = g .then t p is in
-            subst (λ (j : ℕ). Place r (n + 1) j t) (sym (told .then t (place-queued r n k t (p .core) here m) is)) (place-next r n k t (p .core) here m);
-      }
+      module _ (y : ℕ) (told : Tells (Queued j) (next-on j) ws y) where
+        next-place : (r : ℕ) (t : Tables) → Place r i j t → ws ≡ words t → Place r (i + 1) y t
+        next-place r t p is =
+            subst (λ (x : ℕ). Place r (i + 1) x t) (sym (told .then t (place-queued r i j t p m) is)) (place-next r i j t p m)
 
-pub ruleset count-laws = (needs, count-starts, count-ends, count-queued, count-small, count-less, count-next)
+        pub count-next : Reached ws n k (i + 1) y
+        count-next =
+            let s = g .some in
+            record {
+              some = record { state = s .state; resource = s .resource; good = next-place (s .resource) (s .state) (s .good) (s .is); is = s .is };
+              then = λ r t p is. next-place r t (g .then r t p is) is;
+            }
+
+pub ruleset count-laws = (needs, count-fits, count-starts, count-ends, count-queued, count-small, count-less, count-next)

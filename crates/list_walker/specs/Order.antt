@@ -1,31 +1,31 @@
 -- The locks on a resource in grant, convert, wait order, and what follows one there.
+use mathlib.Core.Path.{_≡_}
 use mathlib.Core.List.{List, [], _++_}
 use Prim.Native.Nat.{ℕ, zero, suc, _≤_}
-use lib.ListN.{length}
+use lib.ListN.{getD, length}
 use Rattle.tables.specs.Lists.{count, first, next}
 use Rattle.tables.specs.State.{Resource, Tables, lock, resource}
+use Rattle.tables.specs.Layout.{words}
 use Rattle.tables.specs.Grants.{holders}
-use Rattle.tables.proofs.Valid.{Core}
+use Rattle.tables.specs.Validity.{Core}
+use Rattle.table_chains.specs.Contracts.{Resourced}
 
 unfoldable pub locks-on : ℕ → Tables → List ℕ
 locks-on r t = holders t r ++ resource t r .wait
 
--- the first of them, or 0; how many there are
+-- the first of them, or 0
 unfoldable pub first-on : ℕ → Tables → ℕ
 first-on r t = first (locks-on r t)
 
-unfoldable pub count-on : ℕ → Tables → ℕ
-count-on r t = length (locks-on r t)
-
 -- those on the queues past the one where locks in a state stand (0: all of them), and the first of these, or 0
-abbrev pub past : ℕ → Resource → List ℕ
-past zero x = x .grant ++ (x .convert ++ x .wait)
-past (suc zero) x = x .convert ++ x .wait
-past (suc (suc zero)) x = x .wait
-past (suc (suc (suc s))) x = []
+abbrev pub queues-past : ℕ → Resource → List ℕ
+queues-past zero x = x .grant ++ (x .convert ++ x .wait)
+queues-past (suc zero) x = x .convert ++ x .wait
+queues-past (suc (suc zero)) x = x .wait
+queues-past (suc (suc (suc s))) x = []
 
 unfoldable pub first-past : ℕ → ℕ → Tables → ℕ
-first-past r s t = first (past s (resource t r))
+first-past r s t = first (queues-past s (resource t r))
 
 -- the lock k stands on its resource
 pub record Queued (k : ℕ) (t : Tables) : Type 0 where
@@ -33,5 +33,22 @@ pub record Queued (k : ℕ) (t : Tables) : Type 0 where
   pub on : 1 ≤ count k (locks-on (lock t k .resource) t)
 
 -- what follows it there, or 0
-unfoldable pub following : ℕ → Tables → ℕ
-following k t = next k (locks-on (lock t k .resource) t)
+unfoldable pub next-on : ℕ → Tables → ℕ
+next-on k t = next k (locks-on (lock t k .resource) t)
+
+-- n locks stand on r before k, which is the next there, or 0 past the last
+pub record Place (r n k : ℕ) (t : Tables) : Type 0 where
+  pub there : Resourced r t
+  pub near : n ≤ length (locks-on r t)
+  pub here : k ≡ getD (locks-on r t) n 0
+
+-- these are the words of a state in which k stands there, on some resource
+pub record SomePlace (n k : ℕ) (ws : List ℕ) : Type 0 where
+  pub state : Tables
+  pub resource : ℕ
+  pub good : Place resource n k state
+  pub is : ws ≡ words state
+
+-- x is how many locks stand on that resource
+pub record Counted (n k : ℕ) (ws : List ℕ) (x : ℕ) : Type 0 where
+  pub then : (r : ℕ) (t : Tables) → Place r n k t → ws ≡ words t → x ≡ length (locks-on r t)

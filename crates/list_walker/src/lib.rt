@@ -4,7 +4,7 @@ use table_fields::lock_word;
 use table_fields::resource_word;
 ghost use mathlib.Core.Path.{_≡_};
 ghost use Rattle.table_chains.specs.Contracts.{Some, Tells, Resourced};
-ghost use Rattle.list_walker.specs.Order.{«first-on», «count-on», «first-past», Queued, following};
+ghost use Rattle.list_walker.specs.Order.{«first-on», «first-past», Queued, «next-on», SomePlace, Counted};
 
 // The first lock on the queues of r past the one where locks in a state stand, or 0. No queue stands before that of the
 // granted: from STATE_FREE it is the first lock on r.
@@ -27,7 +27,7 @@ fn first_past(words: &[u32], r: u32, state: u32) -> u32
 }
 
 // The first lock on r, or 0.
-pub fn first_on(words: &[u32], r: u32) -> u32
+fn first_on(words: &[u32], r: u32) -> u32
     requires { ⌜ Some (Resourced r) (now words) ⌝ }
     ensures { λ x. ⌜ Tells (Resourced r) (first-on r) (now (words .entry)) x ⌝ }
 {
@@ -35,9 +35,9 @@ pub fn first_on(words: &[u32], r: u32) -> u32
 }
 
 // The lock that follows k on its resource, or 0.
-pub fn following(words: &[u32], k: u32) -> u32
+fn following(words: &[u32], k: u32) -> u32
     requires { ⌜ Some (Queued k) (now words) ⌝ }
-    ensures { λ x. ⌜ Tells (Queued k) (following k) (now (words .entry)) x ⌝ }
+    ensures { λ x. ⌜ Tells (Queued k) (next-on k) (now (words .entry)) x ⌝ }
 {
     let next = lock_word(words, k, table_fields::LOCK_NEXT);
     if next != 0 {
@@ -47,15 +47,15 @@ pub fn following(words: &[u32], k: u32) -> u32
     first_past(words, lock.resource, lock.state)
 }
 
-// How many locks stand on r.
-pub fn count_on(words: &[u32], r: u32) -> u32
-    requires { ⌜ Some (Resourced r) (now words) ⌝ }
-    ensures { λ x. ⌜ Tells (Resourced r) (count-on r) (now (words .entry)) x ⌝ }
+// How many locks stand on a resource, of which `before` stand before k: k is the next one, or 0 past the last.
+pub fn count_from(words: &[u32], k: u32, before: usize) -> u32
+    requires { ⌜ SomePlace before k (now words) ⌝ }
+    ensures { λ x. ⌜ Counted before k (now (words .entry)) x ⌝ }
 {
-    let mut count = 0;
-    let mut k = first_on(words, r);
-    while k != 0 {
-        k = following(words, k);
+    let mut count = before as u32;
+    let mut next = k;
+    while next != 0 {
+        next = following(words, next);
         count += 1;
     }
     count
@@ -79,7 +79,7 @@ pub fn start<'a>(words: &'a [u32], r: u32) -> Walker<'a>
 // One lock further.
 pub fn step<'a>(walker: Walker<'a>) -> Walker<'a>
     requires { ⌜ Some (Queued (walker .lock)) (now (walker .words)) ⌝ }
-    ensures { λ w. ⌜ (w .words ≡ walker .entry .words) × Tells (Queued (walker .entry .lock)) (following (walker .entry .lock)) (now (walker .entry .words)) (w .lock) ⌝ }
+    ensures { λ w. ⌜ (w .words ≡ walker .entry .words) × Tells (Queued (walker .entry .lock)) (next-on (walker .entry .lock)) (now (walker .entry .words)) (w .lock) ⌝ }
 {
     let next = following(walker.words, walker.lock);
     Walker {

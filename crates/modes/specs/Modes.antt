@@ -5,8 +5,8 @@ use Prim.Native.Nat.{ℕ}
 use lib.ListN.{getD}
 
 -- the matrix: a row for each held mode, NL to EX, and in it a column for each asked mode
-unfoldable pub rows : List (List Bool)
-rows =
+unfoldable pub matrix : List (List Bool)
+matrix =
     (true ∷ true ∷ true ∷ true ∷ true ∷ true ∷ [])
     ∷ (true ∷ true ∷ true ∷ true ∷ true ∷ false ∷ [])
     ∷ (true ∷ true ∷ true ∷ false ∷ false ∷ false ∷ [])
@@ -17,7 +17,7 @@ rows =
 
 -- whether the asked mode may be granted beside the held one; a number above 5 goes with none
 unfoldable pub compatible : ℕ → ℕ → Bool
-compatible held asked = getD (getD rows held []) asked false
+compatible held asked = getD (getD matrix held []) asked false
 
 -- the test passes for each of the six modes
 unfoldable pub all-modes : (ℕ → Bool) → Bool

@@ -3,13 +3,13 @@
 ghost use mathlib.Core.Path.{_≡_};
 ghost use Prim.Native.Nat.{_<_};
 ghost use Rattle.modes.specs.Modes.{compatible, down};
-ghost use Rattle.modes.specs.Sets.{against, «fits-set», Row, «with-mode»};
-ghost use Rattle.modes.specs.Made.{numbers, made};
+ghost use Rattle.modes.specs.Sets.{«fits-set», «with-mode»};
+ghost use Rattle.modes.specs.Made.{«made-numbers», made};
 
 // A lock mode.
 pub struct Mode(pub u32);
 
-// What a number makes.
+// What `from_number` answers.
 pub enum Made {
     Mode(Mode),
     Refused,
@@ -36,7 +36,7 @@ impl Mode {
 
     // The mode with this number. A number above 5 is refused.
     pub fn from_number(n: u32) -> Made
-        ensures { λ r. ⌜ numbers r ≡ made n ⌝ }
+        ensures { λ r. ⌜ made-numbers r ≡ made n ⌝ }
     {
         match n {
             0 => Made::Mode(Mode::NL),
@@ -47,12 +47,6 @@ impl Mode {
             5 => Made::Mode(Mode::EX),
             _ => Made::Refused,
         }
-    }
-
-    pub fn number(self) -> u32
-        ensures { λ r. ⌜ r ≡ self .0 ⌝ }
-    {
-        self.0
     }
 }
 
@@ -75,56 +69,23 @@ pub fn goes_with(held: u32, asked: u32) -> bool
     COMPATIBLE[held as usize][asked as usize]
 }
 
-// A row for each asked mode, a digit for each set of modes: whether the asked mode is compatible with every mode of the
-// set. Digit s, from the right, is for the set s: the eight sets of a group differ in NL, CR and CW only.
-const FITS: [u64; 6] = [
-    0b11111111_11111111_11111111_11111111_11111111_11111111_11111111_11111111, // NL
-    0b00000000_00000000_00000000_00000000_11111111_11111111_11111111_11111111, // CR
-    0b00000000_00000000_00000000_00000000_00000000_00000000_00000000_11111111, // CW
-    0b00000000_00000000_00000000_00000000_00000000_00000000_00001111_00001111, // PR
-    0b00000000_00000000_00000000_00000000_00000000_00000000_00000000_00001111, // PW
-    0b00000000_00000000_00000000_00000000_00000000_00000000_00000000_00000011, // EX
-];
-
-// The row of an asked mode. Each row is named by a constant index, so that the compiler has it as a number: an array
-// constant would be built in memory at each use.
-fn row(asked: u32) -> u64
-    requires { ⌜ asked < 6 ⌝ }
-    ensures { λ r. ⌜ Row asked r ⌝ }
+// Whether a conversion is down: every mode compatible with the old mode is compatible with the new.
+pub fn down(old: u32, new: u32) -> bool
+    requires { ⌜ old < 6 ⌝ }
+    requires { ⌜ new < 6 ⌝ }
+    ensures { λ r. ⌜ r ≡ down old new ⌝ }
 {
-    match asked {
-        0 => FITS[0],
-        1 => FITS[1],
-        2 => FITS[2],
-        3 => FITS[3],
-        4 => FITS[4],
-        5 => FITS[5],
-        _ => 0,
+    let matrix = COMPATIBLE;
+    let was = matrix[old as usize];
+    let is = matrix[new as usize];
+    let mut mode = 0;
+    while mode < 6 {
+        if was[mode] & !is[mode] {
+            return false;
+        }
+        mode += 1;
     }
-}
-
-// Whether the asked mode is compatible with every mode of the set.
-pub fn fits(set: u32, asked: u32) -> bool
-    requires { ⌜ set < 64 ⌝ }
-    requires { ⌜ asked < 6 ⌝ }
-    ensures { λ r. ⌜ r ≡ fits-set set asked ⌝ }
-{
-    row(asked) >> set & 1 == 1
-}
-
-// The modes that are not compatible with this one, as a set. Its digits, from the left, are EX PW PR CW CR NL.
-fn against(mode: u32) -> u32
-    requires { ⌜ mode < 6 ⌝ }
-    ensures { λ r. ⌜ r ≡ against mode ⌝ }
-{
-    match mode {
-        0 => 0b00_0000, // NL: none
-        1 => 0b10_0000, // CR: EX
-        2 => 0b11_1000, // CW: PR PW EX
-        3 => 0b11_0100, // PR: CW PW EX
-        4 => 0b11_1100, // PW: CW PR PW EX
-        _ => 0b11_1110, // EX: all but NL
-    }
+    true
 }
 
 // The set with one mode more.
@@ -136,11 +97,102 @@ pub fn with_mode(set: u32, mode: u32) -> u32
     set | (1 << mode)
 }
 
-// Whether a conversion is down: every mode compatible with the old mode is compatible with the new.
-pub fn down(old: u32, new: u32) -> bool
-    requires { ⌜ old < 6 ⌝ }
-    requires { ⌜ new < 6 ⌝ }
-    ensures { λ r. ⌜ r ≡ down old new ⌝ }
+// A row for each set of modes, a column for each asked mode: whether it is compatible with every mode of the set.
+const FITS: [[bool; 6]; 64] = [
+    [true, true, true, true, true, true], // 0: none
+    [true, true, true, true, true, true], // 1: NL
+    [true, true, true, true, true, false], // 2: CR
+    [true, true, true, true, true, false], // 3: NL CR
+    [true, true, true, false, false, false], // 4: CW
+    [true, true, true, false, false, false], // 5: NL CW
+    [true, true, true, false, false, false], // 6: CR CW
+    [true, true, true, false, false, false], // 7: NL CR CW
+    [true, true, false, true, false, false], // 8: PR
+    [true, true, false, true, false, false], // 9: NL PR
+    [true, true, false, true, false, false], // 10: CR PR
+    [true, true, false, true, false, false], // 11: NL CR PR
+    [true, true, false, false, false, false], // 12: CW PR
+    [true, true, false, false, false, false], // 13: NL CW PR
+    [true, true, false, false, false, false], // 14: CR CW PR
+    [true, true, false, false, false, false], // 15: NL CR CW PR
+    [true, true, false, false, false, false], // 16: PW
+    [true, true, false, false, false, false], // 17: NL PW
+    [true, true, false, false, false, false], // 18: CR PW
+    [true, true, false, false, false, false], // 19: NL CR PW
+    [true, true, false, false, false, false], // 20: CW PW
+    [true, true, false, false, false, false], // 21: NL CW PW
+    [true, true, false, false, false, false], // 22: CR CW PW
+    [true, true, false, false, false, false], // 23: NL CR CW PW
+    [true, true, false, false, false, false], // 24: PR PW
+    [true, true, false, false, false, false], // 25: NL PR PW
+    [true, true, false, false, false, false], // 26: CR PR PW
+    [true, true, false, false, false, false], // 27: NL CR PR PW
+    [true, true, false, false, false, false], // 28: CW PR PW
+    [true, true, false, false, false, false], // 29: NL CW PR PW
+    [true, true, false, false, false, false], // 30: CR CW PR PW
+    [true, true, false, false, false, false], // 31: NL CR CW PR PW
+    [true, false, false, false, false, false], // 32: EX
+    [true, false, false, false, false, false], // 33: NL EX
+    [true, false, false, false, false, false], // 34: CR EX
+    [true, false, false, false, false, false], // 35: NL CR EX
+    [true, false, false, false, false, false], // 36: CW EX
+    [true, false, false, false, false, false], // 37: NL CW EX
+    [true, false, false, false, false, false], // 38: CR CW EX
+    [true, false, false, false, false, false], // 39: NL CR CW EX
+    [true, false, false, false, false, false], // 40: PR EX
+    [true, false, false, false, false, false], // 41: NL PR EX
+    [true, false, false, false, false, false], // 42: CR PR EX
+    [true, false, false, false, false, false], // 43: NL CR PR EX
+    [true, false, false, false, false, false], // 44: CW PR EX
+    [true, false, false, false, false, false], // 45: NL CW PR EX
+    [true, false, false, false, false, false], // 46: CR CW PR EX
+    [true, false, false, false, false, false], // 47: NL CR CW PR EX
+    [true, false, false, false, false, false], // 48: PW EX
+    [true, false, false, false, false, false], // 49: NL PW EX
+    [true, false, false, false, false, false], // 50: CR PW EX
+    [true, false, false, false, false, false], // 51: NL CR PW EX
+    [true, false, false, false, false, false], // 52: CW PW EX
+    [true, false, false, false, false, false], // 53: NL CW PW EX
+    [true, false, false, false, false, false], // 54: CR CW PW EX
+    [true, false, false, false, false, false], // 55: NL CR CW PW EX
+    [true, false, false, false, false, false], // 56: PR PW EX
+    [true, false, false, false, false, false], // 57: NL PR PW EX
+    [true, false, false, false, false, false], // 58: CR PR PW EX
+    [true, false, false, false, false, false], // 59: NL CR PR PW EX
+    [true, false, false, false, false, false], // 60: CW PR PW EX
+    [true, false, false, false, false, false], // 61: NL CW PR PW EX
+    [true, false, false, false, false, false], // 62: CR CW PR PW EX
+    [true, false, false, false, false, false], // 63: NL CR CW PR PW EX
+];
+
+// Whether the asked mode is compatible with every mode of the set. Where nobody holds a mode the table is not read: the
+// compiler builds it on the stack at each use.
+pub fn fits(set: u32, asked: u32) -> bool
+    requires { ⌜ set < 64 ⌝ }
+    requires { ⌜ asked < 6 ⌝ }
+    ensures { λ r. ⌜ r ≡ fits-set set asked ⌝ }
 {
-    against(new) & !against(old) == 0
+    if set == 0 {
+        return true;
+    }
+    FITS[set as usize][asked as usize]
+}
+
+// For each asked mode the set of those that are not compatible with it. The digits, from the left, are EX PW PR CW CR NL.
+const AGAINST: [u32; 6] = [
+    0b00_0000, // NL: none
+    0b10_0000, // CR: EX
+    0b11_1000, // CW: PR PW EX
+    0b11_0100, // PR: CW PW EX
+    0b11_1100, // PW: CW PR PW EX
+    0b11_1110, // EX: all but NL
+];
+
+// The same as `fits`, in less time: for the soundness check, which asks at every lock.
+pub fn fits_by_masks(set: u32, asked: u32) -> bool
+    requires { ⌜ set < 64 ⌝ }
+    requires { ⌜ asked < 6 ⌝ }
+    ensures { λ r. ⌜ r ≡ fits-set set asked ⌝ }
+{
+    set & AGAINST[asked as usize] == 0
 }

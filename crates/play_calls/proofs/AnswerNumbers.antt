@@ -1,12 +1,12 @@
 -- An entry's answer in numbers, what is printed for it, and the line that is so played.
-use mathlib.Core.Path.{_≡_, refl, sym, ap, ap₂, subst, _∙_}
+use mathlib.Core.Path.{_≡_, refl, sym, ap, subst, _∙_}
 use mathlib.Core.List.{List}
 use Prim.Native.Nat.{ℕ, zero, suc}
-use native.Mathlib.Omega.{arith}
 use borrow.Author.Tests.{eq-eqb, ne-eqb}
 use borrow.Author.Needs.{needs}
-use Rattle.rules.specs.Entries.{Call, call-entry}
-use Rattle.answers.specs.declared.Done.{Done}
+use Rattle.rules.specs.Calls.{Said, accepted}
+use Rattle.rules.specs.Entries.{lent, Outcome, Call, call-entry, Keeps}
+use Rattle.answers.specs.declared.Released.{Released}
 use Rattle.answers.specs.declared.Requested.{Requested}
 use Rattle.answers.specs.declared.Converted.{Converted}
 use Rattle.answers.specs.declared.Cancelled.{Cancelled}
@@ -15,52 +15,52 @@ use Rattle.answers.specs.declared.Broken.{Broken}
 use Rattle.answers.specs.declared.Polled.{Polled}
 use Rattle.answers.specs.Answers as answers
 use Rattle.answers.specs.declared.Broken.the-variants.{Denied}
-use Rattle.answers.proofs.RefusalNumbers.{call-refusal}
-use Rattle.answers.specs.Answers.{accepted, refused, requested, converted, done, cancelled, purged, broken, polled, outcome}
-use Rattle.play_print.specs.declared.Outcome.{Outcome}
-use Rattle.play_print.specs.declared.Outcome.the-variants.{Answer, AnswerAndLock, Refusal}
-use Rattle.play_calls.specs.declared.Numbers.{Numbers}
-use Rattle.play_calls.specs.Plays.{answered, answered-with-lock, plays, plays-with-lock, gives, lent, numbers, Numbered}
+use Rattle.answers.proofs.RefusalNumbers.{never-given}
+use Rattle.answers.specs.Answers.{refused-with, requested, converted, released, cancelled, purged, broken, polled}
+use Rattle.play_print.specs.declared.LineAnswer.{LineAnswer}
+use Rattle.play_print.specs.declared.LineAnswer.the-variants.{Answer, AnswerAndLock, Refusal}
+use Rattle.play_calls.specs.declared.SaidNumbers.{SaidNumbers}
+use Rattle.play_calls.specs.Plays.{answered, answered-with-lock, plays, plays-with-lock, played-with, said-of, HasNumbers}
 
 -- numbers that are accepted, and refused; a denied lock has a number from 1 on
-pub numbered-accepted : (a k : ℕ) → Numbered (accepted a k) (record { refusal = 0; answer = a; number = k })
+pub numbered-accepted : (a k : ℕ) → HasNumbers (accepted a k) (record { refusal = 0; answer = a; number = k })
 numbered-accepted a k = record { is = λ h. refl }
 
-pub numbered-refused : (n : ℕ) → Numbered (refused n) (record { refusal = n; answer = 0; number = 0 })
-numbered-refused zero = record { is = λ h. absurd (omega arith) }
+pub numbered-refused : (n : ℕ) → HasNumbers (refused-with n) (record { refusal = n; answer = 0; number = 0 })
+numbered-refused zero = record { is = λ h. absurd (h refl) }
 numbered-refused (suc n) = record { is = λ h. refl }
 
-numbered-denied : (k : ℕ) (x : Numbers) → Numbered (accepted k 0) x → Numbered (answers.denied k) x
-numbered-denied zero x n = record { is = λ h. absurd (omega arith) }
+numbered-denied : (k : ℕ) (x : SaidNumbers) → HasNumbers (accepted k 0) x → HasNumbers (answers.denial k) x
+numbered-denied zero x n = record { is = λ h. absurd (h refl) }
 numbered-denied (suc k) x n = n
 
 -- the numbers of a case are those of the answer that is that case
-module _ (x : Numbers) where
-  pub in-requested : {r s : Requested} → r ≡ s → Numbered (requested s) x → Numbered (requested r) x
-  in-requested e n = subst (λ (z : Requested). Numbered (requested z) x) (sym e) n
+module _ (x : SaidNumbers) where
+  pub in-requested : {r s : Requested} → r ≡ s → HasNumbers (requested s) x → HasNumbers (requested r) x
+  in-requested e n = subst (λ (z : Requested). HasNumbers (requested z) x) (sym e) n
 
-  pub in-converted : {r s : Converted} → r ≡ s → Numbered (converted s) x → Numbered (converted r) x
-  in-converted e n = subst (λ (z : Converted). Numbered (converted z) x) (sym e) n
+  pub in-converted : {r s : Converted} → r ≡ s → HasNumbers (converted s) x → HasNumbers (converted r) x
+  in-converted e n = subst (λ (z : Converted). HasNumbers (converted z) x) (sym e) n
 
-  pub in-done : {r s : Done} → r ≡ s → Numbered (done s) x → Numbered (done r) x
-  in-done e n = subst (λ (z : Done). Numbered (done z) x) (sym e) n
+  pub in-released : {r s : Released} → r ≡ s → HasNumbers (released s) x → HasNumbers (released r) x
+  in-released e n = subst (λ (z : Released). HasNumbers (released z) x) (sym e) n
 
-  pub in-cancelled : {r s : Cancelled} → r ≡ s → Numbered (cancelled s) x → Numbered (cancelled r) x
-  in-cancelled e n = subst (λ (z : Cancelled). Numbered (cancelled z) x) (sym e) n
+  pub in-cancelled : {r s : Cancelled} → r ≡ s → HasNumbers (cancelled s) x → HasNumbers (cancelled r) x
+  in-cancelled e n = subst (λ (z : Cancelled). HasNumbers (cancelled z) x) (sym e) n
 
-  pub in-purged : {r s : Purged} → r ≡ s → Numbered (purged s) x → Numbered (purged r) x
-  in-purged e n = subst (λ (z : Purged). Numbered (purged z) x) (sym e) n
+  pub in-purged : {r s : Purged} → r ≡ s → HasNumbers (purged s) x → HasNumbers (purged r) x
+  in-purged e n = subst (λ (z : Purged). HasNumbers (purged z) x) (sym e) n
 
-  pub in-broken : {r s : Broken} → r ≡ s → Numbered (broken s) x → Numbered (broken r) x
-  in-broken e n = subst (λ (z : Broken). Numbered (broken z) x) (sym e) n
+  pub in-broken : {r s : Broken} → r ≡ s → HasNumbers (broken s) x → HasNumbers (broken r) x
+  in-broken e n = subst (λ (z : Broken). HasNumbers (broken z) x) (sym e) n
 
-  pub in-denied : {r : Broken} (k : ℕ) → r ≡ Denied k → Numbered (accepted k 0) x → Numbered (broken r) x
+  pub in-denied : {r : Broken} (k : ℕ) → r ≡ Denied k → HasNumbers (accepted k 0) x → HasNumbers (broken r) x
   in-denied k e n = in-broken e (numbered-denied k x n)
 
-  pub in-polled : {r s : Polled} → r ≡ s → Numbered (polled s) x → Numbered (polled r) x
-  in-polled e n = subst (λ (z : Polled). Numbered (polled z) x) (sym e) n
+  pub in-polled : {r s : Polled} → r ≡ s → HasNumbers (polled s) x → HasNumbers (polled r) x
+  in-polled e n = subst (λ (z : Polled). HasNumbers (polled z) x) (sym e) n
 
-pub ruleset number-rules = (needs, numbered-accepted, numbered-refused, in-requested, in-converted, in-done, in-cancelled, in-purged, in-denied, in-broken, in-polled)
+pub ruleset number-rules = (needs, numbered-accepted, numbered-refused, in-requested, in-converted, in-released, in-cancelled, in-purged, in-denied, in-broken, in-polled)
 
 -- what is printed
 module _ (letter refusal answer : ℕ) where
@@ -82,34 +82,28 @@ module _ (letter refusal answer : ℕ) where
 
 pub ruleset answer-rules = (needs, answered-accepted, answered-refused, with-lock-accepted, with-lock-refused)
 
--- a line: the entry's outcome has the numbers y, of which o is printed
-module _ (letter : ℕ) (a sa b sb : List ℕ) (call : Call) (y : answers.Numbers) (entered : outcome y b sb ≡ call-entry call a sa)
-    (x : Numbers) (numbered : Numbered y x) (o : Outcome) where
+-- a line: what the entry says has the numbers y, of which o is printed
+module _ (letter : ℕ) (a sa b sb : List ℕ) (call : Call) (y : Said) (entered : Keeps call (lent a sa) y (lent b sb))
+    (x : SaidNumbers) (numbered : HasNumbers y x) (o : LineAnswer) where
+  abbrev out : Outcome
+  out = call-entry call (lent a sa)
+
   -- no call gives a case that none may give
-  told : numbers x ≡ y
-  told = numbered .is (rw (ap (λ e. e .refusal) entered) (call-refusal call a sa))
+  said-is : said-of x ≡ out .said
+  said-is = numbered .is (never-given call y (lent a sa) (lent b sb) entered) ∙ ap (λ (e : Outcome). e .said) entered
 
-  refusal-is : x .refusal ≡ call-entry call a sa .refusal
-  refusal-is = ap (λ n. n .refusal) told ∙ ap (λ e. e .refusal) entered
+  tables-are : lent b sb ≡ out .lent-after
+  tables-are = ap (λ (e : Outcome). e .lent-after) entered
 
-  answer-is : x .answer ≡ call-entry call a sa .answer
-  answer-is = ap (λ n. n .answer) told ∙ ap (λ e. e .answer) entered
-
-  number-is : x .number ≡ call-entry call a sa .number
-  number-is = ap (λ n. n .number) told ∙ ap (λ e. e .number) entered
-
-  pub plays-line : o ≡ answered letter (x .refusal) (x .answer) → gives o b sb ≡ plays letter call (lent a sa)
+  pub plays-line : o ≡ answered letter (x .refusal) (x .answer) → played-with o b sb ≡ plays letter call (lent a sa)
   plays-line e =
-      let p = e ∙ ap₂ (answered letter) refusal-is answer-is in
-      λ i. record { outcome = p i; tables = record { words = entered i .words; slots = entered i .slots } }
+      let p : o ≡ answered letter (out .said .refusal) (out .said .answer) = e ∙ ap (λ (n : Said). answered letter (n .refusal) (n .answer)) said-is in
+      λ i. record { answer = p i; tables = tables-are i }
 
-  pub plays-line-with-lock : o ≡ answered-with-lock letter (x .refusal) (x .answer) (x .number) → gives o b sb ≡ plays-with-lock letter call (lent a sa)
+  pub plays-line-with-lock : o ≡ answered-with-lock letter (x .refusal) (x .answer) (x .number) → played-with o b sb ≡ plays-with-lock letter call (lent a sa)
   plays-line-with-lock e =
-      let p =
-      e
-      ∙ ap₂ (λ r n. answered-with-lock letter r n (x .number)) refusal-is answer-is
-      ∙ ap (answered-with-lock letter (call-entry call a sa .refusal) (call-entry call a sa .answer)) number-is
-      in
-      λ i. record { outcome = p i; tables = record { words = entered i .words; slots = entered i .slots } }
+      let p : o ≡ answered-with-lock letter (out .said .refusal) (out .said .answer) (out .said .number) =
+      e ∙ ap (λ (n : Said). answered-with-lock letter (n .refusal) (n .answer) (n .number)) said-is in
+      λ i. record { answer = p i; tables = tables-are i }
 
 pub ruleset line-rules = (needs, plays-line, plays-line-with-lock)

@@ -1,65 +1,58 @@
 -- What a line of lockplay does to the tables and what is printed for it. "empty values"
 use mathlib.Core.Bool.{cond}
 use mathlib.Core.List.{List, []}
-use Prim.Native.Nat.{ℕ, _≤_}
+use Prim.Native.Nat.{ℕ}
 use mathlib.Core.Path.{_≡_}
 use lib.Dec.{eqb}
-use Rattle.rules.specs.Entries as entries
-use Rattle.rules.specs.Entries.{Call, to-request, to-convert, to-release, to-cancel, to-purge, to-break, to-poll, call-entry}
-use Rattle.rules.specs.Theorem.{Lent, left}
-use Rattle.answers.specs.Answers as answers
-use Rattle.play_print.specs.declared.Outcome.{Outcome}
-use Rattle.play_print.specs.declared.Outcome.the-variants.{Answer, AnswerAndLock, Refusal, Unknown}
-use Rattle.play_commands.specs.Forms.{Meaning, request, convert, release, cancel, purge, break, poll, malformed}
-use Rattle.play_calls.specs.declared.Numbers.{Numbers}
+use Rattle.rules.specs.Calls.{Said}
+use Rattle.rules.specs.Entries.{Lent, lent, Call, to-request, to-convert, to-release, to-cancel, to-purge, to-break, to-poll, call-entry}
+use Rattle.answers.specs.Answers.{never}
+use Rattle.play_print.specs.declared.LineAnswer.{LineAnswer}
+use Rattle.play_print.specs.declared.LineAnswer.the-variants.{Answer, AnswerAndLock, Refusal, Unknown}
+use Rattle.play_commands.specs.Forms.{letter-q, letter-c, letter-r, letter-x, letter-p, letter-d, letter-n, Meaning, request, convert, release, cancel, purge, break, poll, malformed}
+use Rattle.play_calls.specs.declared.SaidNumbers.{SaidNumbers}
 
 -- what is printed, and the tables that are left
 pub record Played : Type 0 where
-  pub outcome : Outcome
+  pub answer : LineAnswer
   pub tables : Lent
 
 -- "the letter, then the answer; or the letter, `!`, the refusal". Refusal 0: accepted
-unfoldable pub answered : (letter refusal answer : ℕ) → Outcome
+unfoldable pub answered : (letter refusal answer : ℕ) → LineAnswer
 answered letter refusal answer = cond (eqb refusal 0) (Answer letter answer) (Refusal letter refusal)
 
 -- `q` "prints answer, lock", `n` "prints completion, lock"
-unfoldable pub answered-with-lock : (letter refusal answer lock : ℕ) → Outcome
+unfoldable pub answered-with-lock : (letter refusal answer lock : ℕ) → LineAnswer
 answered-with-lock letter refusal answer lock = cond (eqb refusal 0) (AnswerAndLock letter answer lock) (Refusal letter refusal)
 
-abbrev pub called : Call → Lent → entries.Outcome
-called c t = call-entry c (t .words) (t .slots)
-
--- a line whose answer is a number: q c r x p d n are bytes 113, 99, 114, 120, 112, 100, 110
+-- a line whose answer is a number, and one whose answer has a lock with it
 abbrev pub plays : ℕ → Call → Lent → Played
-plays letter c t = record { outcome = answered letter (called c t .refusal) (called c t .answer); tables = left (called c t) }
+plays letter c t =
+    let o = call-entry c t in
+    record { answer = answered letter (o .said .refusal) (o .said .answer); tables = o .lent-after }
 
 abbrev pub plays-with-lock : ℕ → Call → Lent → Played
 plays-with-lock letter c t =
-    record {
-      outcome = answered-with-lock letter (called c t .refusal) (called c t .answer) (called c t .number);
-      tables = left (called c t);
-    }
+    let o = call-entry c t in
+    record { answer = answered-with-lock letter (o .said .refusal) (o .said .answer) (o .said .number); tables = o .lent-after }
 
 unfoldable pub played : Meaning → Lent → Played
-played (request c m f n) t = plays-with-lock 113 (to-request c m f n) t
-played (convert c k m f) t = plays 99 (to-convert c k m f []) t
-played (release c k f) t = plays 114 (to-release c k f []) t
-played (cancel c k) t = plays 120 (to-cancel c k) t
-played (purge c) t = plays 112 (to-purge c) t
-played break t = plays 100 to-break t
-played (poll c) t = plays-with-lock 110 (to-poll c) t
-played malformed t = record { outcome = Unknown; tables = t }
+played (request c m f n) t = plays-with-lock letter-q (to-request c m f n) t
+played (convert c k m f) t = plays letter-c (to-convert c k m f []) t
+played (release c k f) t = plays letter-r (to-release c k f []) t
+played (cancel c k) t = plays letter-x (to-cancel c k) t
+played (purge c) t = plays letter-p (to-purge c) t
+played break t = plays letter-d to-break t
+played (poll c) t = plays-with-lock letter-n (to-poll c) t
+played malformed t = record { answer = Unknown; tables = t }
 
--- what the code has: an outcome beside words and slots, words and slots alone, and an answer's numbers
-abbrev pub gives : Outcome → List ℕ → List ℕ → Played
-gives o ws ss = record { outcome = o; tables = record { words = ws; slots = ss } }
+-- what the code has: a line's answer beside words and slots, and what a call says in numbers
+abbrev pub played-with : LineAnswer → List ℕ → List ℕ → Played
+played-with o ws ss = record { answer = o; tables = lent ws ss }
 
-abbrev pub lent : List ℕ → List ℕ → Lent
-lent ws ss = record { words = ws; slots = ss }
-
-abbrev pub numbers : Numbers → answers.Numbers
-numbers x = record { refusal = x .refusal; answer = x .answer; number = x .number }
+abbrev pub said-of : SaidNumbers → Said
+said-of x = record { refusal = x .refusal; answer = x .answer; number = x .number; extra = 0 }
 
 -- x has the numbers n, unless these are of a case that no call may give
-pub record Numbered (n : answers.Numbers) (x : Numbers) : Type 0 where
-  pub is : n .refusal ≤ 14 → numbers x ≡ n
+pub record HasNumbers (n : Said) (x : SaidNumbers) : Type 0 where
+  pub is : (n ≡ never → ⊥) → said-of x ≡ n

@@ -1,52 +1,53 @@
-// What a line of lockplay asks is done: the call is made, and its answer is what is printed.
+// Does what a line of lockplay asks: the call is made, and its answer is what is printed.
 use answers::Broken;
 use answers::Cancelled;
 use answers::Converted;
-use answers::Done;
 use answers::Polled;
 use answers::Purged;
+use answers::Released;
 use answers::Requested;
 use play_commands::Command;
-use play_print::Outcome;
+use play_print::LineAnswer;
 ghost use mathlib.Core.Path.{_≡_};
 ghost use mathlib.Core.List.{[]};
 ghost use Prim.Native.Nat.{_≤_};
 ghost use lib.ListN.{length};
-ghost use Rattle.rules.specs.Entries.{«to-request», «to-convert», «to-release», «to-cancel», «to-purge», «to-break», «to-poll»};
-ghost use Rattle.answers.specs.Answers.{accepted, refused, requested, converted, done, cancelled, purged, broken, polled};
-ghost use Rattle.play_commands.specs.Forms.{meaning, «name-start»};
-ghost use Rattle.play_calls.specs.Plays.{answered, «answered-with-lock», plays, «plays-with-lock», played, gives, lent, Numbered};
+ghost use Rattle.rules.specs.Calls.{accepted};
+ghost use Rattle.rules.specs.Entries.{lent, «to-request», «to-convert», «to-release», «to-cancel», «to-purge», «to-break», «to-poll»};
+ghost use Rattle.answers.specs.Answers.{«refused-with», requested, converted, released, cancelled, purged, broken, polled};
+ghost use Rattle.play_commands.specs.Forms.{«letter-q», «letter-c», «letter-r», «letter-x», «letter-p», «letter-d», «letter-n», meaning, «name-start»};
+ghost use Rattle.play_calls.specs.Plays.{answered, «answered-with-lock», plays, «plays-with-lock», played, «played-with», HasNumbers};
 
-// A call's answer in document 01's numbers, as answers:specs/Answers.antt gives them: the refusal, or 0; the answer; the lock,
-// where it gives one.
-struct Numbers {
+// A call's answer in document 01's numbers, as `answers/Answers` gives them: the refusal, or 0; the answer; the lock, where
+// it gives one.
+struct SaidNumbers {
     refusal: u32,
     answer: u32,
     number: u32,
 }
 
-fn accept(answer: u32, number: u32) -> Numbers
-    ensures { λ x. ⌜ Numbered (accepted answer number) x ⌝ }
+fn accept(answer: u32, number: u32) -> SaidNumbers
+    ensures { λ x. ⌜ HasNumbers (accepted answer number) x ⌝ }
 {
-    Numbers {
+    SaidNumbers {
         refusal: 0,
         answer,
         number,
     }
 }
 
-fn refuse(refusal: u32) -> Numbers
-    ensures { λ x. ⌜ Numbered (refused refusal) x ⌝ }
+fn refuse(refusal: u32) -> SaidNumbers
+    ensures { λ x. ⌜ HasNumbers (refused-with refusal) x ⌝ }
 {
-    Numbers {
+    SaidNumbers {
         refusal,
         answer: 0,
         number: 0,
     }
 }
 
-fn requested_numbers(r: Requested) -> Numbers
-    ensures { λ x. ⌜ Numbered (requested r) x ⌝ }
+fn requested_numbers(r: Requested) -> SaidNumbers
+    ensures { λ x. ⌜ HasNumbers (requested r) x ⌝ }
 {
     match r {
         Requested::Granted(k) => accept(1, k),
@@ -55,8 +56,8 @@ fn requested_numbers(r: Requested) -> Numbers
     }
 }
 
-fn converted_numbers(r: Converted) -> Numbers
-    ensures { λ x. ⌜ Numbered (converted r) x ⌝ }
+fn converted_numbers(r: Converted) -> SaidNumbers
+    ensures { λ x. ⌜ HasNumbers (converted r) x ⌝ }
 {
     match r {
         Converted::Granted => accept(1, 0),
@@ -65,17 +66,17 @@ fn converted_numbers(r: Converted) -> Numbers
     }
 }
 
-fn done_numbers(r: Done) -> Numbers
-    ensures { λ x. ⌜ Numbered (done r) x ⌝ }
+fn released_numbers(r: Released) -> SaidNumbers
+    ensures { λ x. ⌜ HasNumbers (released r) x ⌝ }
 {
     match r {
-        Done::Accepted => accept(0, 0),
-        Done::Refused(n) => refuse(n),
+        Released::Freed => accept(0, 0),
+        Released::Refused(n) => refuse(n),
     }
 }
 
-fn cancelled_numbers(r: Cancelled) -> Numbers
-    ensures { λ x. ⌜ Numbered (cancelled r) x ⌝ }
+fn cancelled_numbers(r: Cancelled) -> SaidNumbers
+    ensures { λ x. ⌜ HasNumbers (cancelled r) x ⌝ }
 {
     match r {
         Cancelled::Conversion => accept(1, 0),
@@ -84,8 +85,8 @@ fn cancelled_numbers(r: Cancelled) -> Numbers
     }
 }
 
-fn purged_numbers(r: Purged) -> Numbers
-    ensures { λ x. ⌜ Numbered (purged r) x ⌝ }
+fn purged_numbers(r: Purged) -> SaidNumbers
+    ensures { λ x. ⌜ HasNumbers (purged r) x ⌝ }
 {
     match r {
         Purged::Freed(n) => accept(n, 0),
@@ -93,8 +94,8 @@ fn purged_numbers(r: Purged) -> Numbers
     }
 }
 
-fn broken_numbers(r: Broken) -> Numbers
-    ensures { λ x. ⌜ Numbered (broken r) x ⌝ }
+fn broken_numbers(r: Broken) -> SaidNumbers
+    ensures { λ x. ⌜ HasNumbers (broken r) x ⌝ }
 {
     match r {
         Broken::Denied(k) => accept(k, 0),
@@ -103,8 +104,8 @@ fn broken_numbers(r: Broken) -> Numbers
     }
 }
 
-fn polled_numbers(r: Polled) -> Numbers
-    ensures { λ x. ⌜ Numbered (polled r) x ⌝ }
+fn polled_numbers(r: Polled) -> SaidNumbers
+    ensures { λ x. ⌜ HasNumbers (polled r) x ⌝ }
 {
     match r {
         Polled::Granted(k) => accept(1, k),
@@ -115,23 +116,23 @@ fn polled_numbers(r: Polled) -> Numbers
     }
 }
 
-// What is printed for a letter's answer, without its lock and with it.
-fn answered(letter: u8, x: Numbers) -> Outcome
+// What is printed for an answer, after the line's letter: without the lock, and with it.
+fn answered(letter: u8, x: SaidNumbers) -> LineAnswer
     ensures { λ r. ⌜ r ≡ answered letter (x .refusal) (x .answer) ⌝ }
 {
     if x.refusal == 0 {
-        return Outcome::Answer(letter, x.answer);
+        return LineAnswer::Answer(letter, x.answer);
     }
-    Outcome::Refusal(letter, x.refusal)
+    LineAnswer::Refusal(letter, x.refusal)
 }
 
-fn answered_with_lock(letter: u8, x: Numbers) -> Outcome
+fn answered_with_lock(letter: u8, x: SaidNumbers) -> LineAnswer
     ensures { λ r. ⌜ r ≡ answered-with-lock letter (x .refusal) (x .answer) (x .number) ⌝ }
 {
     if x.refusal == 0 {
-        return Outcome::AnswerAndLock(letter, x.answer, x.number);
+        return LineAnswer::AnswerAndLock(letter, x.answer, x.number);
     }
-    Outcome::Refusal(letter, x.refusal)
+    LineAnswer::Refusal(letter, x.refusal)
 }
 
 // The lines by their letters: the call, and what is printed for it.
@@ -142,8 +143,8 @@ fn request_line(
     mode: u32,
     flags: u32,
     name: &[u8],
-) -> Outcome
-    ensures { λ r. ⌜ gives r (now (words .exit)) (now (slots .exit)) ≡ plays-with-lock 113 (to-request client mode flags (now (name .entry))) (lent (now (words .entry)) (now (slots .entry))) ⌝ }
+) -> LineAnswer
+    ensures { λ r. ⌜ played-with r (now (words .exit)) (now (slots .exit)) ≡ plays-with-lock letter-q (to-request client mode flags (now (name .entry))) (lent (now (words .entry)) (now (slots .entry))) ⌝ }
 {
     let r = entry_locks::request(words, slots, client, mode, flags, name);
     answered_with_lock(b'q', requested_numbers(r))
@@ -156,52 +157,58 @@ fn convert_line(
     lock: u32,
     mode: u32,
     flags: u32,
-) -> Outcome
-    ensures { λ r. ⌜ gives r (now (words .exit)) (now (slots .exit)) ≡ plays 99 (to-convert client lock mode flags []) (lent (now (words .entry)) (now (slots .entry))) ⌝ }
+) -> LineAnswer
+    ensures { λ r. ⌜ played-with r (now (words .exit)) (now (slots .exit)) ≡ plays letter-c (to-convert client lock mode flags []) (lent (now (words .entry)) (now (slots .entry))) ⌝ }
 {
     let r = entry_locks::convert(words, slots, client, lock, mode, flags, b"");
     answered(b'c', converted_numbers(r))
 }
 
-fn release_line(words: &mut [u32], slots: &mut [u8], client: u32, lock: u32, flags: u32) -> Outcome
-    ensures { λ r. ⌜ gives r (now (words .exit)) (now (slots .exit)) ≡ plays 114 (to-release client lock flags []) (lent (now (words .entry)) (now (slots .entry))) ⌝ }
+fn release_line(
+    words: &mut [u32],
+    slots: &mut [u8],
+    client: u32,
+    lock: u32,
+    flags: u32,
+) -> LineAnswer
+    ensures { λ r. ⌜ played-with r (now (words .exit)) (now (slots .exit)) ≡ plays letter-r (to-release client lock flags []) (lent (now (words .entry)) (now (slots .entry))) ⌝ }
 {
     let r = entry_locks::release(words, slots, client, lock, flags, b"");
-    answered(b'r', done_numbers(r))
+    answered(b'r', released_numbers(r))
 }
 
-fn cancel_line(words: &mut [u32], slots: &[u8], client: u32, lock: u32) -> Outcome
-    ensures { λ r. ⌜ gives r (now (words .exit)) (now (slots .entry)) ≡ plays 120 (to-cancel client lock) (lent (now (words .entry)) (now (slots .entry))) ⌝ }
+fn cancel_line(words: &mut [u32], slots: &[u8], client: u32, lock: u32) -> LineAnswer
+    ensures { λ r. ⌜ played-with r (now (words .exit)) (now (slots .entry)) ≡ plays letter-x (to-cancel client lock) (lent (now (words .entry)) (now (slots .entry))) ⌝ }
 {
     let r = entry_recovery::cancel(words, slots, client, lock);
     answered(b'x', cancelled_numbers(r))
 }
 
-fn purge_line(words: &mut [u32], slots: &mut [u8], client: u32) -> Outcome
-    ensures { λ r. ⌜ gives r (now (words .exit)) (now (slots .exit)) ≡ plays 112 (to-purge client) (lent (now (words .entry)) (now (slots .entry))) ⌝ }
+fn purge_line(words: &mut [u32], slots: &mut [u8], client: u32) -> LineAnswer
+    ensures { λ r. ⌜ played-with r (now (words .exit)) (now (slots .exit)) ≡ plays letter-p (to-purge client) (lent (now (words .entry)) (now (slots .entry))) ⌝ }
 {
     let r = entry_recovery::purge(words, slots, client);
     answered(b'p', purged_numbers(r))
 }
 
-fn break_line(words: &mut [u32], slots: &[u8]) -> Outcome
-    ensures { λ r. ⌜ gives r (now (words .exit)) (now (slots .entry)) ≡ plays 100 to-break (lent (now (words .entry)) (now (slots .entry))) ⌝ }
+fn break_line(words: &mut [u32], slots: &[u8]) -> LineAnswer
+    ensures { λ r. ⌜ played-with r (now (words .exit)) (now (slots .entry)) ≡ plays letter-d to-break (lent (now (words .entry)) (now (slots .entry))) ⌝ }
 {
     let r = entry_recovery::break_deadlock(words, slots);
     answered(b'd', broken_numbers(r))
 }
 
-fn poll_line(words: &mut [u32], slots: &[u8], client: u32) -> Outcome
-    ensures { λ r. ⌜ gives r (now (words .exit)) (now (slots .entry)) ≡ plays-with-lock 110 (to-poll client) (lent (now (words .entry)) (now (slots .entry))) ⌝ }
+fn poll_line(words: &mut [u32], slots: &[u8], client: u32) -> LineAnswer
+    ensures { λ r. ⌜ played-with r (now (words .exit)) (now (slots .entry)) ≡ plays-with-lock letter-n (to-poll client) (lent (now (words .entry)) (now (slots .entry))) ⌝ }
 {
     let r = entry_recovery::poll(words, slots, client);
     answered_with_lock(b'n', polled_numbers(r))
 }
 
-// What a line asks is done. The name is what stands in the line from its place on.
-pub fn perform(words: &mut [u32], slots: &mut [u8], line: &[u8], command: Command) -> Outcome
+// Does what a line asks. The name of a request is the rest of the line from its place on.
+pub fn perform(words: &mut [u32], slots: &mut [u8], line: &[u8], command: Command) -> LineAnswer
     requires { ⌜ name-start command ≤ length (now line) ⌝ }
-    ensures { λ r. ⌜ gives r (now (words .exit)) (now (slots .exit)) ≡ played (meaning (now (line .entry)) command) (lent (now (words .entry)) (now (slots .entry))) ⌝ }
+    ensures { λ r. ⌜ played-with r (now (words .exit)) (now (slots .exit)) ≡ played (meaning (now (line .entry)) command) (lent (now (words .entry)) (now (slots .entry))) ⌝ }
 {
     match command {
         Command::Request(client, mode, flags, name) => {
@@ -215,6 +222,6 @@ pub fn perform(words: &mut [u32], slots: &mut [u8], line: &[u8], command: Comman
         Command::Purge(client) => purge_line(words, slots, client),
         Command::Break => break_line(words, slots),
         Command::Poll(client) => poll_line(words, slots, client),
-        Command::Malformed => Outcome::Unknown,
+        Command::Malformed => LineAnswer::Unknown,
     }
 }

@@ -17,29 +17,29 @@ use Rattle.play_commands.proofs.FormLaws.{none, parted-some}
 
 -- the letter decides which form is asked
 module _ {l : List ℕ} {b : ℕ} (fs : List (List ℕ)) {r : Command} where
-  pub letter-q : b ≡ 113 → Says l r (as-request fs) → Says l r (of-letter b fs)
+  pub says-q : b ≡ 113 → Says l r (as-request fs) → Says l r (of-letter b fs)
   unfolding of-letter
-  letter-q e h = rw e h
+  says-q e h = rw e h
 
-  pub letter-c : b ≡ 99 → Says l r (as-convert fs) → Says l r (of-letter b fs)
+  pub says-c : b ≡ 99 → Says l r (as-convert fs) → Says l r (of-letter b fs)
   unfolding of-letter
-  letter-c e h = rw e h
+  says-c e h = rw e h
 
-  pub letter-r : b ≡ 114 → Says l r (as-release fs) → Says l r (of-letter b fs)
+  pub says-r : b ≡ 114 → Says l r (as-release fs) → Says l r (of-letter b fs)
   unfolding of-letter
-  letter-r e h = rw e h
+  says-r e h = rw e h
 
-  pub letter-x : b ≡ 120 → Says l r (as-cancel fs) → Says l r (of-letter b fs)
+  pub says-x : b ≡ 120 → Says l r (as-cancel fs) → Says l r (of-letter b fs)
   unfolding of-letter
-  letter-x e h = rw e h
+  says-x e h = rw e h
 
-  pub letter-p : b ≡ 112 → Says l r (as-purge fs) → Says l r (of-letter b fs)
+  pub says-p : b ≡ 112 → Says l r (as-purge fs) → Says l r (of-letter b fs)
   unfolding of-letter
-  letter-p e h = rw e h
+  says-p e h = rw e h
 
-  pub letter-n : b ≡ 110 → Says l r (as-poll fs) → Says l r (of-letter b fs)
+  pub says-n : b ≡ 110 → Says l r (as-poll fs) → Says l r (of-letter b fs)
   unfolding of-letter
-  letter-n e h = rw e h
+  says-n e h = rw e h
 
 -- `d` has no field after it
 break-no : (n : ℕ) (xs : List ℕ) → as-break (parted n xs) ≡ malformed
@@ -47,13 +47,13 @@ unfolding as-break numbers-then
 break-no n xs = rw (parted-some n xs)
 
 -- another letter
-pub letter-other : (l : List ℕ) (b n : ℕ) (xs : List ℕ) → (b ≡ 113 → ⊥) → (b ≡ 99 → ⊥) → (b ≡ 114 → ⊥) → (b ≡ 120 → ⊥) → (b ≡ 112 → ⊥) → (b ≡ 110 → ⊥) → Says l Malformed (of-letter b (parted n xs))
+pub says-other : (l : List ℕ) (b n : ℕ) (xs : List ℕ) → (b ≡ 113 → ⊥) → (b ≡ 99 → ⊥) → (b ≡ 114 → ⊥) → (b ≡ 120 → ⊥) → (b ≡ 112 → ⊥) → (b ≡ 110 → ⊥) → Says l Malformed (of-letter b (parted n xs))
 unfolding of-letter
-letter-other l b n xs q c r x p o =
+says-other l b n xs q c r x p o =
     rw (ne-eqb b 113 q, ne-eqb b 99 c, ne-eqb b 114 r, ne-eqb b 120 x, ne-eqb b 112 p, ne-eqb b 110 o, break-no n xs, cond-same (eqb b 100) malformed)
     (none l)
 
-pub ruleset letter-rules = (needs, letter-q, letter-c, letter-r, letter-x, letter-p, letter-n, letter-other)
+pub ruleset letter-rules = (needs, says-q, says-c, says-r, says-x, says-p, says-n, says-other)
 
 -- a line of one byte
 one-byte : (b : ℕ) → of-fields (parted 4 (b ∷ [])) ≡ cond (eqb b 100) break malformed

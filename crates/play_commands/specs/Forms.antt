@@ -10,6 +10,28 @@ use Rattle.play_numbers.specs.Fields.{parted}
 use Rattle.play_commands.specs.declared.Command.{Command}
 use Rattle.play_commands.specs.declared.Command.the-variants.{Request, Convert, Release, Cancel, Purge, Break, Poll, Malformed}
 
+-- the letters of the lines, as bytes: request, convert, release, cancel, purge, break, poll
+abbrev pub letter-q : ℕ
+letter-q = 113
+
+abbrev pub letter-c : ℕ
+letter-c = 99
+
+abbrev pub letter-r : ℕ
+letter-r = 114
+
+abbrev pub letter-x : ℕ
+letter-x = 120
+
+abbrev pub letter-p : ℕ
+letter-p = 112
+
+abbrev pub letter-d : ℕ
+letter-d = 100
+
+abbrev pub letter-n : ℕ
+letter-n = 110
+
 pub data Meaning : Type 0 where
   request : (client mode flags : ℕ) (name : List ℕ) → Meaning
   convert : (client lock mode flags : ℕ) → Meaning
@@ -30,29 +52,29 @@ numbers-then (suc n) more (f ∷ fs) = is-number f && numbers-then n more fs
 abbrev pub field : List (List ℕ) → ℕ → List ℕ
 field fs k = getD fs k []
 
-abbrev pub nth : List (List ℕ) → ℕ → ℕ
-nth fs k = number (field fs k)
+abbrev pub field-number : List (List ℕ) → ℕ → ℕ
+field-number fs k = number (field fs k)
 
 -- the forms: what stands after the letter
 -- `q` client mode flags name
 unfoldable pub as-request : List (List ℕ) → Meaning
-as-request fs = cond (numbers-then 3 1 fs) (request (nth fs 0) (nth fs 1) (nth fs 2) (field fs 3)) malformed
+as-request fs = cond (numbers-then 3 1 fs) (request (field-number fs 0) (field-number fs 1) (field-number fs 2) (field fs 3)) malformed
 
 -- `c` client lock mode flags
 unfoldable pub as-convert : List (List ℕ) → Meaning
-as-convert fs = cond (numbers-then 4 0 fs) (convert (nth fs 0) (nth fs 1) (nth fs 2) (nth fs 3)) malformed
+as-convert fs = cond (numbers-then 4 0 fs) (convert (field-number fs 0) (field-number fs 1) (field-number fs 2) (field-number fs 3)) malformed
 
 -- `r` client lock flags
 unfoldable pub as-release : List (List ℕ) → Meaning
-as-release fs = cond (numbers-then 3 0 fs) (release (nth fs 0) (nth fs 1) (nth fs 2)) malformed
+as-release fs = cond (numbers-then 3 0 fs) (release (field-number fs 0) (field-number fs 1) (field-number fs 2)) malformed
 
 -- `x` client lock
 unfoldable pub as-cancel : List (List ℕ) → Meaning
-as-cancel fs = cond (numbers-then 2 0 fs) (cancel (nth fs 0) (nth fs 1)) malformed
+as-cancel fs = cond (numbers-then 2 0 fs) (cancel (field-number fs 0) (field-number fs 1)) malformed
 
 -- `p` client
 unfoldable pub as-purge : List (List ℕ) → Meaning
-as-purge fs = cond (numbers-then 1 0 fs) (purge (nth fs 0)) malformed
+as-purge fs = cond (numbers-then 1 0 fs) (purge (field-number fs 0)) malformed
 
 -- `d`
 unfoldable pub as-break : List (List ℕ) → Meaning
@@ -60,18 +82,18 @@ as-break fs = cond (numbers-then 0 0 fs) break malformed
 
 -- `n` client
 unfoldable pub as-poll : List (List ℕ) → Meaning
-as-poll fs = cond (numbers-then 1 0 fs) (poll (nth fs 0)) malformed
+as-poll fs = cond (numbers-then 1 0 fs) (poll (field-number fs 0)) malformed
 
--- the forms by their letters: q c r x p d n
+-- the forms by their letters
 unfoldable pub of-letter : ℕ → List (List ℕ) → Meaning
 of-letter b fs =
-    cond (eqb b 113) (as-request fs)
-    (cond (eqb b 99) (as-convert fs)
-    (cond (eqb b 114) (as-release fs)
-    (cond (eqb b 120) (as-cancel fs)
-    (cond (eqb b 112) (as-purge fs)
-    (cond (eqb b 100) (as-break fs)
-    (cond (eqb b 110) (as-poll fs)
+    cond (eqb b letter-q) (as-request fs)
+    (cond (eqb b letter-c) (as-convert fs)
+    (cond (eqb b letter-r) (as-release fs)
+    (cond (eqb b letter-x) (as-cancel fs)
+    (cond (eqb b letter-p) (as-purge fs)
+    (cond (eqb b letter-d) (as-break fs)
+    (cond (eqb b letter-n) (as-poll fs)
     malformed))))))
 
 -- the first field is the letter, one byte

@@ -11,7 +11,7 @@ use lib.Dec.{eqb, ltb, leb}
 use lib.ListN.{length, take, set, length-append, length-set}
 use lib.Seq.{take-suc-set, length-take-le, take-all, take-append-le}
 use Rattle.play_commands.specs.Forms.{meant, Says}
-use Rattle.play_lines.specs.InputLines.{in-front, lines, kept, meant-kept, longer, keeps, comes, Room, Feeds, line-in, begun, gives}
+use Rattle.play_lines.specs.InputLines.{byte-in-front, lines, kept-line, meant-kept, longer, keeps, comes, Room, Feeds, line-in, begun, gives}
 use Rattle.play_commands.specs.declared.Command.{Command}
 use Rattle.play_commands.specs.declared.Command.the-variants.{Malformed}
 use Rattle.play_lines.specs.declared.Line.{Line}
@@ -73,11 +73,11 @@ module _ (xs : List ℕ) (s : Line) where
   gathered-long h = sym (length-take-le (s .len) xs (omega arith))
 
 -- a new line
-pub keeps-none : (xs : List ℕ) (s : Line) → s .len ≡ 0 → s .over ≡ false → keeps xs s ≡ kept []
+pub keeps-none : (xs : List ℕ) (s : Line) → s .len ≡ 0 → s .over ≡ false → keeps xs s ≡ kept-line []
 keeps-none xs s e f = λ i. record { bytes = (let q : take (s .len) xs ≡ [] = rw e in q) i; over = f i }
 
 -- what is kept of a line means what the line does
-pub kept-means : (xs : List ℕ) → meant-kept (kept xs) ≡ meant xs
+pub kept-means : (xs : List ℕ) → meant-kept (kept-line xs) ≡ meant xs
 unfolding meant-kept meant
 kept-means xs =
     by-cases (ltb 256 (length xs))
@@ -85,7 +85,7 @@ kept-means xs =
     (λ t. let h : length xs ≤ 256 = ltb-false 256 (length xs) t in rw (take-all 256 xs h, t))
 
 -- one byte more is kept as of the line with one byte more
-pub kept-longer : (xs : List ℕ) (b : ℕ) → longer (kept xs) b ≡ kept (xs ++ (b ∷ []))
+pub kept-longer : (xs : List ℕ) (b : ℕ) → longer (kept-line xs) b ≡ kept-line (xs ++ (b ∷ []))
 unfolding longer
 kept-longer xs b =
     let n : length (xs ++ (b ∷ [])) ≡ length xs + 1 = length-append xs (b ∷ []) in
@@ -114,31 +114,31 @@ unfolding front
 front-none [] = refl
 front-none (l ∷ ls) = refl
 
-front-more : (xs : List ℕ) (b : ℕ) (ls : List (List ℕ)) → front xs (in-front b ls) ≡ front (xs ++ (b ∷ [])) ls
+front-more : (xs : List ℕ) (b : ℕ) (ls : List (List ℕ)) → front xs (byte-in-front b ls) ≡ front (xs ++ (b ∷ [])) ls
 unfolding front
 front-more xs b [] =
     let n : length (xs ++ (b ∷ [])) ≡ length xs + 1 = length-append xs (b ∷ []) in
     rw (le-leb 1 (length (xs ++ (b ∷ []))) (omega arith))
 front-more xs b (l ∷ ls) = ap (λ m. m ∷ ls) (sym (append-assoc xs (b ∷ []) l))
 
-kept-begun : (xs : List ℕ) → begun (kept xs) ≡ leb 1 (length xs)
+kept-begun : (xs : List ℕ) → begun (kept-line xs) ≡ leb 1 (length xs)
 kept-begun [] = refl
 kept-begun (x ∷ xs) = le-leb 1 (suc (length (take 255 xs))) (omega arith) ∙ sym (le-leb 1 (suc (length xs)) (omega arith))
 
-map-begun : (t : Bool) (xs : List ℕ) → cond t (kept xs ∷ []) [] ≡ map kept (cond t (xs ∷ []) [])
+map-begun : (t : Bool) (xs : List ℕ) → cond t (kept-line xs ∷ []) [] ≡ map kept-line (cond t (xs ∷ []) [])
 map-begun true xs = refl
 map-begun false xs = refl
 
-gives-front : (bs xs : List ℕ) → gives bs (kept xs) ≡ map kept (front xs (lines bs))
+gives-front : (bs xs : List ℕ) → gives bs (kept-line xs) ≡ map kept-line (front xs (lines bs))
 unfolding gives lines front comes
 gives-front [] xs = rw (kept-begun xs) (map-begun (leb 1 (length xs)) xs)
 gives-front (b ∷ bs) xs =
     by-cases (eqb b 10)
-    (λ t. rw (t, append-nil xs) (ap (λ l. kept xs ∷ l) (gives-front bs [] ∙ ap (map kept) (front-none (lines bs)))))
+    (λ t. rw (t, append-nil xs) (ap (λ l. kept-line xs ∷ l) (gives-front bs [] ∙ ap (map kept-line) (front-none (lines bs)))))
     (λ t. rw (t, kept-longer xs b, front-more xs b (lines bs)) (gives-front bs (xs ++ (b ∷ []))))
 
 -- bytes fed one by one give the lines of the input
-pub gives-lines : (bs : List ℕ) → gives bs (kept []) ≡ map kept (lines bs)
-gives-lines bs = gives-front bs [] ∙ ap (map kept) (front-none (lines bs))
+pub gives-lines : (bs : List ℕ) → gives bs (kept-line []) ≡ map kept-line (lines bs)
+gives-lines bs = gives-front bs [] ∙ ap (map kept-line) (front-none (lines bs))
 
 pub ruleset gather-rules = (needs, feeds-whole, feeds-more, feeds-over, begun-len, gathered-over, gathered-line, gathered-long)

@@ -10,7 +10,7 @@ use borrow.Author.Tests.{le-leb, lt-leb}
 use borrow.Author.Needs.{needs}
 use lib.Dec.{leb}
 use lib.ListN.{length, getD, drop, drop-of-length-le}
-use Rattle.play_numbers.specs.Numbers.{is-number, number, value, all-digits}
+use Rattle.play_numbers.specs.Numbers.{is-number, number, value-of-digits, all-digits}
 use Rattle.play_numbers.specs.Steps.{number-in}
 use Rattle.play_numbers.specs.declared.Number.{Number}
 use Rattle.play_numbers.specs.declared.Number.the-variants.{Is, NoNumber}
@@ -18,7 +18,7 @@ use Rattle.play_numbers.proofs.Basics.{drop-more, and-no, by-cases}
 
 -- what is read from here on, after digits of the value v
 abbrev pub reads : ℕ → List ℕ → Number
-reads v xs = cond (all-digits xs) (Is (value v xs)) NoNumber
+reads v xs = cond (all-digits xs) (Is (value-of-digits v xs)) NoNumber
 
 -- too few or too many bytes; the loop starts; it ends
 module _ (l : List ℕ) where

@@ -4,10 +4,11 @@ use mathlib.Core.Bool.{Bool, true, _&&_}
 use mathlib.Core.List.{List, [], _∷_}
 use lib.Dec.{leb}
 use lib.ListN.{length}
+use Rattle.play_numbers.specs.Characters.{digit-0, digit-9}
 
 -- the bytes `0` to `9`
 abbrev pub is-digit : ℕ → Bool
-is-digit b = leb 48 b && leb b 57
+is-digit b = leb digit-0 b && leb b digit-9
 
 abbrev pub all-digits : List ℕ → Bool
 all-digits [] = true
@@ -18,9 +19,9 @@ unfoldable pub is-number : List ℕ → Bool
 is-number xs = leb 1 (length xs) && (leb (length xs) 9 && all-digits xs)
 
 -- the value of digits after others of the value before
-abbrev pub value : ℕ → List ℕ → ℕ
-value before [] = before
-value before (b ∷ bs) = value (10 * before + (b - 48)) bs
+abbrev pub value-of-digits : ℕ → List ℕ → ℕ
+value-of-digits before [] = before
+value-of-digits before (b ∷ bs) = value-of-digits (10 * before + (b - digit-0)) bs
 
 unfoldable pub number : List ℕ → ℕ
-number xs = value 0 xs
+number xs = value-of-digits 0 xs

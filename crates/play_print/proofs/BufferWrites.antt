@@ -8,17 +8,17 @@ use borrow.Author.Needs.{needs}
 use lib.ListN.{length, take, drop, set, length-append, length-set}
 use lib.Seq.{drop-drop, drop-cons, take-at, drop-at, take-set-le, drop-set-add, set-split, length-take-le}
 use Rattle.play_print.specs.Decimal.{decimal}
-use Rattle.play_print.specs.PrintedLines.{put, one, spaced-number, printed, Wrote}
-use Rattle.play_print.specs.declared.Outcome.{Outcome}
-use Rattle.play_print.specs.declared.Outcome.the-variants.{Answer, AnswerAndLock, Refusal, Unknown}
+use Rattle.play_print.specs.PrintedLines.{overwritten, one, spaced-number, printed, Wrote}
+use Rattle.play_print.specs.declared.LineAnswer.{LineAnswer}
+use Rattle.play_print.specs.declared.LineAnswer.the-variants.{Answer, AnswerAndLock, Refusal, Unknown}
 use Rattle.play_print.proofs.Digits.{decimal-one, decimal-more, decimal-longer, decimal-short, decimal-some}
 
 -- one byte
-set-put : (xs : List ℕ) (a b : ℕ) → a < length xs → set xs a b ≡ put a xs (one b)
+set-put : (xs : List ℕ) (a b : ℕ) → a < length xs → set xs a b ≡ overwritten a xs (one b)
 set-put xs a b h = rw (add-one a) (set-split xs a b h)
 
 pub wrote-one : (xs : List ℕ) (a b : ℕ) → a < length xs → Wrote xs a (one b) (set xs a b) (a + 1)
-wrote-one xs a b h = record { holds = set-put xs a b h; next = refl; long = length-set xs a b; within = omega arith }
+wrote-one xs a b h = record { is = set-put xs a b h; next = refl; long = length-set xs a b; within = omega arith }
 
 -- bytes after bytes
 module _ (xs ys zs us vs : List ℕ) (a b r : ℕ) (w : Wrote xs a ys zs b) (v : Wrote zs b us vs r) where
@@ -26,7 +26,7 @@ module _ (xs ys zs us vs : List ℕ) (a b r : ℕ) (w : Wrote xs a ys zs b) (v :
   front = length-append (take a xs) ys ∙ rw (length-take-le a xs (let n = w .next in let k = w .within in omega arith)) (sym (w .next))
 
   split : zs ≡ (take a xs ++ ys) ++ drop (a + length ys) xs
-  split = w .holds ∙ sym (append-assoc (take a xs) ys (drop (a + length ys) xs))
+  split = w .is ∙ sym (append-assoc (take a xs) ys (drop (a + length ys) xs))
 
   head : take b zs ≡ take a xs ++ ys
   head = ap (take b) split ∙ take-at (take a xs ++ ys) (drop (a + length ys) xs) b front
@@ -43,8 +43,8 @@ module _ (xs ys zs us vs : List ℕ) (a b r : ℕ) (w : Wrote xs a ys zs b) (v :
   pub joined : Wrote xs a (ys ++ us) vs r
   joined =
       record {
-        holds =
-            v .holds
+        is =
+            v .is
             ∙ rw (head, tail) (append-assoc (take a xs) ys (us ++ drop (a + length (ys ++ us)) xs))
             ∙ ap (λ l. take a xs ++ l) (sym (append-assoc ys us (drop (a + length (ys ++ us)) xs)));
         next = rw (length-append ys us) (let n = w .next in let m = v .next in omega arith);
@@ -53,7 +53,7 @@ module _ (xs ys zs us vs : List ℕ) (a b r : ℕ) (w : Wrote xs a ys zs b) (v :
       }
 
 -- the last of some bytes is in its place already
-last-put : (out ys : List ℕ) (at y : ℕ) → at + length ys < length out → put at out (ys ++ one y) ≡ put at (set out (at + length ys) y) ys
+last-put : (out ys : List ℕ) (at y : ℕ) → at + length ys < length out → overwritten at out (ys ++ one y) ≡ overwritten at (set out (at + length ys) y) ys
 last-put out ys at y h =
     let n : at + length (ys ++ one y) ≡ suc (at + length ys) = rw (length-append ys (one y)) (omega arith) in
     let t : take at (set out (at + length ys) y) ≡ take at out = take-set-le at out (at + length ys) y (omega arith) in
@@ -70,7 +70,7 @@ pub record Writes (xs : List ℕ) (at n : ℕ) (out : List ℕ) (m k : ℕ) : Ty
   pub long : length out ≡ length xs
   pub place : k ≡ at + length (decimal m)
   pub room : k ≤ length xs
-  pub left : put at xs (decimal n) ≡ put at out (decimal m)
+  pub left : overwritten at xs (decimal n) ≡ overwritten at out (decimal m)
 
 pub writes-start : (xs : List ℕ) (at n d : ℕ) → at + 10 ≤ length xs → d ≡ length (decimal n) → d ≤ 10 → Writes xs at n xs n (at + d)
 writes-start xs at n d h e k = record { long = refl; place = ap (λ i. at + i) e; room = omega arith; left = refl }
@@ -96,9 +96,9 @@ module _ (xs : List ℕ) (at n : ℕ) (out : List ℕ) (m k : ℕ) (w : Writes x
       let s : length (decimal m) ≡ 1 = decimal-short m h in
       let q : d ≡ 48 + m = rw e (ap (λ i. 48 + i) (let z : m % 10 ≡ m = omega arith in z)) in
       let i : at < length out = omega arith in
-      let p : set out at d ≡ put at out (decimal m) = rw (q, decimal-one m h) (set-put out at (48 + m) i) in
+      let p : set out at d ≡ overwritten at out (decimal m) = rw (q, decimal-one m h) (set-put out at (48 + m) i) in
       record {
-        holds = p ∙ sym (w .left);
+        is = p ∙ sym (w .left);
         next = ap (λ i. at + i) g;
         long = length-set out at d ∙ w .long;
         within = r;
@@ -134,7 +134,7 @@ unfolding printed
 wrote-unknown xs x₁ x₂ at a₁ a₂ w₁ w₂ = joined xs (one 63) x₁ (one 10) x₂ at a₁ a₂ w₁ w₂
 
 -- an outcome is one of the four
-pub wrote-for : (xs : List ℕ) (at : ℕ) {o p : Outcome} {zs : List ℕ} {r : ℕ} → o ≡ p → Wrote xs at (printed p) zs r → Wrote xs at (printed o) zs r
+pub wrote-for : (xs : List ℕ) (at : ℕ) {o p : LineAnswer} {zs : List ℕ} {r : ℕ} → o ≡ p → Wrote xs at (printed p) zs r → Wrote xs at (printed o) zs r
 wrote-for xs at e w = rw e w
 
 pub ruleset print-rules = (needs, wrote-field, wrote-answer, wrote-lock, wrote-refusal, wrote-unknown)

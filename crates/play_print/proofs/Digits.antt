@@ -8,7 +8,7 @@ use borrow.Author.Tests.{lt-ltb, le-ltb, ltb-true, ltb-false}
 use lib.Dec.{ltb}
 use lib.ListN.{length, length-append}
 use Rattle.play_print.specs.Decimal.{digits, decimal}
-use Rattle.play_numbers.specs.Numbers.{value}
+use Rattle.play_numbers.specs.Numbers.{value-of-digits}
 use Rattle.play_numbers.proofs.Basics.{by-cases}
 
 -- any bound that is large enough gives the same digits
@@ -66,11 +66,11 @@ decimal-some n =
     (λ t. let e = decimal-longer n (ltb-false n 10 t) in omega arith)
 
 -- read back, the digits give the number
-value-more : (v : ℕ) (xs : List ℕ) (d : ℕ) → value v (xs ++ (d ∷ [])) ≡ 10 * value v xs + (d - 48)
+value-more : (v : ℕ) (xs : List ℕ) (d : ℕ) → value-of-digits v (xs ++ (d ∷ [])) ≡ 10 * value-of-digits v xs + (d - 48)
 value-more v [] d = refl
 value-more v (x ∷ xs) d = value-more (10 * v + (x - 48)) xs d
 
-digits-value : (k n : ℕ) → n < k → value 0 (digits k n) ≡ n
+digits-value : (k n : ℕ) → n < k → value-of-digits 0 (digits k n) ≡ n
 unfolding digits
 digits-value zero n h = absurd (omega arith)
 digits-value (suc k) n h =
@@ -82,6 +82,6 @@ digits-value (suc k) n h =
     let i = digits-value k (n / 10) p in
     rw (t, value-more 0 (digits k (n / 10)) (48 + n % 10), i) (omega arith))
 
-pub decimal-value : (n : ℕ) → value 0 (decimal n) ≡ n
+pub decimal-value : (n : ℕ) → value-of-digits 0 (decimal n) ≡ n
 unfolding decimal
 decimal-value n = digits-value (suc n) n (omega arith)

@@ -3,7 +3,7 @@ use mathlib.Core.Path.{_≡_, refl}
 use mathlib.Core.List.{[], _∷_}
 use Rattle.play_print.specs.Decimal.{digits, decimal}
 use Rattle.play_print.specs.PrintedLines.{spaced-number, printed}
-use Rattle.play_print.specs.declared.Outcome.the-variants.{Answer, AnswerAndLock, Refusal, Unknown}
+use Rattle.play_print.specs.declared.LineAnswer.the-variants.{Answer, AnswerAndLock, Refusal, Unknown}
 
 -- `q 1 1`
 prints-1 : printed (AnswerAndLock 113 1 1) ≡ (113 ∷ 32 ∷ 49 ∷ 32 ∷ 49 ∷ 10 ∷ [])

@@ -3,31 +3,32 @@ use Prim.Native.Nat.{ℕ, _+_, _≤_}
 use mathlib.Core.Path.{_≡_}
 use mathlib.Core.List.{List, [], _∷_, _++_}
 use lib.ListN.{length, take, drop}
+use Rattle.play_numbers.specs.Characters.{exclamation-mark, question-mark, space, newline}
 use Rattle.play_print.specs.Decimal.{decimal}
-use Rattle.play_print.specs.declared.Outcome.{Outcome}
-use Rattle.play_print.specs.declared.Outcome.the-variants.{Answer, AnswerAndLock, Refusal, Unknown}
+use Rattle.play_print.specs.declared.LineAnswer.{LineAnswer}
+use Rattle.play_print.specs.declared.LineAnswer.the-variants.{Answer, AnswerAndLock, Refusal, Unknown}
 
 -- a space and a number
 unfoldable pub spaced-number : ℕ → List ℕ
-spaced-number n = 32 ∷ decimal n
+spaced-number n = space ∷ decimal n
 
 abbrev pub one : ℕ → List ℕ
 one b = b ∷ []
 
 -- the letter and the answer, for `q` and `n` with the lock after it; the letter, `!` and the refusal; or `?`
-unfoldable pub printed : Outcome → List ℕ
-printed (Answer letter answer) = letter ∷ (spaced-number answer ++ one 10)
-printed (AnswerAndLock letter answer lock) = letter ∷ (spaced-number answer ++ (spaced-number lock ++ one 10))
-printed (Refusal letter refusal) = letter ∷ 32 ∷ 33 ∷ (spaced-number refusal ++ one 10)
-printed Unknown = 63 ∷ 10 ∷ []
+unfoldable pub printed : LineAnswer → List ℕ
+printed (Answer letter answer) = letter ∷ (spaced-number answer ++ one newline)
+printed (AnswerAndLock letter answer lock) = letter ∷ (spaced-number answer ++ (spaced-number lock ++ one newline))
+printed (Refusal letter refusal) = letter ∷ space ∷ exclamation-mark ∷ (spaced-number refusal ++ one newline)
+printed Unknown = question-mark ∷ newline ∷ []
 
 -- the list xs with ys in it from place a on
-abbrev pub put : ℕ → List ℕ → List ℕ → List ℕ
-put a xs ys = take a xs ++ (ys ++ drop (a + length ys) xs)
+abbrev pub overwritten : ℕ → List ℕ → List ℕ → List ℕ
+overwritten a xs ys = take a xs ++ (ys ++ drop (a + length ys) xs)
 
 -- ys was written into xs at a, which gave zs; r is the place after it
 pub record Wrote (xs : List ℕ) (a : ℕ) (ys zs : List ℕ) (r : ℕ) : Type 0 where
-  pub holds : zs ≡ put a xs ys
+  pub is : zs ≡ overwritten a xs ys
   pub next : r ≡ a + length ys
   pub long : length zs ≡ length xs
   pub within : r ≤ length xs

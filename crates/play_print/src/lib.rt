@@ -6,14 +6,14 @@ ghost use Rattle.play_print.specs.Decimal.{decimal};
 ghost use Rattle.play_print.specs.PrintedLines.{Wrote, one, printed, «spaced-number»};
 
 // What is printed for a line: the line's letter and the answer, for q and n with the lock; the letter and the refusal; or `?`.
-pub enum Outcome {
+pub enum LineAnswer {
     Answer(u8, u32),
     AnswerAndLock(u8, u32, u32),
     Refusal(u8, u32),
     Unknown,
 }
 
-// One byte at a place of a buffer; the answer is the place after it. So in all that follow.
+// Writes one byte at a place of a buffer. This function and those below answer the place after what they wrote.
 fn put_byte(out: &mut [u8], at: usize, b: u8) -> usize
     requires { ⌜ at < length (now out) ⌝ }
     ensures { λ r. ⌜ Wrote (now (out .entry)) at (one b) (now (out .exit)) r ⌝ }
@@ -42,7 +42,7 @@ fn digit_count(n: u32) -> usize
     k
 }
 
-// A number, its last digit first.
+// Writes a number, its last digit first.
 fn put_number(out: &mut [u8], at: usize, n: u32) -> usize
     requires { ⌜ at + 10 ≤ length (now out) ⌝ }
     ensures { λ r. ⌜ Wrote (now (out .entry)) at (decimal n) (now (out .exit)) r × (r ≤ at + 10) ⌝ }
@@ -72,7 +72,7 @@ fn put_field(out: &mut [u8], at: usize, n: u32) -> usize
 // The lines of the four outcomes.
 fn print_answer(out: &mut [u8], at: usize, letter: u8, answer: u32) -> usize
     requires { ⌜ at + 24 ≤ length (now out) ⌝ }
-    ensures { λ r. ⌜ Wrote (now (out .entry)) at (printed (Outcome.Answer letter answer)) (now (out .exit)) r × (r ≤ at + 24) ⌝ }
+    ensures { λ r. ⌜ Wrote (now (out .entry)) at (printed (LineAnswer.Answer letter answer)) (now (out .exit)) r × (r ≤ at + 24) ⌝ }
 {
     let a = put_byte(out, at, letter);
     let b = put_field(out, a, answer);
@@ -81,7 +81,7 @@ fn print_answer(out: &mut [u8], at: usize, letter: u8, answer: u32) -> usize
 
 fn print_answer_and_lock(out: &mut [u8], at: usize, letter: u8, answer: u32, lock: u32) -> usize
     requires { ⌜ at + 24 ≤ length (now out) ⌝ }
-    ensures { λ r. ⌜ Wrote (now (out .entry)) at (printed (Outcome.AnswerAndLock letter answer lock)) (now (out .exit)) r × (r ≤ at + 24) ⌝ }
+    ensures { λ r. ⌜ Wrote (now (out .entry)) at (printed (LineAnswer.AnswerAndLock letter answer lock)) (now (out .exit)) r × (r ≤ at + 24) ⌝ }
 {
     let a = put_byte(out, at, letter);
     let b = put_field(out, a, answer);
@@ -91,7 +91,7 @@ fn print_answer_and_lock(out: &mut [u8], at: usize, letter: u8, answer: u32, loc
 
 fn print_refusal(out: &mut [u8], at: usize, letter: u8, refusal: u32) -> usize
     requires { ⌜ at + 24 ≤ length (now out) ⌝ }
-    ensures { λ r. ⌜ Wrote (now (out .entry)) at (printed (Outcome.Refusal letter refusal)) (now (out .exit)) r × (r ≤ at + 24) ⌝ }
+    ensures { λ r. ⌜ Wrote (now (out .entry)) at (printed (LineAnswer.Refusal letter refusal)) (now (out .exit)) r × (r ≤ at + 24) ⌝ }
 {
     let a = put_byte(out, at, letter);
     let b = put_byte(out, a, b' ');
@@ -102,23 +102,23 @@ fn print_refusal(out: &mut [u8], at: usize, letter: u8, refusal: u32) -> usize
 
 fn print_unknown(out: &mut [u8], at: usize) -> usize
     requires { ⌜ at + 24 ≤ length (now out) ⌝ }
-    ensures { λ r. ⌜ Wrote (now (out .entry)) at (printed Outcome.Unknown) (now (out .exit)) r × (r ≤ at + 24) ⌝ }
+    ensures { λ r. ⌜ Wrote (now (out .entry)) at (printed LineAnswer.Unknown) (now (out .exit)) r × (r ≤ at + 24) ⌝ }
 {
     let a = put_byte(out, at, b'?');
     put_byte(out, a, 10)
 }
 
 // The line that is printed for an outcome, of at most 24 bytes.
-pub fn print(out: &mut [u8], at: usize, o: Outcome) -> usize
+pub fn print(out: &mut [u8], at: usize, o: LineAnswer) -> usize
     requires { ⌜ at + 24 ≤ length (now out) ⌝ }
     ensures { λ r. ⌜ Wrote (now (out .entry)) at (printed o) (now (out .exit)) r × (r ≤ at + 24) ⌝ }
 {
     match o {
-        Outcome::Answer(letter, answer) => print_answer(out, at, letter, answer),
-        Outcome::AnswerAndLock(letter, answer, lock) => {
+        LineAnswer::Answer(letter, answer) => print_answer(out, at, letter, answer),
+        LineAnswer::AnswerAndLock(letter, answer, lock) => {
             print_answer_and_lock(out, at, letter, answer, lock)
         }
-        Outcome::Refusal(letter, refusal) => print_refusal(out, at, letter, refusal),
-        Outcome::Unknown => print_unknown(out, at),
+        LineAnswer::Refusal(letter, refusal) => print_refusal(out, at, letter, refusal),
+        LineAnswer::Unknown => print_unknown(out, at),
     }
 }

@@ -8,25 +8,24 @@ use borrow.Author.Tests.{eq-eqb}
 use borrow.Author.Needs.{needs}
 use lib.ListN.{length, take}
 use lib.Seq.{length-take-le}
-use Rattle.rules.specs.Entries.{start-accepts, start-if, start-entry}
-use Rattle.rules.specs.Theorem.{Lent}
+use Rattle.rules.specs.Entries.{Lent, lent, Outcome, outcome, start-accepts, start-if, start-entry}
 use Rattle.answers.specs.declared.Done.{Done}
-use Rattle.answers.specs.Answers.{done, outcome}
+use Rattle.answers.specs.Answers.{done}
 use Rattle.play_commands.specs.declared.Command.{Command}
 use Rattle.play_lines.specs.declared.Line.{Line}
 use Rattle.play_commands.specs.Forms.{meaning, name-start, Says}
 use Rattle.play_lines.specs.InputLines.{keeps, Room, meant-kept}
-use Rattle.play_calls.specs.Plays.{Played, played, lent}
-use Rattle.play_session.specs.Sessions.{Lengths, fresh}
+use Rattle.play_calls.specs.Plays.{Played, played}
+use Rattle.play_session.specs.Sessions.{Lengths, fresh-tables}
 
 -- start accepts lockplay's sizes
-pub started-fresh : (ws ss ds es : List ℕ) (r : Done) → Lengths ws ss → outcome (done r) ds es ≡ start-entry ws ss 4 8 → lent ds es ≡ fresh
+pub started-fresh : (ws ss ds es : List ℕ) (r : Done) → Lengths ws ss → outcome (done r) (lent ds es) ≡ start-entry (lent ws ss) 4 8 → lent ds es ≡ fresh-tables
 unfolding start-entry start-if start-accepts
 started-fresh ws ss ds es r h e =
-    let q : start-entry ws ss 4 8 ≡ start-if true ws ss 4 8 =
+    let q : start-entry (lent ws ss) 4 8 ≡ start-if true (lent ws ss) 4 8 =
     rw (eq-eqb (length ws) 112 (h .words-long), eq-eqb (length ss) 384 (h .slots-long))
     in
-    λ i. record { words = (e ∙ q) i .words; slots = (e ∙ q) i .slots }
+    ap (λ (o : Outcome). o .lent-after) (e ∙ q)
 
 pub ruleset start-rules = (needs, started-fresh)
 

@@ -12,12 +12,13 @@ use lib.Seq.{take-at, drop-cons, length-take-le}
 use Rattle.play_lines.specs.declared.Line.{Line}
 use Rattle.play_lines.specs.declared.Fed.{Fed}
 use Rattle.play_lines.specs.declared.Fed.the-variants.{More, Whole}
-use Rattle.play_print.specs.declared.Outcome.{Outcome}
-use Rattle.play_lines.specs.InputLines.{kept, keeps, meant-kept, comes, came, Room, Feeds, begun}
+use Rattle.play_print.specs.declared.LineAnswer.{LineAnswer}
+use Rattle.play_lines.specs.InputLines.{kept-line, keeps, meant-kept, comes, came, Room, Feeds, begun}
 use Rattle.play_print.specs.PrintedLines.{printed, Wrote}
 use Rattle.play_lines.proofs.FedBytes.{keeps-none, room-more, room-whole, room-start}
 use Rattle.play_session.specs.declared.Progress.{Progress}
-use Rattle.play_calls.specs.Plays.{played, gives, lent}
+use Rattle.rules.specs.Entries.{lent}
+use Rattle.play_calls.specs.Plays.{played, played-with}
 use Rattle.play_session.specs.Sessions.{Session, taken, fed, fed-all, ended, standing, Ready, Spacious, Within, Ends}
 
 -- what stands in front after a write
@@ -26,7 +27,7 @@ wrote-front out at ys zs r w =
     let n = w .next in
     let k = w .within in
     let l : length (take at out ++ ys) ≡ r = length-append (take at out) ys ∙ rw (length-take-le at out (omega arith)) (sym n) in
-    ap (take r) (w .holds ∙ sym (append-assoc (take at out) ys (drop (at + length ys) out))) ∙ take-at (take at out ++ ys) (drop (at + length ys) out) r l
+    ap (take r) (w .is ∙ sym (append-assoc (take at out) ys (drop (at + length ys) out))) ∙ take-at (take at out ++ ys) (drop (at + length ys) out) r l
 
 -- A BYTE
 module _ (xs out : List ℕ) (p : Progress) where
@@ -51,18 +52,18 @@ module _ (xs out : List ℕ) (p : Progress) where
       pub whole-room : Room ys l
       whole-room = room-whole ys e (feeds .room)
 
-      module _ (ws ss ds es : List ℕ) (o : Outcome) (plays : gives o ds es ≡ played (meant-kept (keeps ys l)) (lent ws ss))
+      module _ (ws ss ds es : List ℕ) (o : LineAnswer) (plays : played-with o ds es ≡ played (meant-kept (keeps ys l)) (lent ws ss))
           (zs : List ℕ) (end : ℕ) (wrote : Wrote out (p .at) (printed o) zs end × (end ≤ p .at + 24))
           (n : Line) (new : (n .len ≡ 0) × (n .over ≡ false)) where
         pub byte-whole : standing ys ds es n (take end zs) ≡ fed (standing xs ws ss (p .line) (take (p .at) out)) b
         unfolding fed taken
         byte-whole =
             let t : lent ds es ≡ played (meant-kept (keeps ys l)) (lent ws ss) .tables = ap (λ q. q .tables) plays in
-            let q : o ≡ played (meant-kept (keeps ys l)) (lent ws ss) .outcome = ap (λ q. q .outcome) plays in
-            let f : take end zs ≡ take (p .at) out ++ printed (played (meant-kept (keeps ys l)) (lent ws ss) .outcome) =
+            let q : o ≡ played (meant-kept (keeps ys l)) (lent ws ss) .answer = ap (λ q. q .answer) plays in
+            let f : take end zs ≡ take (p .at) out ++ printed (played (meant-kept (keeps ys l)) (lent ws ss) .answer) =
             wrote-front out (p .at) (printed o) zs end (wrote .0) ∙ ap (λ u. take (p .at) out ++ printed u) q
             in
-            let k : keeps ys n ≡ kept [] = keeps-none ys n (new .0) (new .1) in
+            let k : keeps ys n ≡ kept-line [] = keeps-none ys n (new .0) (new .1) in
             let s : standing ys ds es n (take end zs) ≡ taken (standing xs ws ss (p .line) (take (p .at) out)) (came ys (Whole l)) =
             λ i. record { line = k i; tables = t i; output = f i }
             in
@@ -152,12 +153,12 @@ module _ (xs ws ss out : List ℕ) (s : Line) (h : Spacious xs out s 1) (b : Boo
       let f : begun (keeps xs s) ≡ false = sym begun-is ∙ not-true b e in
       record { tables = rw f; output = rw f; within = omega arith }
 
-  pub ends-last : not b ≡ false → (ds es : List ℕ) (o : Outcome) → gives o ds es ≡ played (meant-kept (keeps xs s)) (lent ws ss)
+  pub ends-last : not b ≡ false → (ds es : List ℕ) (o : LineAnswer) → played-with o ds es ≡ played (meant-kept (keeps xs s)) (lent ws ss)
       → (zs : List ℕ) (end : ℕ) → Wrote out 0 (printed o) zs end × (end ≤ 0 + 24) → Ends (ended (standing xs ws ss s [])) ds es zs end
   unfolding ended taken
   ends-last e ds es o plays zs end wrote =
       let f : begun (keeps xs s) ≡ true = sym begun-is ∙ not-false b e in
-      let q : o ≡ played (meant-kept (keeps xs s)) (lent ws ss) .outcome = ap (λ q. q .outcome) plays in
+      let q : o ≡ played (meant-kept (keeps xs s)) (lent ws ss) .answer = ap (λ q. q .answer) plays in
       let k = wrote .0 .within in
       let l = wrote .0 .long in
       record {

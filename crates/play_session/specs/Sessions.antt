@@ -6,17 +6,17 @@ use Prim.Native.Nat.{ℕ, _+_, _*_, _≤_}
 use lib.ListN.{length, take}
 use Rattle.tables.specs.State.{started}
 use Rattle.tables.specs.Layout.{words, slots}
-use Rattle.rules.specs.Theorem.{Lent}
+use Rattle.rules.specs.Entries.{Lent, lent}
 use Rattle.play_commands.specs.Forms.{meant}
 use Rattle.play_lines.specs.declared.Line.{Line}
-use Rattle.play_lines.specs.InputLines.{Kept, kept, keeps, meant-kept, Came, whole, more, comes, begun, Room}
+use Rattle.play_lines.specs.InputLines.{KeptLine, kept-line, keeps, meant-kept, Came, whole, more, comes, begun, Room}
 use Rattle.play_print.specs.PrintedLines.{printed}
 use Rattle.play_session.specs.declared.Progress.{Progress}
-use Rattle.play_calls.specs.Plays.{played, lent}
+use Rattle.play_calls.specs.Plays.{played}
 
 -- "R 4, L 8": lockplay's tables as they are started, and the lengths that they need
-abbrev pub fresh : Lent
-fresh = record { words = words (started 4 8); slots = slots (started 4 8) }
+abbrev pub fresh-tables : Lent
+fresh-tables = record { words = words (started 4 8); slots = slots (started 4 8) }
 
 pub record Lengths (words slots : List ℕ) : Type 0 where
   pub words-long : length words ≡ 112
@@ -25,11 +25,11 @@ pub record Lengths (words slots : List ℕ) : Type 0 where
 -- all lines of an input: what is printed for them, line by line
 unfoldable pub printed-for : List (List ℕ) → Lent → List ℕ
 printed-for [] t = []
-printed-for (line ∷ lines) t = printed (played (meant line) t .outcome) ++ printed-for lines (played (meant line) t .tables)
+printed-for (line ∷ lines) t = printed (played (meant line) t .answer) ++ printed-for lines (played (meant line) t .tables)
 
 -- what is kept of the line that has begun, the tables, and all that has been printed
 pub record Session : Type 0 where
-  pub line : Kept
+  pub line : KeptLine
   pub tables : Lent
   pub output : List ℕ
 
@@ -38,9 +38,9 @@ unfoldable pub taken : Session → Came → Session
 taken s (more k) = record { line = k; tables = s .tables; output = s .output }
 taken s (whole k) =
     record {
-      line = kept [];
+      line = kept-line [];
       tables = played (meant-kept k) (s .tables) .tables;
-      output = s .output ++ printed (played (meant-kept k) (s .tables) .outcome);
+      output = s .output ++ printed (played (meant-kept k) (s .tables) .answer);
     }
 
 unfoldable pub fed : Session → ℕ → Session
@@ -55,11 +55,11 @@ unfoldable pub ended : Session → Session
 ended s = cond (begun (s .line)) (taken s (whole (s .line))) s
 
 -- nothing has been printed yet
-abbrev pub from-line : Kept → Lent → Session
+abbrev pub from-line : KeptLine → Lent → Session
 from-line k t = record { line = k; tables = t; output = [] }
 
 -- what is printed for all chunks of an input: for each what its bytes give, then what the end gives
-unfoldable pub printed-in-chunks : List (List ℕ) → Kept → Lent → List ℕ
+unfoldable pub printed-in-chunks : List (List ℕ) → KeptLine → Lent → List ℕ
 printed-in-chunks [] k t = ended (from-line k t) .output
 printed-in-chunks (c ∷ cs) k t =
     let s = fed-all (from-line k t) c in

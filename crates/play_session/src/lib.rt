@@ -1,4 +1,4 @@
-// What lockplay does with its input: gathers lines, has each done, and prints its answer.
+// What lockplay does with its input: it gathers lines, does what each asks, and prints its answer.
 use play_calls::perform;
 use play_lines::Fed;
 use play_lines::Line;
@@ -6,14 +6,15 @@ use play_lines::feed;
 use play_lines::is_begun;
 use play_lines::parse_gathered;
 use play_lines::start;
-use play_print::Outcome;
+use play_print::LineAnswer;
 use play_print::print;
 ghost use mathlib.Core.Path.{_≡_};
 ghost use mathlib.Core.List.{[]};
 ghost use lib.ListN.{length, take};
 ghost use Rattle.play_lines.specs.InputLines.{keeps, Room, «meant-kept»};
-ghost use Rattle.play_calls.specs.Plays.{played, gives, lent};
-ghost use Rattle.play_session.specs.Sessions.{fresh, Lengths, fed, «fed-all», ended, standing, Ready, Spacious, Within, Ends};
+ghost use Rattle.rules.specs.Entries.{lent};
+ghost use Rattle.play_calls.specs.Plays.{played, «played-with»};
+ghost use Rattle.play_session.specs.Sessions.{«fresh-tables», Lengths, fed, «fed-all», ended, standing, Ready, Spacious, Within, Ends};
 
 // Lockplay's tables: R 4, L 8.
 const RESOURCES: u32 = 4;
@@ -26,7 +27,7 @@ pub const WORDS: usize = table_fields::HEADER_WORDS
 
 pub const SLOTS: usize = table_names::SLOT_BYTES * 4;
 
-// As many bytes of a line are kept.
+// So many bytes of a line are kept.
 pub const LINE_BYTES: usize = 256;
 
 // Room for the tables and for a line.
@@ -51,15 +52,15 @@ pub fn line_space() -> [u8; LINE_BYTES]
 // The tables become fresh ones.
 pub fn start_tables(words: &mut [u32], slots: &mut [u8])
     requires { ⌜ Lengths (now words) (now slots) ⌝ }
-    ensures { λ _. ⌜ lent (now (words .exit)) (now (slots .exit)) ≡ fresh ⌝ }
+    ensures { λ _. ⌜ lent (now (words .exit)) (now (slots .exit)) ≡ fresh-tables ⌝ }
 {
     entry_locks::start(words, slots, RESOURCES, LOCKS);
 }
 
-// A gathered line: what it asks is done.
-pub fn play_gathered(words: &mut [u32], slots: &mut [u8], buffer: &[u8], s: Line) -> Outcome
+// Does what a gathered line asks.
+pub fn play_gathered(words: &mut [u32], slots: &mut [u8], buffer: &[u8], s: Line) -> LineAnswer
     requires { ⌜ Room (now buffer) s ⌝ }
-    ensures { λ r. ⌜ gives r (now (words .exit)) (now (slots .exit)) ≡ played (meant-kept (keeps (now (buffer .entry)) s)) (lent (now (words .entry)) (now (slots .entry))) ⌝ }
+    ensures { λ r. ⌜ played-with r (now (words .exit)) (now (slots .exit)) ≡ played (meant-kept (keeps (now (buffer .entry)) s)) (lent (now (words .entry)) (now (slots .entry))) ⌝ }
 {
     let len = s.len;
     let command = parse_gathered(buffer, s);
@@ -72,7 +73,7 @@ pub struct Progress {
     pub at: usize,
 }
 
-// One byte of the input: byte 10 has the line played and printed.
+// Takes one byte of the input. At byte 10 the line is played and its answer printed.
 pub fn play_byte(
     words: &mut [u32],
     slots: &mut [u8],

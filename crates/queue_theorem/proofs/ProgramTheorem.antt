@@ -2,43 +2,41 @@
 use mathlib.Core.Path.{_≡_, refl, sym, ap, ap₂, subst, _∙_}
 use mathlib.Core.List.{List, [], _∷_}
 use Prim.Native.Nat.{ℕ, _+_}
-use Rattle.rules.specs.Entries.{Outcome, Call, start-entry}
-use Rattle.rules.specs.Theorem as theorem
-use Rattle.rules.specs.Theorem.{Lent, left, after, sum-of, in-use, requests, releases, cancelled, purged, polled-denials, Demand, QueuesHold}
+use Rattle.rules.specs.Calls.{Said}
+use Rattle.rules.specs.Entries.{Lent, Outcome, Call, call-entry, Keeps, start-entry}
+use Rattle.rules.specs.Theorem.{lent-after-calls, sum-of, requests-accepted, releases-accepted, requests-cancelled, locks-purged, polled-denials, Demand}
 use Rattle.rules.proofs.QueueTheorem.{queue-theorem}
-use Rattle.answers.specs.declared.Done.{Done}
-use Rattle.answers.specs.Answers.{done, outcome}
-use Rattle.queue_theorem.specs.Runs.{Turn, said, Keeps, Run, last, calls, sum-over, RunHolds}
+use Rattle.queue_theorem.specs.Runs.{Turn, said, Run, lent-after-run, calls, sum-of-run, RunHolds, ProgramTheorem}
 
 -- what a turn left is what the definition of its call leaves
-left-is : (t : Lent) (u : Turn) → Keeps t u → u .left ≡ left (theorem.outcome (u .call) t)
-left-is t u k = ap left k
+left-is : (t : Lent) (u : Turn) → Keeps (u .call) t (said u) (u .left) → u .left ≡ call-entry (u .call) t .lent-after
+left-is t u k = ap (λ (o : Outcome). o .lent-after) k
 
 -- a run leaves what the definitions of its calls leave, and answers what they answer
-pub last-is : (t : Lent) (us : List Turn) → Run t us → last t us ≡ after (calls us) t
-unfolding last calls after
+pub last-is : (t : Lent) (us : List Turn) → Run t us → lent-after-run t us ≡ lent-after-calls (calls us) t
+unfolding lent-after-run calls lent-after-calls
 last-is t [] r = refl
-last-is t (u ∷ us) r = last-is (u .left) us (r .1) ∙ ap (after (calls us)) (left-is t u (r .0))
+last-is t (u ∷ us) r = last-is (u .left) us (r .1) ∙ ap (lent-after-calls (calls us)) (left-is t u (r .0))
 
-pub sum-is : (number : Call → ℕ → ℕ → ℕ) (t : Lent) (us : List Turn) → Run t us → sum-over number us ≡ sum-of number (calls us) t
-unfolding sum-over calls sum-of
-sum-is number t [] r = refl
-sum-is number t (u ∷ us) r =
+pub sum-is : (term : Call → Said → ℕ) (t : Lent) (us : List Turn) → Run t us → sum-of-run term us ≡ sum-of term (calls us) t
+unfolding sum-of-run calls sum-of
+sum-is term t [] r = refl
+sum-is term t (u ∷ us) r =
     ap₂ (λ (m n : ℕ). m + n)
-    (ap (λ (o : Outcome). number (u .call) (o .refusal) (o .answer)) (r .0))
-    (sum-is number (u .left) us (r .1) ∙ ap (sum-of number (calls us)) (left-is t u (r .0)))
+    (ap (λ (o : Outcome). term (u .call) (o .said)) (r .0))
+    (sum-is term (u .left) us (r .1) ∙ ap (sum-of term (calls us)) (left-is t u (r .0)))
 
 holds : (t : Lent) (us : List Turn) → Run t us → Demand (calls us) t → RunHolds t us
 holds t us r d =
     record {
       queues = rw (last-is t us r) (d .queues);
       balance =
-          rw (sum-is requests t us r, sum-is releases t us r, sum-is cancelled t us r, sum-is purged t us r, sum-is polled-denials t us r, last-is t us r)
+          rw (sum-is requests-accepted t us r, sum-is releases-accepted t us r, sum-is requests-cancelled t us r, sum-is locks-purged t us r, sum-is polled-denials t us r, last-is t us r)
           (d .balance);
     }
 
--- THE THEOREM. `start` was lent ws and ss, of any content, and accepted; then any list of calls.
-pub program-theorem : (ws ss : List ℕ) (r l : ℕ) (x : Done) (t : Lent) → outcome (done x) (t .words) (t .slots) ≡ start-entry ws ss r l → done x .refusal ≡ 0
-    → (us : List Turn) → Run t us → RunHolds t us
-program-theorem ws ss r l x t started accepted us run =
-    holds t us run (subst (λ (a : Lent). Demand (calls us) a) (sym (ap left started)) (queue-theorem ws ss r l (sym (ap (λ (o : Outcome). o .refusal) started) ∙ accepted) (calls us)))
+pub program-theorem : ProgramTheorem
+program-theorem t r l x u started accepted us run =
+    holds u us run
+    (subst (λ (a : Lent). Demand (calls us) a) (sym (ap (λ (o : Outcome). o .lent-after) started))
+    (queue-theorem t r l (sym (ap (λ (o : Outcome). o .said .refusal) started) ∙ accepted) (calls us)))

@@ -1,1 +1,2 @@
-// Runs of the program: every list of calls of its entries. Nothing of it is code.
+// Runs of the program, that is every list of calls of its entries, and the queue theorem about them. This crate has no
+// code.

@@ -15,7 +15,8 @@ use Rattle.tables.specs.State.{Tables, lock, resource, converts}
 use Rattle.tables.specs.Layout.{of-resource, words, resources-in, locks-in, word-in, read-lock}
 use Rattle.tables.specs.Grants.{fits}
 use Rattle.tables.proofs.Counts.{within-le}
-use Rattle.tables.proofs.Valid.{used, Granted, ok-at, used-within}
+use Rattle.tables.specs.Validity.{used, Granted}
+use Rattle.tables.proofs.Valid.{ok-at, used-within}
 use Rattle.tables.proofs.ChainMembers.{state-within}
 use Rattle.tables.proofs.ReadBack.{lock-read}
 use Rattle.table_fields.specs.Sizes.{Sized}
@@ -23,10 +24,10 @@ use Rattle.rules.specs.Calls.{in-place}
 use Rattle.table_chains.specs.Contracts.{Some, Tells, Resourced}
 use Rattle.table_chains.proofs.ChainCells.{locks-is, sized-is}
 use Rattle.queues.proofs.QueueReads.{here-low, here-high, head-null}
-use Rattle.queues.specs.Contracts.{Held}
+use Rattle.queues.specs.Contracts.{GrantedLock}
 
 -- a granted lock stands on a resource that is there
-module _ (k : ℕ) (t : Tables) (p : Held k t) where
+module _ (k : ℕ) (t : Tables) (p : GrantedLock k t) where
   range : (1 ≤ k) × (k ≤ length (t .locks))
   range = within-le (length (t .locks)) k (state-within t k 0 (eqb-true (lock t k .state) 1 (p .is-granted)))
 
@@ -37,53 +38,53 @@ module _ (k : ℕ) (t : Tables) (p : Held k t) where
   its-resource = record { core = p .core; in-range = used-within t (lock t k .resource) (record-is .place .in-use) }
 
 module _ (ws : List ℕ) (k : ℕ) where
-  pub held-sized : Some (Held k) ws → Sized ws
+  pub held-sized : Some (GrantedLock k) ws → Sized ws
   held-sized s = sized-is (s .state) ws (s .is) (s .good .core .resources-high) (s .good .core .locks-high)
 
-  pub held-low : Some (Held k) ws → 1 ≤ k
+  pub held-low : Some (GrantedLock k) ws → 1 ≤ k
   held-low s = range k (s .state) (s .good) .0
 
-  pub held-high : Some (Held k) ws → k ≤ locks-in ws
+  pub held-high : Some (GrantedLock k) ws → k ≤ locks-in ws
   held-high s = rw (locks-is (s .state) ws (s .is)) (range k (s .state) (s .good) .1)
 
   module _ (l : Lock) (el : l ≡ read-lock ws k) where
-    l-is : (t : Tables) → Held k t → ws ≡ words t → l ≡ lock t k
+    l-is : (t : Tables) → GrantedLock k t → ws ≡ words t → l ≡ lock t k
     l-is t p is = el ∙ ap (λ (v : List ℕ). read-lock v k) is ∙ lock-read t k (range k t p .0) (range k t p .1)
 
-    on-it : (t : Tables) → Held k t → ws ≡ words t → Resourced (l .resource) t
+    on-it : (t : Tables) → GrantedLock k t → ws ≡ words t → Resourced (l .resource) t
     on-it t p is = subst (λ (o : Lock). Resourced (o .resource) t) (sym (l-is t p is)) (its-resource k t p)
 
-    pub held-mode : Some (Held k) ws → l .held < 6
+    pub held-mode : Some (GrantedLock k) ws → l .held < 6
     held-mode s = rw (l-is (s .state) (s .good) (s .is)) (omega (arith, record-is k (s .state) (s .good) .place .held-mode))
 
-    pub held-resourced : Some (Held k) ws → Some (Resourced (l .resource)) ws
+    pub held-resourced : Some (GrantedLock k) ws → Some (Resourced (l .resource)) ws
     held-resourced s = record { state = s .state; good = on-it (s .state) (s .good) (s .is); is = s .is }
 
-    pub held-resource-low : Some (Held k) ws → 1 ≤ l .resource
+    pub held-resource-low : Some (GrantedLock k) ws → 1 ≤ l .resource
     held-resource-low s = here-low ws (l .resource) (held-resourced s)
 
-    pub held-resource-high : Some (Held k) ws → l .resource ≤ resources-in ws
+    pub held-resource-high : Some (GrantedLock k) ws → l .resource ≤ resources-in ws
     held-resource-high s = here-high ws (l .resource) (held-resourced s)
 
     module _ (m : ℕ) (d : Bool) (ed : d ≡ down (l .held) m) where
-      down-is : (t : Tables) → Held k t → ws ≡ words t → d ≡ down (lock t k .held) m
+      down-is : (t : Tables) → GrantedLock k t → ws ≡ words t → d ≡ down (lock t k .held) m
       down-is t p is = ed ∙ ap (λ (o : Lock). down (o .held) m) (l-is t p is)
 
-      pub place-down : d ≡ true → Tells (Held k) (in-place k m) ws true
+      pub place-down : d ≡ true → Tells (GrantedLock k) (in-place k m) ws true
       unfolding in-place
       place-down h = record { then = λ t p is. rw (sym (down-is t p is) ∙ h) }
 
       module _ (up : d ≡ false) (x : ℕ) (ex : x ≡ word-in ws (of-resource (l .resource) 2)) where
-        none-is : (t : Tables) → Held k t → ws ≡ words t → eqb x 0 ≡ null (resource t (lock t k .resource) .convert)
+        none-is : (t : Tables) → GrantedLock k t → ws ≡ words t → eqb x 0 ≡ null (resource t (lock t k .resource) .convert)
         none-is t p is =
             ap (λ (i : ℕ). eqb i 0) (ex ∙ ap (λ (o : Lock). word-in ws (of-resource (o .resource) 2)) (l-is t p is))
             ∙ head-null (lock t k .resource) t (its-resource k t p) ws is converts
 
-        pub place-behind : (x ≡ 0 → ⊥) → Tells (Held k) (in-place k m) ws false
+        pub place-behind : (x ≡ 0 → ⊥) → Tells (GrantedLock k) (in-place k m) ws false
         unfolding in-place
         place-behind n = record { then = λ t p is. rw (sym (down-is t p is) ∙ up, sym (none-is t p is) ∙ ne-eqb x 0 n) }
 
-        pub place-fits : x ≡ 0 → (b : Bool) → Tells (Resourced (l .resource)) (λ t. fits t (l .resource) k m) ws b → Tells (Held k) (in-place k m) ws b
+        pub place-fits : x ≡ 0 → (b : Bool) → Tells (Resourced (l .resource)) (λ t. fits t (l .resource) k m) ws b → Tells (GrantedLock k) (in-place k m) ws b
         unfolding in-place
         place-fits n b told = record {
           then = λ t p is.

@@ -15,7 +15,8 @@ use Rattle.tables.specs.Grants.{fits, convert-grantable, grantable-head}
 use Rattle.tables.proofs.Cases.{clash}
 use Rattle.tables.proofs.Counts.{within-le, count-same}
 use Rattle.tables.proofs.ReadBack.{lock-read, chain-read}
-use Rattle.tables.proofs.Valid.{Core, line, resources-length}
+use Rattle.tables.specs.Validity.{Core, line}
+use Rattle.tables.proofs.Valid.{resources-length}
 use Rattle.tables.proofs.ChainMembers.{blocked-place}
 use Rattle.rules.specs.Queues.{granted-lock, grant-lock, grant-while, sweep, free-lock}
 use Rattle.rules.proofs.SweepLaws.{grant-core, grant-line, sweep-line, sweep-is-line}

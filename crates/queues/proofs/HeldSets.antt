@@ -9,7 +9,7 @@ use Rattle.modes.specs.Sets.{fits-set}
 use Rattle.modes.proofs.Laws.{with-mode-small, fits-with}
 use Rattle.tables.specs.Lists.{all}
 use Rattle.tables.proofs.Cases.{by-cases}
-use Rattle.tables.proofs.Links.{Each}
+use Rattle.tables.specs.Threads.{Each}
 use Rattle.queues.specs.Holders.{with-holder, with-holders}
 
 and-assoc : (a b c : Bool) → ((a && b) && c) ≡ (a && (b && c))

@@ -9,7 +9,7 @@ use borrow.Author.Tests.{eq-eqb, ne-eqb}
 use Rattle.modes.specs.Sets.{with-mode}
 use Rattle.tables.specs.Layout.{of-lock, locks-in, word-in, follow}
 use Rattle.table_fields.specs.Sizes.{Sized}
-use Rattle.queues.specs.Holders.{with-holder, with-holders, held-in, locks-from, Linked, Joined, Row}
+use Rattle.queues.specs.Holders.{with-holder, with-holders, held-in, locks-from, Linked, Joined, HolderChain}
 use Rattle.queues.proofs.HeldSets.{holder-small}
 
 -- with_holder
@@ -57,7 +57,7 @@ module _ (ws : List ℕ) where
     pub linked : Linked ws (word-in ws (of-lock j 0)) rest
     pub few : length rest ≤ locks-in ws
 
-  ahead : (set j : ℕ) → Row ws set j → (j ≡ 0 → ⊥) → Ahead set j
+  ahead : (set j : ℕ) → HolderChain ws set j → (j ≡ 0 → ⊥) → Ahead set j
   ahead set j h n = go (h .locks) (h .linked) (h .few)
     where
       go : (xs : List ℕ) → Linked ws j xs → length xs ≤ locks-in ws → Ahead set j
@@ -75,10 +75,10 @@ module _ (ws : List ℕ) where
 
 -- at the lock j, with the set `held`, what is still to be added leads to the same set as from the first on
 pub record Adding (ws : List ℕ) (set₀ first k held j : ℕ) : Type 0 where
-  pub row : Row ws held j
+  pub row : HolderChain ws held j
   pub same : with-holders (held-in ws) k held (locks-from ws j) ≡ with-holders (held-in ws) k set₀ (locks-from ws first)
 
-pub adding-starts : (ws : List ℕ) (set first k : ℕ) → Row ws set first → Adding ws set first k set first
+pub adding-starts : (ws : List ℕ) (set first k : ℕ) → HolderChain ws set first → Adding ws set first k set first
 adding-starts ws set first k h = record { row = h; same = refl }
 
 module _ (ws : List ℕ) (set₀ first k held j : ℕ) (g : Adding ws set₀ first k held j) where

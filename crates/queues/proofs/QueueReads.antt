@@ -15,18 +15,21 @@ use Rattle.tables.specs.State.{Tables, lock, resource, Queue, grants, converts,
 use Rattle.tables.specs.Layout.{Address, of-resource, of-lock, place, queue-head, cell, content, words, resources-in, locks-in, word-in}
 use Rattle.tables.specs.Grants.{holders, fits, admits}
 use Rattle.tables.proofs.Counts.{within-le, count-same, count-append, by-append}
-use Rattle.tables.proofs.Links.{Each, each-map, next-here}
-use Rattle.tables.proofs.Chains.{In, spot, Present}
-use Rattle.tables.proofs.WordChanges.{Threaded}
+use Rattle.tables.specs.Threads.{Each}
+use Rattle.tables.proofs.Links.{each-map, next-here}
+use Rattle.tables.specs.Threads.{In, Present}
+use Rattle.tables.proofs.Chains.{spot}
+use Rattle.tables.specs.Threads.{Threaded}
 use Rattle.tables.proofs.ChainWalk.{Leads, words-lead}
 use Rattle.tables.proofs.ReadBack.{word-read, chain-most}
 use Rattle.tables.proofs.ThreadedChains.{each-counted, core-threaded}
-use Rattle.tables.proofs.Valid.{used, holder-place, line}
+use Rattle.tables.specs.Validity.{used, line}
+use Rattle.tables.proofs.Valid.{holder-place}
 use Rattle.tables.proofs.ChainMembers.{on-chain, in-holder}
 use Rattle.table_fields.specs.Sizes.{Sized}
 use Rattle.table_chains.specs.Contracts.{Some, Tells, Resourced}
 use Rattle.table_chains.proofs.ChainCells.{resources-is, locks-is, sized-is}
-use Rattle.queues.specs.Holders.{with-holders, others, held-in, locks-from, Holder, Linked, Row}
+use Rattle.queues.specs.Holders.{with-holders, others, held-in, locks-from, Holder, Linked, HolderChain}
 use Rattle.queues.proofs.HeldSets.{holders-append, holders-small, fits-holders, holders-same}
 use Rattle.queues.proofs.HolderWalk.{from-linked}
 
@@ -117,7 +120,7 @@ module _ (r : ℕ) (t : Tables) (p : Resourced r t) (ws : List ℕ) (is : ws ≡
     chain-few : length (queue-of q (resource t r)) ≤ locks-in ws
     chain-few = rw (locks-is t ws is) (chain-most t (of-locks (queue r q)) (threaded q))
 
-    chain-row : (set : ℕ) → set < 64 → Row ws set z
+    chain-row : (set : ℕ) → set < 64 → HolderChain ws set z
     chain-row set h = record { sized = sized-here; small = h; locks = queue-of q (resource t r); linked = chain-linked; few = chain-few }
 
     chain-from : locks-from ws z ≡ queue-of q (resource t r)
@@ -149,11 +152,11 @@ module _ (ws : List ℕ) (r : ℕ) (s : Some (Resourced r) ws) where
 
 -- others
 module _ (ws : List ℕ) (r k : ℕ) (x : ℕ) (ex : x ≡ word-in ws (of-resource r 1)) where
-  pub others-granted : Some (Resourced r) ws → Row ws 0 x
+  pub others-granted : Some (Resourced r) ws → HolderChain ws 0 x
   others-granted s = chain-row r (s .state) (s .good) ws (s .is) grants (holders-granted r (s .state) (s .good) ws (s .is)) x ex 0 (omega arith)
 
   module _ (h : ℕ) (eh : h ≡ with-holders (held-in ws) k 0 (locks-from ws x)) (y : ℕ) (ey : y ≡ word-in ws (of-resource r 2)) where
-    pub others-converting : Some (Resourced r) ws → Row ws h y
+    pub others-converting : Some (Resourced r) ws → HolderChain ws h y
     others-converting s =
         let t = s .state in
         let p = s .good in

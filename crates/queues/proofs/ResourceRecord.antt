@@ -17,7 +17,7 @@ use Rattle.tables.proofs.Blocks.{flat-map-same}
 use Rattle.tables.proofs.Counts.{within-le, length-put}
 use Rattle.tables.proofs.Numbered.{nth-put-blind}
 use Rattle.tables.proofs.SlotChanges.{slots-move}
-use Rattle.tables.proofs.Valid.{used}
+use Rattle.tables.specs.Validity.{used}
 use Rattle.table_fields.specs.Sizes.{Sized}
 use Rattle.rules.specs.Queues.{grant-lock, grant-while, grant-converts, grant-waits, sweep, free-lock, settle}
 use Rattle.rules.specs.Calls.{stores, spoils, with-value, leave-value, new-resource}
@@ -26,7 +26,7 @@ use Rattle.rules.proofs.RequestKeepsSound.{unused-chains}
 use Rattle.table_chains.specs.Contracts.{Some, Turns, Tells, Changes, Resourced, Refilled, ResourceMoved}
 use Rattle.table_names.specs.Contracts.{with-slot, blank}
 use Rattle.table_names.proofs.StateNames.{length-is, slot-there, free-slot, put-name, put-value, put-blank}
-use Rattle.queues.specs.Contracts.{Lent, Vacant, Takes, Valued}
+use Rattle.queues.specs.Contracts.{SomeTables, Vacant, Takes, Valued}
 use Rattle.queues.proofs.QueueReads.{here-sized, here-low, here-high, head-null}
 
 -- SLOTS that a change leaves as they are
@@ -77,7 +77,7 @@ move-own r t = λ i. record {
 }
 
 -- what every function here stands on
-module _ (P : Tables → Type 0) (r : ℕ) (weak : (t : Tables) → P t → Resourced r t) (a sa : List ℕ) (s : Lent P a sa) where
+module _ (P : Tables → Type 0) (r : ℕ) (weak : (t : Tables) → P t → Resourced r t) (a sa : List ℕ) (s : SomeTables P a sa) where
   some-of : Some (Resourced r) a
   some-of = record { state = s .state; good = weak (s .state) (s .good); is = s .is }
 
@@ -115,7 +115,7 @@ vacant-filled r t p =
     }
 
 module _ (r : ℕ) (a sa : List ℕ) where
-  module _ (s : Lent (Vacant r) a sa) where
+  module _ (s : SomeTables (Vacant r) a sa) where
     pub vacant-some : Some (Resourced r) a
     vacant-some = some-of (Vacant r) r (vacant-here r) a sa s
 
@@ -154,7 +154,7 @@ unfolding used
 unused-null t r h = not-false (null (resource t r .name)) h
 
 module _ (r : ℕ) (n a sa : List ℕ) where
-  module _ (s : Lent (Takes r n) a sa) where
+  module _ (s : SomeTables (Takes r n) a sa) where
     pub takes-some : Some (Resourced r) a
     takes-some = some-of (Takes r n) r (takes-here r n) a sa s
 
@@ -233,7 +233,7 @@ unfolding slot
 kept-slot f v x e = ap₂ (λ (n w : List ℕ). n ++ (replicate (name-width - length n) 0 ++ w)) (value-name f v x) (kept-value f v x e)
 
 module _ (f r : ℕ) (v a sa : List ℕ) (acts : Bool) where
-  module _ (s : Lent (Valued f v r) a sa) where
+  module _ (s : SomeTables (Valued f v r) a sa) where
     pub valued-some : Some (Resourced r) a
     valued-some = some-of (Valued f v r) r (valued-here f v r) a sa s
 
@@ -317,13 +317,13 @@ module _ (ws : List ℕ) (r x y z : ℕ) (ex : x ≡ word-in ws (of-resource r 1
 pub ruleset empty-laws = (needs, here-sized, here-low, here-high, empty-told)
 
 module _ (r : ℕ) (a sa : List ℕ) (x : Bool) (told : Tells (Resourced r) (λ t. empty (resource t r)) a x) where
-  pub settle-some : Lent (Resourced r) a sa → Some (Resourced r) a
+  pub settle-some : SomeTables (Resourced r) a sa → Some (Resourced r) a
   settle-some s = record { state = s .state; good = s .good; is = s .is }
 
   vacant-at : x ≡ true → (t : Tables) → Resourced r t → a ≡ words t → Vacant r t
   vacant-at q t p is = record { core = p .core; in-range = p .in-range; none = sym (told .then t p is) ∙ q }
 
-  pub settle-vacant : x ≡ true → Lent (Resourced r) a sa → Lent (Vacant r) a sa
+  pub settle-vacant : x ≡ true → SomeTables (Resourced r) a sa → SomeTables (Vacant r) a sa
   settle-vacant q s = record { state = s .state; good = vacant-at q (s .state) (s .good) (s .is); is = s .is; slots-are = s .slots-are }
 
   pub settle-freed : x ≡ true → (b sb : List ℕ) → Changes (Vacant r) (move-resource r no-resource) a sa b sb → Changes (Resourced r) (settle r) a sa b sb

@@ -8,7 +8,8 @@ use lib.ListN.{length}
 use Rattle.tables.specs.Lists.{within, null}
 use Rattle.tables.specs.State.{Tables, no-lock, lock, resource, move-resource}
 use Rattle.tables.proofs.Cases.{by-cases, clash}
-use Rattle.tables.proofs.Valid.{used, Core, absent, locks-length, resources-length, core-move}
+use Rattle.tables.specs.Validity.{used, Core}
+use Rattle.tables.proofs.Valid.{absent, locks-length, resources-length, core-move}
 use Rattle.rules.specs.Queues.{sweep, free-lock, settle, find}
 use Rattle.rules.specs.Calls.{leave-value, new-resource}
 use Rattle.rules.proofs.SweepLaws.{sweep-swept}

@@ -8,7 +8,7 @@ use Rattle.tables.specs.Lists.{within, first}
 use Rattle.tables.specs.State.{Tables, name-width, value-width, lock, resource, granted}
 use Rattle.tables.specs.Layout.{words, slots}
 use Rattle.tables.specs.Grants.{convert-grantable, grantable-head, empty}
-use Rattle.tables.proofs.Valid.{used, Core, line}
+use Rattle.tables.specs.Validity.{used, Core, line}
 use Rattle.rules.specs.Queues.{grant-lock}
 use Rattle.rules.specs.Calls.{stores}
 
@@ -18,11 +18,11 @@ pub record Locked (k : ℕ) (t : Tables) : Type 0 where
   pub in-range : within (length (t .locks)) k ≡ true
 
 -- the lock k is granted
-pub record Held (k : ℕ) (t : Tables) : Type 0 where
+pub record GrantedLock (k : ℕ) (t : Tables) : Type 0 where
   pub core : Core t
   pub is-granted : granted (lock t k) ≡ true
 
--- ONE TURN of a sweep: the line of r, its convert chain and then its wait chain, has a head that can be granted; it is granted
+-- ONE TURN of a sweep. The line of r is its convert chain and then its wait chain. Its head can be granted, and is granted
 unfoldable pub ready : ℕ → Tables → Bool
 ready r t = grantable-head (convert-grantable t r) (line t r)
 
@@ -30,7 +30,7 @@ unfoldable pub advance : ℕ → Tables → Tables
 advance r t = elim (ready r t) [ true ↦ grant-lock r (first (line t r)) t | false ↦ t ]
 
 -- WORDS AND SLOTS of a state of which P holds
-pub record Lent (P : Tables → Type 0) (ws ss : List ℕ) : Type 0 where
+pub record SomeTables (P : Tables → Type 0) (ws ss : List ℕ) : Type 0 where
   pub state : Tables
   pub good : P state
   pub is : ws ≡ words state

@@ -11,7 +11,7 @@ use Rattle.tables.specs.Layout.{of-lock, locks-in, word-in, follow}
 use Rattle.tables.specs.Grants.{holders}
 use Rattle.table_fields.specs.Sizes.{Sized}
 
--- the set with what the lock j holds, unless j is k; with what each of these locks holds
+-- the set with the mode that the lock j holds, unless j is k; the same for each lock of a list
 unfoldable pub with-holder : (ℕ → ℕ) → ℕ → ℕ → ℕ → ℕ
 with-holder held k set j = cond (eqb j k) set (with-mode set (held j))
 
@@ -42,13 +42,13 @@ abbrev pub Linked : List ℕ → ℕ → List ℕ → Type 0
 Linked ws j [] = j ≡ 0
 Linked ws j (x ∷ xs) = (j ≡ x) × (Holder ws x × Linked ws (word-in ws (of-lock x 0)) xs)
 
--- a set of modes, to which can be added what the lock j holds; what the locks from j on hold
+-- a set of modes to which the mode of the lock j can be added; one to which the modes of the locks from j on can be added
 pub record Joined (ws : List ℕ) (set j : ℕ) : Type 0 where
   pub sized : Sized ws
   pub small : set < 64
   pub holder : Holder ws j
 
-pub record Row (ws : List ℕ) (set j : ℕ) : Type 0 where
+pub record HolderChain (ws : List ℕ) (set j : ℕ) : Type 0 where
   pub sized : Sized ws
   pub small : set < 64
   pub locks : List ℕ

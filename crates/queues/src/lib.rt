@@ -1,4 +1,5 @@
-// What the calls are made of, in place on the lent words and slots: who holds a mode on a resource, granting, freeing.
+// The parts of the calls' changes, in place on the lent words and slots: who holds a mode on a resource, granting,
+// freeing, settling.
 use table_fields::lock_word;
 use table_fields::resource_word;
 use tables::Lock;
@@ -8,12 +9,12 @@ ghost use Prim.Native.Nat.{_<_};
 ghost use Rattle.tables.specs.Lists.{first};
 ghost use Rattle.tables.specs.State.{«no-resource», resource, «move-resource»};
 ghost use Rattle.tables.specs.Grants.{fits, admits, empty};
-ghost use Rattle.tables.proofs.Valid.{line};
+ghost use Rattle.tables.specs.Validity.{line};
 ghost use Rattle.rules.specs.Queues.{«granted-lock», sweep, «free-lock», settle};
 ghost use Rattle.rules.specs.Calls.{«in-place», «leave-value», «new-resource»};
 ghost use Rattle.table_chains.specs.Contracts.{Some, Turns, Tells, Answers, Changes, Resourced};
-ghost use Rattle.queues.specs.Holders.{«with-holder», «with-holders», others, «held-in», «locks-from», Joined, Row};
-ghost use Rattle.queues.specs.Contracts.{Locked, Held, ready, advance, Lent, Vacant, Takes, Valued};
+ghost use Rattle.queues.specs.Holders.{«with-holder», «with-holders», others, «held-in», «locks-from», Joined, HolderChain};
+ghost use Rattle.queues.specs.Contracts.{Locked, GrantedLock, ready, advance, SomeTables, Vacant, Takes, Valued};
 
 // The set with the mode that lock j holds, unless j is k.
 fn with_holder(words: &[u32], set: u32, j: u32, k: u32) -> u32
@@ -28,7 +29,7 @@ fn with_holder(words: &[u32], set: u32, j: u32, k: u32) -> u32
 
 // The set with the modes that locks other than k hold, from the first on along its chain.
 fn with_holders(words: &[u32], set: u32, first: u32, k: u32) -> u32
-    requires { ⌜ Row (now words) set first ⌝ }
+    requires { ⌜ HolderChain (now words) set first ⌝ }
     ensures { λ x. ⌜ x ≡ with-holders (held-in (now (words .entry))) k set (locks-from (now (words .entry)) first) ⌝ }
 {
     let mut held = set;
@@ -72,12 +73,12 @@ pub fn admits(words: &[u32], r: u32, mode: u32) -> bool
     fits(words, r, 0, mode)
 }
 
-// Whether the lock k, which is granted, can take the mode in place: down, or no conversion waits there and it fits the
-// other holders.
+// Whether the granted lock k can take the mode in place: the conversion is down, or no conversion waits there and the
+// mode fits the other holders.
 pub fn in_place(words: &[u32], k: u32, mode: u32) -> bool
-    requires { ⌜ Some (Held k) (now words) ⌝ }
+    requires { ⌜ Some (GrantedLock k) (now words) ⌝ }
     requires { ⌜ mode < 6 ⌝ }
-    ensures { λ x. ⌜ Tells (Held k) (in-place k mode) (now (words .entry)) x ⌝ }
+    ensures { λ x. ⌜ Tells (GrantedLock k) (in-place k mode) (now (words .entry)) x ⌝ }
 {
     let lock = table_fields::lock_at(words, k);
     if modes::down(lock.held, mode) {
@@ -114,7 +115,7 @@ fn granted(l: Lock) -> Lock
     }
 }
 
-// Grants the next lock of r, if it can be.
+// Grants the next lock of r if that is possible. Answers whether it did.
 fn grant_next(words: &mut [u32], r: u32) -> bool
     requires { ⌜ Some (Resourced r) (now words) ⌝ }
     ensures { λ x. ⌜ Answers (Resourced r) (ready r) (advance r) (now (words .entry)) (now (words .exit)) x ⌝ }
@@ -131,7 +132,7 @@ fn grant_next(words: &mut [u32], r: u32) -> bool
     true
 }
 
-// Grants on r while the next lock can be.
+// Grants locks on r as long as the next one can be granted.
 pub fn sweep(words: &mut [u32], r: u32)
     requires { ⌜ Some (Resourced r) (now words) ⌝ }
     ensures { λ _. ⌜ Turns (Resourced r) (sweep r) (now (words .entry)) (now (words .exit)) ⌝ }
@@ -164,7 +165,7 @@ pub fn free_lock(words: &mut [u32], k: u32)
 
 // The resource r, on which no lock stands, becomes free.
 pub fn free_resource(words: &mut [u32], slots: &mut [u8], r: u32)
-    requires { ⌜ Lent (Vacant r) (now words) (now slots) ⌝ }
+    requires { ⌜ SomeTables (Vacant r) (now words) (now slots) ⌝ }
     ensures { λ _. ⌜ Changes (Vacant r) (move-resource r no-resource) (now (words .entry)) (now (slots .entry)) (now (words .exit)) (now (slots .exit)) ⌝ }
 {
     table_chains::move_resource_words(words, r, 0, 0);
@@ -173,14 +174,14 @@ pub fn free_resource(words: &mut [u32], slots: &mut [u8], r: u32)
 
 // The resource r, which is free, gets a name. Its value is zero, and valid.
 pub fn take_resource(words: &mut [u32], slots: &mut [u8], r: u32, name: &[u8])
-    requires { ⌜ Lent (Takes r (now name)) (now words) (now slots) ⌝ }
+    requires { ⌜ SomeTables (Takes r (now name)) (now words) (now slots) ⌝ }
     ensures { λ _. ⌜ Changes (Takes r (now (name .entry))) (move-resource r (new-resource (now (name .entry)))) (now (words .entry)) (now (slots .entry)) (now (words .exit)) (now (slots .exit)) ⌝ }
 {
     table_chains::move_resource_words(words, r, name.len() as u32, 1);
     table_names::store_name(slots, r, name);
 }
 
-// Where `acts` says so, flags 1 and 2 do what they say to the value of r. Storing makes it valid.
+// If `acts` is true, flags 1 and 2 do to the value of r what they say. Storing makes it valid.
 pub fn leave_value(
     words: &mut [u32],
     slots: &mut [u8],
@@ -189,7 +190,7 @@ pub fn leave_value(
     value: &[u8],
     r: u32,
 )
-    requires { ⌜ Lent (Valued flags (now value) r) (now words) (now slots) ⌝ }
+    requires { ⌜ SomeTables (Valued flags (now value) r) (now words) (now slots) ⌝ }
     ensures { λ _. ⌜ Changes (Valued flags (now (value .entry)) r) (leave-value acts flags (now (value .entry)) r) (now (words .entry)) (now (slots .entry)) (now (words .exit)) (now (slots .exit)) ⌝ }
 {
     if !acts {
@@ -219,7 +220,7 @@ pub fn is_empty(words: &[u32], r: u32) -> bool
 
 // The resource r is swept, or becomes free if no lock is left on it.
 pub fn settle(words: &mut [u32], slots: &mut [u8], r: u32)
-    requires { ⌜ Lent (Resourced r) (now words) (now slots) ⌝ }
+    requires { ⌜ SomeTables (Resourced r) (now words) (now slots) ⌝ }
     ensures { λ _. ⌜ Changes (Resourced r) (settle r) (now (words .entry)) (now (slots .entry)) (now (words .exit)) (now (slots .exit)) ⌝ }
 {
     if is_empty(words, r) {

@@ -11,43 +11,10 @@ use Rattle.tables.specs.Lists.{null}
 use Rattle.tables.specs.State.{Tables, lock, granted, blocked-lock}
 use Rattle.tables.specs.Sound.{client-right}
 use Rattle.tables.proofs.Cases.{clash, parts}
-use Rattle.tables.proofs.Valid.{Valid}
+use Rattle.tables.specs.Validity.{Valid}
 use Rattle.rules.specs.Queues.{find}
 use Rattle.rules.specs.Calls.{unless, stores, name-right, value-right, request-refusal, convert-refusal, release-refusal, cancel-refusal, purge-refusal}
-
--- the client c may request the mode m on the name n: a resource and a lock are left for it
-pub record Requestable (c m : ℕ) (n : List ℕ) (t : Tables) : Type 0 where
-  pub valid : Valid t
-  pub client-low : 1 ≤ c
-  pub client-high : c ≤ 255
-  pub mode : m ≤ 5
-  pub some : null n ≡ false
-  pub short : length n ≤ 64
-  pub room : (not (eqb (find n t) 0) || not (null (t .free-resources))) ≡ true
-  pub lock-left : null (t .free-locks) ≡ false
-
--- the lock k is granted, and where the flags f store a value, v is one
-pub record Releasable (k f : ℕ) (v : List ℕ) (t : Tables) : Type 0 where
-  pub valid : Valid t
-  pub is-granted : granted (lock t k) ≡ true
-  pub right : stores f ≡ true → length v ≡ 32
-
--- .. and m is a mode
-pub record Convertible (k m f : ℕ) (v : List ℕ) (t : Tables) : Type 0 where
-  pub valid : Valid t
-  pub is-granted : granted (lock t k) ≡ true
-  pub mode : m ≤ 5
-  pub right : stores f ≡ true → length v ≡ 32
-
--- the lock k is blocked
-pub record Cancellable (k : ℕ) (t : Tables) : Type 0 where
-  pub valid : Valid t
-  pub is-blocked : blocked-lock (lock t k) ≡ true
-
--- no free lock is the client's
-pub record Purgeable (c : ℕ) (t : Tables) : Type 0 where
-  pub valid : Valid t
-  pub client-low : 1 ≤ c
+use Rattle.rules.specs.Accepted.{Requestable, Releasable, Convertible, Cancellable, Purgeable}
 
 -- a test that a refusal of 0 has passed, and what is left after it
 pub passed : (b : Bool) (n rest : ℕ) → unless b (suc n) rest ≡ 0 → b ≡ true

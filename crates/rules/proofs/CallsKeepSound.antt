@@ -12,11 +12,12 @@ use Rattle.modes.specs.Modes.{down}
 use Rattle.modes.proofs.Laws.{compatible-sym, down-use}
 use Rattle.tables.specs.declared.Lock.{Lock}
 use Rattle.tables.specs.Lists.{within, count, remove, all, first-that, null}
-use Rattle.tables.specs.State.{Resource, Tables, no-lock, no-resource, lock, resource, granted, converting, waiting, blocked-lock, holds, told, shift, shift-front, relist, move, move-resource, grants, converts, waits, blocked, notices, queue}
+use Rattle.tables.specs.State.{Resource, Tables, no-lock, no-resource, lock, resource, granted, converting, waiting, blocked-lock, holds, noticed, shift, shift-front, relist, move, move-resource, grants, converts, waits, blocked, notices, queue}
 use Rattle.tables.specs.Grants.{holders, fits, convert-grantable, empty}
 use Rattle.tables.proofs.Cases.{by-cases, by-equal, clash, eqb-same, and-left, and-right, or-left, or-right, nor-left, nor-right}
 use Rattle.tables.proofs.Counts.{count-same, count-nil, by-append, first-in}
-use Rattle.tables.proofs.Valid.{used, Place, StateOk, LockOk, ok-at, holder-place, Core, line, idle, Settled, Valid, used-within, lock-same, lock-other, resource-same, locks-length, resources-length, Near, used-zero, Fits, core-move}
+use Rattle.tables.specs.Validity.{used, Place, StateOk, LockOk, Core, line, idle, Settled, Valid, Near}
+use Rattle.tables.proofs.Valid.{ok-at, holder-place, used-within, lock-same, lock-other, resource-same, locks-length, resources-length, used-zero, Fits, core-move}
 use Rattle.tables.proofs.ChainMembers.{state-within, on-chain, chain-has, on-converts, on-waits, fits-true, true-fits, settled-other}
 use Rattle.rules.specs.Queues.{sweep, free-lock, settle}
 use Rattle.rules.specs.Deadlock.{victim}
@@ -273,35 +274,35 @@ pub nothing-at-zero : (t : Tables) → Settled t 0
 unfolding line resource idle
 nothing-at-zero t = record { still = refl; peopled = λ u. clash (used t 0) u (used-zero t) }
 
-told-denied : (u : ℕ → Bool) (l : Lock) (s : ℕ) → StateOk u l s → l .completion ≡ 2 → s ≡ 4
-told-denied u l zero ok e = absurd (omega (arith, ap (λ (x : Lock). x .completion) ok))
-told-denied u l (suc zero) ok e = absurd (ok .not-denied e)
-told-denied u l (suc (suc zero)) ok e = absurd (omega (arith, ok .notice))
-told-denied u l (suc (suc (suc zero))) ok e = absurd (omega (arith, ok .notice))
-told-denied u l (suc (suc (suc (suc zero)))) ok e = refl
-told-denied u l (suc (suc (suc (suc (suc n))))) ok e = absurd ok
+noticed-denied : (u : ℕ → Bool) (l : Lock) (s : ℕ) → StateOk u l s → l .completion ≡ 2 → s ≡ 4
+noticed-denied u l zero ok e = absurd (omega (arith, ap (λ (x : Lock). x .completion) ok))
+noticed-denied u l (suc zero) ok e = absurd (ok .not-denied e)
+noticed-denied u l (suc (suc zero)) ok e = absurd (omega (arith, ok .notice))
+noticed-denied u l (suc (suc (suc zero))) ok e = absurd (omega (arith, ok .notice))
+noticed-denied u l (suc (suc (suc (suc zero)))) ok e = refl
+noticed-denied u l (suc (suc (suc (suc (suc n))))) ok e = absurd ok
 
-told-granted : (u : ℕ → Bool) (l : Lock) (s : ℕ) → StateOk u l s → l .completion ≢ 0 → l .completion ≢ 2 → s ≡ 1
-told-granted u l zero ok a b = absurd (a (ap (λ (x : Lock). x .completion) ok))
-told-granted u l (suc zero) ok a b = refl
-told-granted u l (suc (suc zero)) ok a b = absurd (a (ok .notice))
-told-granted u l (suc (suc (suc zero))) ok a b = absurd (a (ok .notice))
-told-granted u l (suc (suc (suc (suc zero)))) ok a b = absurd (b (ok .notice))
-told-granted u l (suc (suc (suc (suc (suc n))))) ok a b = absurd ok
+noticed-granted : (u : ℕ → Bool) (l : Lock) (s : ℕ) → StateOk u l s → l .completion ≢ 0 → l .completion ≢ 2 → s ≡ 1
+noticed-granted u l zero ok a b = absurd (a (ap (λ (x : Lock). x .completion) ok))
+noticed-granted u l (suc zero) ok a b = refl
+noticed-granted u l (suc (suc zero)) ok a b = absurd (a (ok .notice))
+noticed-granted u l (suc (suc (suc zero))) ok a b = absurd (a (ok .notice))
+noticed-granted u l (suc (suc (suc (suc zero)))) ok a b = absurd (b (ok .notice))
+noticed-granted u l (suc (suc (suc (suc (suc n))))) ok a b = absurd ok
 
-taken-after : (k : ℕ) (t : Tables) → Valid t → told (lock t k) ≡ true → within (length (t .locks)) k ≡ true →
+taken-after : (k : ℕ) (t : Tables) → Valid t → noticed (lock t k) ≡ true → within (length (t .locks)) k ≡ true →
     After t (take-notice k t) (cond (eqb (lock t k .completion) 2) (k ∷ t .free-locks) (t .free-locks))
 unfolding take-notice
 taken-after k t val h w =
     by-cases (eqb (lock t k .completion) 2)
-    (λ d. let s = told-denied (used t) (lock t k) (lock t k .state) (val .core .lock-ok k) (eqb-true (lock t k .completion) 2 d) in
+    (λ d. let s = noticed-denied (used t) (lock t k) (lock t k .state) (val .core .lock-ok k) (eqb-true (lock t k .completion) 2 d) in
     let ok = ok-at (used t) (lock t k) 4 (val .core .lock-ok k) (rw s) in
     rw (d, take-notice) (freed-stop t (val .core) 0 k (ok .nowhere) (λ q i. val .settled q) (rw s) w (nothing-at-zero _)))
     (λ d. rw (d, take-notice) (read d))
   where
     read : eqb (lock t k .completion) 2 ≡ false → After t (move (lock t k .resource) k (notice-read (lock t k)) t) (t .free-locks)
     read d =
-        let s = told-granted (used t) (lock t k) (lock t k .state) (val .core .lock-ok k) (eqb-false _ 0 (not-true _ h)) (eqb-false _ 2 d) in
+        let s = noticed-granted (used t) (lock t k) (lock t k .state) (val .core .lock-ok k) (eqb-false _ 0 (not-true _ h)) (eqb-false _ 2 d) in
         let r = lock t k .resource in
         let m = notice-read (lock t k) in
         let old = ok-at (used t) (lock t k) 1 (val .core .lock-ok k) (rw s) in
@@ -323,12 +324,12 @@ taken-after k t val h w =
         })
 
 pub poll-after : (c : ℕ) (t : Tables) → Valid t →
-    After t (poll-change c t .tables) (cond (eqb (poll-change c t .answer) 2) (poll-change c t .number ∷ t .free-locks) (t .free-locks))
+    After t (poll-change c t .tables) (cond (eqb (poll-change c t .said .answer) 2) (poll-change c t .said .number ∷ t .free-locks) (t .free-locks))
 unfolding poll-change poll-notice
 poll-after c t val = go (first-that (λ k. eqb (lock t k .client) c) (t .notices)) refl
   where
     go : (n : ℕ) → first-that (λ k. eqb (lock t k .client) c) (t .notices) ≡ n →
-        After t (poll-notice n t .tables) (cond (eqb (poll-notice n t .answer) 2) (poll-notice n t .number ∷ t .free-locks) (t .free-locks))
+        After t (poll-notice n t .tables) (cond (eqb (poll-notice n t .said .answer) 2) (poll-notice n t .said .number ∷ t .free-locks) (t .free-locks))
     go zero e = unchanged-after t _ val refl
     go (suc k) e = let i = on-chain t (val .core .linked) notices (suc k) (first-in _ (t .notices) k e) in taken-after (suc k) t val (i .1) (i .0)
 

@@ -10,7 +10,7 @@ use Rattle.tables.specs.Lists.{within, count, remove, keep, null, from}
 use Rattle.tables.specs.State.{Tables, lock, granted, converting, blocked-lock, LockChain, chain, belongs, free-locks}
 use Rattle.tables.proofs.Cases.{by-cases, by-equal, clash}
 use Rattle.tables.proofs.Counts.{count-same, count-other, count-remove, count-remove-other, count-step, count-kept, kept-once}
-use Rattle.tables.proofs.Valid.{Core, Valid}
+use Rattle.tables.specs.Validity.{Core, Valid}
 use Rattle.tables.proofs.ChainMembers.{chain-once}
 use Rattle.rules.specs.Queues.{find}
 use Rattle.rules.specs.Calls.{stores, request-change, convert-change, release-change, cancel-change, locks-of, purge-change, break, poll-change}
@@ -86,15 +86,15 @@ module _ (t : Tables) (val : Valid t) where
   pub convert-count : (k m f : ℕ) (v : List ℕ) → granted (lock t k) ≡ true → m ≤ 5 → (stores f ≡ true → length v ≡ 32) → used-locks (convert-change k m f v t .tables) ≡ used-locks t
   convert-count k m f v g low right = omega (arith, after-count t _ _ (val .core) (convert-after k m f v t val g low right))
 
-  pub poll-count : (c : ℕ) → used-locks (poll-change c t .tables) + cond (eqb (poll-change c t .answer) 2) 1 0 ≡ used-locks t
+  pub poll-count : (c : ℕ) → used-locks (poll-change c t .tables) + cond (eqb (poll-change c t .said .answer) 2) 1 0 ≡ used-locks t
   poll-count c =
       let e = after-count t _ _ (val .core) (poll-after c t val) in
-      by-cases (eqb (poll-change c t .answer) 2) (λ h. rw h (omega (arith, rw h at e))) (λ h. rw h (omega (arith, rw h at e)))
+      by-cases (eqb (poll-change c t .said .answer) 2) (λ h. rw h (omega (arith, rw h at e))) (λ h. rw h (omega (arith, rw h at e)))
 
   pub break-count : used-locks (break t .tables) ≡ used-locks t
   break-count = omega (arith, after-count t _ _ (val .core) (break-after t val))
 
-  pub purge-count : (c : ℕ) → 1 ≤ c → used-locks (purge-change c t .tables) + purge-change c t .answer ≡ used-locks t
+  pub purge-count : (c : ℕ) → 1 ≤ c → used-locks (purge-change c t .tables) + purge-change c t .said .answer ≡ used-locks t
   unfolding purge-change
   purge-count c low = omega (arith, after-count t _ _ (val .core) (purge-after c t low val), length-pushed (locks-of c t) (t .free-locks))
 

@@ -11,9 +11,9 @@ use Rattle.tables.specs.Lists.{count, first-that}
 use Rattle.tables.specs.State.{Tables, blocked}
 use Rattle.tables.proofs.Cases.{by-cases, by-equal, clash}
 use Rattle.tables.proofs.Counts.{count-same, count-other, count-nil, count-step, first-in, first-passes, first-none}
-use Rattle.tables.proofs.Valid.{Core}
+use Rattle.tables.specs.Validity.{Core}
 use Rattle.rules.specs.Walks.{Walk}
-use Rattle.rules.specs.Deadlock.{before, leads, deadlocked, victim}
+use Rattle.rules.specs.Deadlock.{before, leads, deadlocked, victim, Victim, NoCycle}
 use Rattle.rules.proofs.WalkSearch.{search-complete}
 
 -- the bounded search finds the cycles of whatever length
@@ -45,12 +45,6 @@ first-is p (x ∷ xs) k h m e =
     (first-is p xs k h (rw (count-other k x xs q) at m)
     (λ j i. e j (rw (ne-eqb k x q, before) (omega (arith, i, count-step j x (before k xs)))))))
 
--- k is the first lock on the blocked chain that leads back to itself in one or more steps
-pub record Victim (t : Tables) (k : ℕ) : Type 0 where
-  pub stands : 1 ≤ count k (t .blocked)
-  pub cycle : Walk (leads t) (t .blocked) k k
-  pub first : (j : ℕ) → 1 ≤ count j (before k (t .blocked)) → Walk (leads t) (t .blocked) j j → ⊥
-
 count-before : (j k : ℕ) (xs : List ℕ) → count j (before k xs) ≤ count j xs
 unfolding before
 count-before j k [] = omega arith
@@ -79,10 +73,6 @@ is-victim t k v =
     (λ j i. by-cases (deadlocked t j)
     (λ h. absurd (v .first j i (deadlocked-walk t j (omega (arith, i, count-before j k (t .blocked))) .0 h)))
     (λ h. h))
-
--- no blocked lock leads back to itself
-pub record NoCycle (t : Tables) : Type 0 where
-  pub none : (a : ℕ) → 1 ≤ count a (t .blocked) → Walk (leads t) (t .blocked) a a → ⊥
 
 -- there is no victim exactly then
 pub victim-none : (t : Tables) → Core t → (victim t ≡ 0) ↔ NoCycle t

@@ -13,14 +13,15 @@ use Rattle.tables.specs.State.{Resource, Tables, no-lock, no-resource, lock, re
 use Rattle.tables.specs.Grants.{admits}
 use Rattle.tables.proofs.Cases.{by-cases, clash}
 use Rattle.tables.proofs.Counts.{nth-out, count-nil, count-from}
-use Rattle.tables.proofs.Valid.{used, line, idle, Valid}
+use Rattle.tables.specs.Validity.{used, line, idle, Valid}
 use Rattle.rules.specs.Queues.{find}
 use Rattle.rules.specs.Deadlock.{victim}
-use Rattle.rules.specs.Calls.{Step, refused-or, resource-for, with-resource, request-on, request-change, request-refusal, request, in-place, convert-change, convert-refusal, convert, release-change, release-refusal, release, cancel-change, cancel-refusal, cancel, purge-change, purge-refusal, purge, deny-victim, break, poll-notice, poll-change, poll-refusal, poll}
+use Rattle.rules.specs.Calls.{Said, accepted, refused, Step, refused-or, resource-for, with-resource, request-on, request-change, request-refusal, request, in-place, convert-change, convert-refusal, convert, release-change, release-refusal, release, cancel-change, cancel-refusal, cancel, purge-change, purge-refusal, purge, deny-victim, break, poll-notice, poll-change, poll-refusal, poll}
 use Rattle.rules.specs.Entries.{Call, step-of, to-request, to-convert, to-release, to-cancel, to-purge, to-break, to-poll}
-use Rattle.rules.specs.Theorem.{requests, releases, cancelled, purged, polled-denials}
+use Rattle.rules.specs.Theorem.{requests-accepted, releases-accepted, requests-cancelled, locks-purged, polled-denials}
 use Rattle.rules.proofs.ResourceChanges.{no-value-length}
-use Rattle.rules.proofs.AcceptedCalls.{Requestable, Releasable, Convertible, Cancellable, Purgeable, request-passed, convert-passed, release-passed, cancel-passed, purge-passed}
+use Rattle.rules.specs.Accepted.{Requestable, Releasable, Convertible, Cancellable, Purgeable}
+use Rattle.rules.proofs.AcceptedCalls.{request-passed, convert-passed, release-passed, cancel-passed, purge-passed}
 use Rattle.rules.proofs.CallsKeepSound.{After, release-after, cancel-after, poll-after, break-after, convert-after}
 use Rattle.rules.proofs.RequestKeepsSound.{request-after}
 use Rattle.rules.proofs.PurgeKeepsSound.{purge-after}
@@ -100,40 +101,36 @@ module _ (r l : ℕ) where
   started-none = ap length (keep-none _ (from 1 (length (started r l .locks))) (λ k. rw (started-lock k)))
 
 -- what a call adds to the two sides of the sum: requests accepted; releases, requests cancelled, locks purged, polled denials
-abbrev pub gains : Call → Step → ℕ
-gains c s = requests c (s .refusal) (s .answer)
+abbrev pub gains : Call → Said → ℕ
+gains c x = requests-accepted c x
 
-abbrev pub losses : Call → Step → ℕ
-losses c s =
-    releases c (s .refusal) (s .answer) + cancelled c (s .refusal) (s .answer) + purged c (s .refusal) (s .answer) + polled-denials c (s .refusal) (s .answer)
+abbrev pub losses : Call → Said → ℕ
+losses c x = releases-accepted c x + requests-cancelled c x + locks-purged c x + polled-denials c x
 
 -- what a call leaves of a valid state t
 pub record Kept (c : Call) (t : Tables) (s : Step) : Type 0 where
   pub valid : Valid (s .tables)
   pub resources-are : length (s .tables .resources) ≡ length (t .resources)
   pub locks-are : length (s .tables .locks) ≡ length (t .locks)
-  pub unchanged : s .refusal ≢ 0 → s .tables ≡ t
-  pub no-answer : s .refusal ≢ 0 → s .answer ≡ 0
-  pub no-number : s .refusal ≢ 0 → s .number ≡ 0
-  pub balance : used-locks (s .tables) + losses c s ≡ used-locks t + gains c s
+  pub unchanged : s .said .refusal ≢ 0 → s .tables ≡ t
+  pub silent : s .said .refusal ≢ 0 → s .said ≡ refused (s .said .refusal)
+  pub balance : used-locks (s .tables) + losses c (s .said) ≡ used-locks t + gains c (s .said)
 
-accepted-kept : (c : Call) (t : Tables) (s : Step) (fs : List ℕ) → s .refusal ≡ 0 → After t (s .tables) fs →
-    used-locks (s .tables) + losses c s ≡ used-locks t + gains c s → Kept c t s
+accepted-kept : (c : Call) (t : Tables) (s : Step) (fs : List ℕ) → s .said .refusal ≡ 0 → After t (s .tables) fs →
+    used-locks (s .tables) + losses c (s .said) ≡ used-locks t + gains c (s .said) → Kept c t s
 accepted-kept c t s fs e a b =
     record {
       valid = a .valid;
       resources-are = a .resources-are;
       locks-are = a .locks-are;
       unchanged = λ z. absurd (z e);
-      no-answer = λ z. absurd (z e);
-      no-number = λ z. absurd (z e);
+      silent = λ z. absurd (z e);
       balance = b;
     }
 
 -- a refused call adds nothing
-nothing : (n : ℕ) (c : Call) (t : Tables) →
-    used-locks t + losses c (record { refusal = suc n; answer = 0; number = 0; tables = t }) ≡ used-locks t + gains c (record { refusal = suc n; answer = 0; number = 0; tables = t })
-unfolding requests releases cancelled purged polled-denials
+nothing : (n : ℕ) (c : Call) (t : Tables) → used-locks t + losses c (refused (suc n)) ≡ used-locks t + gains c (refused (suc n))
+unfolding requests-accepted releases-accepted requests-cancelled locks-purged polled-denials
 nothing n (to-request c m f x) t = rw (eqb·suc-zero n)
 nothing n (to-convert c k m f v) t = refl
 nothing n (to-release c k f v) t = rw (eqb·suc-zero n)
@@ -151,93 +148,92 @@ refused-kept c t (suc n) s val h =
       resources-are = refl;
       locks-are = refl;
       unchanged = λ z. refl;
-      no-answer = λ z. refl;
-      no-number = λ z. refl;
+      silent = λ z. refl;
       balance = nothing n c t;
     }
 
 -- REQUEST
-pub request-accepted : (c m : ℕ) (n : List ℕ) (t : Tables) → request-change c m n t .refusal ≡ 0
+pub request-accepted : (c m : ℕ) (n : List ℕ) (t : Tables) → request-change c m n t .said .refusal ≡ 0
 unfolding request-change
 request-accepted c m n t = on (resource-for (find n t) t) (first (t .free-locks)) (with-resource (find n t) n t)
   where
-    on : (r k : ℕ) (t′ : Tables) → request-on r k c m t′ .refusal ≡ 0
+    on : (r k : ℕ) (t′ : Tables) → request-on r k c m t′ .said .refusal ≡ 0
     on r k t′ = unfold request-on in by-cases (admits t′ r m) (λ h. rw (h, request-on)) (λ h. rw (h, request-on))
 
 requested : (c m f : ℕ) (n : List ℕ) (t : Tables) → Requestable c m n t → Kept (to-request c m f n) t (request-change c m n t)
-unfolding requests releases cancelled purged polled-denials
+unfolding requests-accepted releases-accepted requests-cancelled locks-purged polled-denials
 requested c m f n t p =
     accepted-kept (to-request c m f n) t (request-change c m n t) _ (request-accepted c m n t)
     (request-after c m n t (p .valid) (p .client-low) (p .client-high) (p .mode) (p .some) (p .short) (p .room) (p .lock-left))
     (rw (request-accepted c m n t) (omega (arith, request-count t (p .valid) c m n (p .client-low) (p .client-high) (p .mode) (p .some) (p .short) (p .room) (p .lock-left))))
 
 -- CONVERT
-pub convert-accepted : (k m f : ℕ) (v : List ℕ) (t : Tables) → convert-change k m f v t .refusal ≡ 0
+pub convert-accepted : (k m f : ℕ) (v : List ℕ) (t : Tables) → convert-change k m f v t .said .refusal ≡ 0
 unfolding convert-change
 convert-accepted k m f v t = by-cases (in-place k m t) (λ h. rw (h, convert-change)) (λ h. rw (h, convert-change))
 
 converted : (c k m f : ℕ) (v : List ℕ) (t : Tables) → Convertible k m f v t → Kept (to-convert c k m f v) t (convert-change k m f v t)
-unfolding requests releases cancelled purged polled-denials
+unfolding requests-accepted releases-accepted requests-cancelled locks-purged polled-denials
 converted c k m f v t p =
     accepted-kept (to-convert c k m f v) t (convert-change k m f v t) _ (convert-accepted k m f v t)
     (convert-after k m f v t (p .valid) (p .is-granted) (p .mode) (p .right)) (omega (arith, convert-count t (p .valid) k m f v (p .is-granted) (p .mode) (p .right)))
 
 -- RELEASE
-pub release-accepted : (k f : ℕ) (v : List ℕ) (t : Tables) → release-change k f v t .refusal ≡ 0
+pub release-accepted : (k f : ℕ) (v : List ℕ) (t : Tables) → release-change k f v t .said .refusal ≡ 0
 unfolding release-change
 release-accepted k f v t = refl
 
 let-go : (c k f : ℕ) (v : List ℕ) (t : Tables) → Releasable k f v t → Kept (to-release c k f v) t (release-change k f v t)
-unfolding requests releases cancelled purged polled-denials
+unfolding requests-accepted releases-accepted requests-cancelled locks-purged polled-denials
 let-go c k f v t p =
     accepted-kept (to-release c k f v) t (release-change k f v t) _ (release-accepted k f v t)
     (release-after k f v t (p .valid) (p .is-granted) (p .right)) (rw (release-accepted k f v t) (omega (arith, release-count t (p .valid) k f v (p .is-granted) (p .right))))
 
 -- CANCEL
-pub cancel-accepted : (k : ℕ) (t : Tables) → cancel-change k t .refusal ≡ 0
+pub cancel-accepted : (k : ℕ) (t : Tables) → cancel-change k t .said .refusal ≡ 0
 unfolding cancel-change
 cancel-accepted k t = by-cases (converting (lock t k)) (λ h. rw (h, cancel-change)) (λ h. rw (h, cancel-change))
 
-cancel-answer : (k : ℕ) (t : Tables) → _≡_ {A = ℕ} (bit (eqb (cancel-change k t .answer) 2)) (cond (converting (lock t k)) 0 1)
+cancel-answer : (k : ℕ) (t : Tables) → _≡_ {A = ℕ} (bit (eqb (cancel-change k t .said .answer) 2)) (cond (converting (lock t k)) 0 1)
 unfolding cancel-change
 cancel-answer k t = by-cases (converting (lock t k)) (λ h. rw (h, cancel-change)) (λ h. rw (h, cancel-change))
 
 given-up : (c k : ℕ) (t : Tables) → Cancellable k t → Kept (to-cancel c k) t (cancel-change k t)
-unfolding requests releases cancelled purged polled-denials
+unfolding requests-accepted releases-accepted requests-cancelled locks-purged polled-denials
 given-up c k t p =
     accepted-kept (to-cancel c k) t (cancel-change k t) _ (cancel-accepted k t)
     (cancel-after k t (p .valid) (p .is-blocked)) (rw (cancel-answer k t) (omega (arith, cancel-count t (p .valid) k (p .is-blocked))))
 
 -- PURGE
-pub purge-accepted : (c : ℕ) (t : Tables) → purge-change c t .refusal ≡ 0
+pub purge-accepted : (c : ℕ) (t : Tables) → purge-change c t .said .refusal ≡ 0
 unfolding purge-change
 purge-accepted c t = refl
 
 cleared : (c : ℕ) (t : Tables) → Purgeable c t → Kept (to-purge c) t (purge-change c t)
-unfolding requests releases cancelled purged polled-denials
+unfolding requests-accepted releases-accepted requests-cancelled locks-purged polled-denials
 cleared c t p =
     accepted-kept (to-purge c) t (purge-change c t) _ (purge-accepted c t) (purge-after c t (p .client-low) (p .valid))
     (omega (arith, purge-count t (p .valid) c (p .client-low)))
 
 -- BREAK
-pub break-accepted : (t : Tables) → break t .refusal ≡ 0
+pub break-accepted : (t : Tables) → break t .said .refusal ≡ 0
 unfolding break
 break-accepted t = go (victim t)
   where
-    go : (n : ℕ) → deny-victim n t .refusal ≡ 0
+    go : (n : ℕ) → deny-victim n t .said .refusal ≡ 0
     go zero = unfold deny-victim in refl
     go (suc k) = unfold deny-victim in refl
 
 broken : (t : Tables) → Valid t → Kept to-break t (break t)
-unfolding requests releases cancelled purged polled-denials
+unfolding requests-accepted releases-accepted requests-cancelled locks-purged polled-denials
 broken t val = accepted-kept to-break t (break t) _ (break-accepted t) (break-after t val) (omega (arith, break-count t val))
 
 -- POLL
-pub poll-accepted : (c : ℕ) (t : Tables) → poll-change c t .refusal ≡ 0
+pub poll-accepted : (c : ℕ) (t : Tables) → poll-change c t .said .refusal ≡ 0
 unfolding poll-change
 poll-accepted c t = go (first-that (λ k. eqb (lock t k .client) c) (t .notices))
   where
-    go : (n : ℕ) → poll-notice n t .refusal ≡ 0
+    go : (n : ℕ) → poll-notice n t .said .refusal ≡ 0
     go zero = unfold poll-notice in refl
     go (suc k) = unfold poll-notice in refl
 
@@ -246,10 +242,10 @@ bit-cond true = refl
 bit-cond false = refl
 
 polled : (c : ℕ) (t : Tables) → Valid t → Kept (to-poll c) t (poll-change c t)
-unfolding requests releases cancelled purged polled-denials
+unfolding requests-accepted releases-accepted requests-cancelled locks-purged polled-denials
 polled c t val =
     accepted-kept (to-poll c) t (poll-change c t) _ (poll-accepted c t) (poll-after c t val)
-    (omega (arith, poll-count t val c, bit-cond (eqb (poll-change c t .answer) 2)))
+    (omega (arith, poll-count t val c, bit-cond (eqb (poll-change c t .said .answer) 2)))
 
 -- EVERY CALL
 pub stepped : (c : Call) (t : Tables) → Valid t → Kept c t (step-of c t)

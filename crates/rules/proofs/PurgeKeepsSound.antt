@@ -14,7 +14,8 @@ use Rattle.tables.specs.State.{Tables, no-lock, lock, resource, move, grants, c
 use Rattle.tables.specs.Grants.{holders}
 use Rattle.tables.proofs.Cases.{by-cases, by-equal, clash, eqb-same}
 use Rattle.tables.proofs.Counts.{count-same, count-other, count-append, count-nil, count-step, any-intro, kept-in, kept-once, kept-out}
-use Rattle.tables.proofs.Valid.{used, StateOk, ok-at, Core, line, idle, Settled, Valid, absent, absent-lock, lock-other, locks-length, resources-length, core-move}
+use Rattle.tables.specs.Validity.{used, StateOk, Core, line, idle, Settled, Valid}
+use Rattle.tables.proofs.Valid.{ok-at, absent, absent-lock, lock-other, locks-length, resources-length, core-move}
 use Rattle.tables.proofs.ChainMembers.{chain-has, settled-other}
 use Rattle.rules.specs.Queues.{free-lock, settle}
 use Rattle.rules.specs.Calls.{stores, strong, leave-value, locks-of, purge-lock, purge-locks, stands-on, settle-all, purge-change}

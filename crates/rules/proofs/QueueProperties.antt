@@ -17,10 +17,11 @@ use Rattle.tables.specs.Grants.{fits, convert-grantable}
 use Rattle.tables.specs.Sound.{ends, chain-ends, chains-end, sound}
 use Rattle.tables.proofs.Cases.{by-cases, by-equal, clash, parts}
 use Rattle.tables.proofs.Counts.{within-le, le-within, count-same, count-from, all-at, any-intro}
-use Rattle.tables.proofs.Chains.{Present}
+use Rattle.tables.specs.Threads.{Present}
 use Rattle.tables.proofs.Written.{valid-readable, valid-sound}
 use Rattle.tables.proofs.ReadBack.{resources-word, locks-word, word-read, chain-read, lock-read}
-use Rattle.tables.proofs.Valid.{used, StateOk, Valid, line, idle, used-within}
+use Rattle.tables.specs.Validity.{used, StateOk, Valid, line, idle}
+use Rattle.tables.proofs.Valid.{used-within}
 use Rattle.tables.proofs.ChainMembers.{true-fits, state-within, on-chain}
 use Rattle.tables.proofs.Links.{next-here}
 use Rattle.rules.specs.Theorem.{IsLock, IsResource, IsChain, queue-count, home-count, kept-out, convert-head, wait-head, in-use, QueuesHold}

@@ -14,7 +14,8 @@ use Rattle.tables.specs.State.{Resource, Tables, no-lock, lock, resource, holds
 use Rattle.tables.specs.Grants.{fits, admits}
 use Rattle.tables.proofs.Cases.{by-cases, clash, eqb-same, and-right, and-intro}
 use Rattle.tables.proofs.Counts.{count-same, remove-head, count-from, nil-of-counts, same-eq, same-refl, first-passes, first-none}
-use Rattle.tables.proofs.Valid.{used, LockOk, ok-at, Core, line, idle, Settled, Valid, absent, used-within, lock-same, resource-same, locks-length, Near, Fits, core-move}
+use Rattle.tables.specs.Validity.{used, LockOk, Core, line, idle, Settled, Valid, Near}
+use Rattle.tables.proofs.Valid.{ok-at, absent, used-within, lock-same, resource-same, locks-length, Fits, core-move}
 use Rattle.tables.proofs.ChainMembers.{and-bit, on-chain, chain-has, chain-once, on-grants, on-converts, on-waits, fits-true, wait-fits}
 use Rattle.rules.specs.Queues.{find}
 use Rattle.rules.specs.Calls.{new-resource, resource-for, with-resource, holding, queued, request-on, request-change}

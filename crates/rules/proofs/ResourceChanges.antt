@@ -13,7 +13,8 @@ use Rattle.tables.specs.State.{Resource, Tables, no-value, no-resource, lock, r
 use Rattle.tables.specs.Grants.{holders, fits, convert-grantable, empty}
 use Rattle.tables.proofs.Cases.{by-cases, by-equal, clash, eqb-same, and-left, and-right}
 use Rattle.tables.proofs.Counts.{length-put, nth-put-same, nth-put-other, count-front, count-front-other, count-nil}
-use Rattle.tables.proofs.Valid.{used, StateOk, ResourceOk, Core, line, idle, Settled, used-within, ok-map}
+use Rattle.tables.specs.Validity.{used, StateOk, ResourceOk, Core, line, idle, Settled}
+use Rattle.tables.proofs.Valid.{used-within, ok-map}
 use Rattle.tables.proofs.ChainMembers.{state-within, chain-has}
 use Rattle.rules.specs.Calls.{stores, spoils, with-value, leave-value}
 use Rattle.rules.proofs.SweepLaws.{Swept}

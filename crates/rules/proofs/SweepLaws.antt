@@ -13,7 +13,8 @@ use Rattle.tables.specs.State.{Tables, lock, resource, converting, waiting, shi
 use Rattle.tables.specs.Grants.{convert-grantable, wait-grantable, empty}
 use Rattle.tables.proofs.Cases.{by-cases, eqb-same}
 use Rattle.tables.proofs.Counts.{count-same, count-append, remove-absent, remove-head, remove-append, shift-off}
-use Rattle.tables.proofs.Valid.{Core, line, idle, Settled, used-within, resource-same, locks-length, resources-length, Near, core-move}
+use Rattle.tables.specs.Validity.{Core, line, idle, Settled, Near}
+use Rattle.tables.proofs.Valid.{used-within, resource-same, locks-length, resources-length, core-move}
 use Rattle.tables.proofs.ChainMembers.{fits-true, blocked-place, settled-other, line-once, not-granted, wait-behind, wait-head}
 use Rattle.rules.specs.Queues.{granted-lock, grant-lock, grant-while, grant-converts, grant-waits, sweep}
 

@@ -7,29 +7,42 @@ use lib.Dec.{eqb, leb, ltb}
 use Rattle.modes.specs.Modes.{down}
 use Rattle.tables.specs.Lists.{within, any, keep, first, first-that, null, from}
 use Rattle.tables.specs.declared.Lock.{Lock}
-use Rattle.tables.specs.State.{Resource, Tables, name-width, value-width, no-value, lock, resource, granted, converting, blocked-lock, told, move, move-resource}
+use Rattle.tables.specs.State.{Resource, Tables, name-width, value-width, no-value, lock, resource, granted, converting, blocked-lock, unread, move, move-resource, state-free, state-granted, state-converting, state-waiting, state-denied, completion-none, completion-denied, completion-conversion-denied}
 use Rattle.tables.specs.Grants.{holders, fits, admits}
 use Rattle.tables.specs.Sound.{client-right}
 use Rattle.rules.specs.Queues.{sweep, free-lock, settle, find}
 use Rattle.rules.specs.Deadlock.{victim}
 
--- what a call comes to: a refusal, or 0; the answer and the lock number, where it gives them; and the state
-pub record Step : Type 0 where
+-- WHAT A CALL SAYS: a refusal, or 0 where it is accepted; its answer; a lock's number, or a further count; and room for one number more. What it
+-- doesn't say is zero.
+pub record Said : Type 0 where
   pub refusal : ℕ
   pub answer : ℕ
   pub number : ℕ
-  pub tables : Tables
+  pub extra : ℕ
 
-abbrev pub done : ℕ → ℕ → Tables → Step
-done a k t = record { refusal = 0; answer = a; number = k; tables = t }
+abbrev pub accepted : ℕ → ℕ → Said
+accepted a k = record { refusal = 0; answer = a; number = k; extra = 0 }
 
 -- "The first that fits is answered with zeros in all other fields; nothing lent changes."
+abbrev pub refused : ℕ → Said
+refused n = record { refusal = n; answer = 0; number = 0; extra = 0 }
+
+-- a call's step: what it says, and the state after it
+pub record Step : Type 0 where
+  pub said : Said
+  pub tables : Tables
+
+abbrev pub accepted-step : ℕ → ℕ → Tables → Step
+accepted-step a k t = record { said = accepted a k; tables = t }
+
+-- a refusal n unless b holds, else the rest
 unfoldable pub unless : Bool → ℕ → ℕ → ℕ
 unless b n rest = cond b rest n
 
 unfoldable pub refused-or : ℕ → Step → Tables → Step
 refused-or zero s t = s
-refused-or (suc n) s t = record { refusal = suc n; answer = 0; number = 0; tables = t }
+refused-or (suc n) s t = record { said = refused (suc n); tables = t }
 
 -- FLAGS. 1 store the value, 2 make it not valid, 4 don't queue; any other bit isn't allowed.
 unfoldable pub stores : ℕ → Bool
@@ -59,7 +72,7 @@ value-right f v = not (stores f) || eqb (length v) value-width
 
 -- a lock that is in use, and the client's
 unfoldable pub own : ℕ → ℕ → Tables → Bool
-own c k t = within (length (t .locks)) k && not (eqb (lock t k .state) 0) && eqb (lock t k .client) c
+own c k t = within (length (t .locks)) k && not (eqb (lock t k .state) state-free) && eqb (lock t k .client) c
 
 -- THE VALUE BLOCK. PW and EX are the modes that may leave a value.
 unfoldable pub strong : ℕ → Bool
@@ -85,7 +98,7 @@ leave-value acts f v r t = elim acts [ true ↦ move-resource r (with-value f v 
 abbrev pub new-resource : List ℕ → Resource
 new-resource n = record { name = n; value = no-value; valid = 1; grant = []; convert = []; wait = [] }
 
--- with the resource of that name, or 0: the resource to stand on, and the state that has it
+-- the first argument is the resource of that name, or 0: the resource that the lock will stand on, and the state that has that resource
 unfoldable pub resource-for : ℕ → Tables → ℕ
 resource-for zero t = first (t .free-resources)
 resource-for (suc r) t = suc r
@@ -95,34 +108,39 @@ with-resource zero n t = move-resource (first (t .free-resources)) (new-resource
 with-resource (suc r) n t = t
 
 abbrev pub holding : ℕ → ℕ → ℕ → Lock
-holding r c m = record { resource = r; client = c; state = 1; held = m; asked = 0; completion = 0 }
+holding r c m = record { resource = r; client = c; state = state-granted; held = m; asked = 0; completion = completion-none }
 
 abbrev pub queued : ℕ → ℕ → ℕ → Lock
-queued r c m = record { resource = r; client = c; state = 3; held = 0; asked = m; completion = 0 }
+queued r c m = record { resource = r; client = c; state = state-waiting; held = 0; asked = m; completion = completion-none }
 
 -- the lock k is granted (answer 1) if the convert chain is empty and the mode is compatible with every held mode; else it waits (2)
 unfoldable pub request-on : ℕ → ℕ → ℕ → ℕ → Tables → Step
 request-on r k c m t =
-    elim (admits t r m) [ true ↦ done 1 k (move r k (holding r c m) t) | false ↦ done 2 k (move r k (queued r c m) t) ]
+    elim (admits t r m) [ true ↦ accepted-step 1 k (move r k (holding r c m) t) | false ↦ accepted-step 2 k (move r k (queued r c m) t) ]
 
 unfoldable pub request-change : ℕ → ℕ → List ℕ → Tables → Step
 request-change c m n t = request-on (resource-for (find n t) t) (first (t .free-locks)) c m (with-resource (find n t) n t)
+
+-- a request of the mode m would be granted at once, on the resource r of its name; on a new name, r = 0, nobody is in its way
+unfoldable pub at-once : ℕ → ℕ → Tables → Bool
+at-once zero m t = true
+at-once (suc r) m t = admits t (suc r) m
 
 unfoldable pub request-refusal : ℕ → ℕ → ℕ → List ℕ → Tables → ℕ
 request-refusal c m f n t =
     unless (client-right c) 3 (unless (leb m 5) 4 (unless (request-flags f) 5 (unless (name-right n) 6
     (unless (not (eqb (find n t) 0) || not (null (t .free-resources))) 11 (unless (not (null (t .free-locks))) 12
-    (unless (not (no-queue f) || admits t (find n t) m) 13 0))))))
+    (unless (not (no-queue f) || at-once (find n t) m t) 13 0))))))
 
 unfoldable pub request : ℕ → ℕ → ℕ → List ℕ → Tables → Step
 request c m f n t = refused-or (request-refusal c m f n t) (request-change c m n t) t
 
 -- CONVERT
 abbrev pub held-at : ℕ → Lock → Lock
-held-at m l = record { resource = l .resource; client = l .client; state = 1; held = m; asked = 0; completion = 0 }
+held-at m l = record { resource = l .resource; client = l .client; state = state-granted; held = m; asked = 0; completion = completion-none }
 
 abbrev pub asking : ℕ → Lock → Lock
-asking m l = record { resource = l .resource; client = l .client; state = 2; held = l .held; asked = m; completion = 0 }
+asking m l = record { resource = l .resource; client = l .client; state = state-converting; held = l .held; asked = m; completion = completion-none }
 
 -- "Down: in place. Else, if the convert chain is empty and the mode is compatible with every other held mode, in place."
 unfoldable pub in-place : ℕ → ℕ → Tables → Bool
@@ -133,14 +151,14 @@ unfoldable pub convert-change : ℕ → ℕ → ℕ → List ℕ → Tables → 
 convert-change k m f v t =
     let r = lock t k .resource in
     elim (in-place k m t) [
-      | true ↦ done 1 0 (sweep r (move r k (held-at m (lock t k)) (leave-value (strong (lock t k .held) && ltb m (lock t k .held)) f v r t)))
-      | false ↦ done 2 0 (move r k (asking m (lock t k)) t)
+      | true ↦ accepted-step 1 0 (sweep r (move r k (held-at m (lock t k)) (leave-value (strong (lock t k .held) && ltb m (lock t k .held)) f v r t)))
+      | false ↦ accepted-step 2 0 (move r k (asking m (lock t k)) t)
     ]
 
 unfoldable pub convert-refusal : ℕ → ℕ → ℕ → ℕ → List ℕ → Tables → ℕ
 convert-refusal c k m f v t =
     unless (client-right c) 3 (unless (leb m 5) 4 (unless (convert-flags f) 5 (unless (value-right f v) 7 (unless (own c k t) 8
-    (unless (not (told (lock t k))) 9 (unless (granted (lock t k)) 10 (unless (not (no-queue f) || in-place k m t) 13 0)))))))
+    (unless (not (unread (lock t k))) 9 (unless (granted (lock t k)) 10 (unless (not (no-queue f) || in-place k m t) 13 0)))))))
 
 unfoldable pub convert : ℕ → ℕ → ℕ → ℕ → List ℕ → Tables → Step
 convert c k m f v t = refused-or (convert-refusal c k m f v t) (convert-change k m f v t) t
@@ -149,31 +167,31 @@ convert c k m f v t = refused-or (convert-refusal c k m f v t) (convert-change k
 unfoldable pub release-change : ℕ → ℕ → List ℕ → Tables → Step
 release-change k f v t =
     let r = lock t k .resource in
-    done 0 0 (settle r (free-lock k (leave-value (strong (lock t k .held)) f v r t)))
+    accepted-step 0 0 (settle r (free-lock k (leave-value (strong (lock t k .held)) f v r t)))
 
 unfoldable pub release-refusal : ℕ → ℕ → ℕ → List ℕ → Tables → ℕ
 release-refusal c k f v t =
     unless (client-right c) 3 (unless (release-flags f) 5 (unless (value-right f v) 7 (unless (own c k t) 8
-    (unless (not (told (lock t k))) 9 (unless (granted (lock t k)) 10 0)))))
+    (unless (not (unread (lock t k))) 9 (unless (granted (lock t k)) 10 0)))))
 
 unfoldable pub release : ℕ → ℕ → ℕ → List ℕ → Tables → Step
 release c k f v t = refused-or (release-refusal c k f v t) (release-change k f v t) t
 
 -- CANCEL. Back on the grant chain at the mode it held, with a completion.
 abbrev pub restored : ℕ → Lock → Lock
-restored e l = record { resource = l .resource; client = l .client; state = 1; held = l .held; asked = 0; completion = e }
+restored e l = record { resource = l .resource; client = l .client; state = state-granted; held = l .held; asked = 0; completion = e }
 
 unfoldable pub cancel-change : ℕ → Tables → Step
 cancel-change k t =
     let r = lock t k .resource in
     elim (converting (lock t k)) [
-      | true ↦ done 1 0 (sweep r (move r k (restored 0 (lock t k)) t))
-      | false ↦ done 2 0 (sweep r (free-lock k t))
+      | true ↦ accepted-step 1 0 (sweep r (move r k (restored completion-none (lock t k)) t))
+      | false ↦ accepted-step 2 0 (sweep r (free-lock k t))
     ]
 
 unfoldable pub cancel-refusal : ℕ → ℕ → Tables → ℕ
 cancel-refusal c k t =
-    unless (client-right c) 3 (unless (own c k t) 8 (unless (not (told (lock t k))) 9 (unless (blocked-lock (lock t k)) 10 0)))
+    unless (client-right c) 3 (unless (own c k t) 8 (unless (not (unread (lock t k))) 9 (unless (blocked-lock (lock t k)) 10 0)))
 
 unfoldable pub cancel : ℕ → ℕ → Tables → Step
 cancel c k t = refused-or (cancel-refusal c k t) (cancel-change k t) t
@@ -200,7 +218,7 @@ settle-all (r ∷ rs) t = settle-all rs (settle r t)
 
 unfoldable pub purge-change : ℕ → Tables → Step
 purge-change c t =
-    done (length (locks-of c t)) 0
+    accepted-step (length (locks-of c t)) 0
     (settle-all (keep (stands-on c t) (from 1 (length (t .resources)))) (purge-locks (locks-of c t) t))
 
 unfoldable pub purge-refusal : ℕ → ℕ
@@ -211,39 +229,39 @@ purge c t = refused-or (purge-refusal c) (purge-change c t) t
 
 -- BREAK
 abbrev pub denied-lock : Lock → Lock
-denied-lock l = record { resource = 0; client = l .client; state = 4; held = 0; asked = 0; completion = 2 }
+denied-lock l = record { resource = 0; client = l .client; state = state-denied; held = 0; asked = 0; completion = completion-denied }
 
 -- "Denied waiting: to the denied chain, completion 2. Denied converting: back to the grant chain, completion 3."
 unfoldable pub deny : ℕ → Tables → Tables
 deny k t =
     let r = lock t k .resource in
     elim (converting (lock t k)) [
-      | true ↦ sweep r (move r k (restored 3 (lock t k)) t)
+      | true ↦ sweep r (move r k (restored completion-conversion-denied (lock t k)) t)
       | false ↦ sweep r (move r k (denied-lock (lock t k)) t)
     ]
 
 unfoldable pub deny-victim : ℕ → Tables → Step
-deny-victim zero t = done 0 0 t
-deny-victim (suc k) t = done (suc k) 0 (deny (suc k) t)
+deny-victim zero t = accepted-step 0 0 t
+deny-victim (suc k) t = accepted-step (suc k) 0 (deny (suc k) t)
 
 unfoldable pub break : Tables → Step
 break t = deny-victim (victim t) t
 
 -- POLL
 abbrev pub notice-read : Lock → Lock
-notice-read l = record { resource = l .resource; client = l .client; state = l .state; held = l .held; asked = l .asked; completion = 0 }
+notice-read l = record { resource = l .resource; client = l .client; state = l .state; held = l .held; asked = l .asked; completion = completion-none }
 
 -- "Completion 2 frees the lock."
 unfoldable pub take-notice : ℕ → Tables → Tables
 take-notice k t =
-    elim (eqb (lock t k .completion) 2) [
+    elim (eqb (lock t k .completion) completion-denied) [
       | true ↦ free-lock k t
       | false ↦ move (lock t k .resource) k (notice-read (lock t k)) t
     ]
 
 unfoldable pub poll-notice : ℕ → Tables → Step
-poll-notice zero t = done 0 0 t
-poll-notice (suc k) t = done (lock t (suc k) .completion) (suc k) (take-notice (suc k) t)
+poll-notice zero t = accepted-step completion-none 0 t
+poll-notice (suc k) t = accepted-step (lock t (suc k) .completion) (suc k) (take-notice (suc k) t)
 
 unfoldable pub poll-change : ℕ → Tables → Step
 poll-change c t = poll-notice (first-that (λ k. eqb (lock t k .client) c) (t .notices)) t

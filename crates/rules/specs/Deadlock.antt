@@ -1,15 +1,15 @@
 -- Deadlock: a blocked lock that leads back to itself.
 use mathlib.Core.Bool.{Bool, true, false, _&&_, _||_, not, cond}
 use mathlib.Core.List.{List, [], _∷_, _++_}
-use Prim.Native.Nat.{ℕ}
+use Prim.Native.Nat.{ℕ, _≤_}
 use lib.ListN.{length}
 use lib.Dec.{eqb}
 use Rattle.modes.specs.Modes.{compatible}
-use Rattle.tables.specs.Lists.{any, keep, first-that}
+use Rattle.tables.specs.Lists.{count, any, keep, first-that}
 use Rattle.tables.specs.declared.Lock.{Lock}
 use Rattle.tables.specs.State.{Tables, lock, resource, waiting, blocked-lock}
 use Rattle.tables.specs.Grants.{holders}
-use Rattle.rules.specs.Walks.{reaches}
+use Rattle.rules.specs.Walks.{reaches, Walk}
 
 -- those before k
 unfoldable pub before : ℕ → List ℕ → List ℕ
@@ -27,7 +27,7 @@ unfoldable pub obstacles : Tables → ℕ → List ℕ
 obstacles t a =
     keep (λ j. not (eqb j a) && not (compatible (lock t j .held) (lock t a .asked))) (holders t (lock t a .resource))
 
--- who has a lock; a lock leads to those of the owners that are in its way
+-- who owns a lock; a blocked lock leads to the blocked locks of the owners that are in its way
 abbrev pub owner : Lock → ℕ
 owner l = l .client
 
@@ -43,3 +43,13 @@ deadlocked t a = reaches (leads t) (t .blocked) (length (t .blocked)) a a
 -- "the first lock on the blocked chain that leads back to itself", or 0
 unfoldable pub victim : Tables → ℕ
 victim t = first-that (deadlocked t) (t .blocked)
+
+-- WHAT THE SEARCH FINDS, of whatever length a cycle is. k is the first lock on the blocked chain that leads back to itself in one or more steps
+pub record Victim (t : Tables) (k : ℕ) : Type 0 where
+  pub stands : 1 ≤ count k (t .blocked)
+  pub cycle : Walk (leads t) (t .blocked) k k
+  pub first : (j : ℕ) → 1 ≤ count j (before k (t .blocked)) → Walk (leads t) (t .blocked) j j → ⊥
+
+-- no blocked lock leads back to itself
+pub record NoCycle (t : Tables) : Type 0 where
+  pub none : (a : ℕ) → 1 ≤ count a (t .blocked) → Walk (leads t) (t .blocked) a a → ⊥

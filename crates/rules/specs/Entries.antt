@@ -1,4 +1,5 @@
 -- The entries on lent words and slots: what each gives back and leaves in them. The code's contracts cite these.
+use mathlib.Core.Path.{_≡_}
 use mathlib.Core.Bool.{Bool, true, false, _&&_}
 use mathlib.Core.List.{List, [], _∷_, _++_, map}
 use Prim.Native.Nat.{ℕ, zero, suc, _*_}
@@ -9,32 +10,44 @@ use Rattle.tables.specs.State.{Tables, no-value, lock, resource, started, holds
 use Rattle.tables.specs.Layout.{size, slot-width, words, slots, read}
 use Rattle.tables.specs.Grants.{holders}
 use Rattle.tables.specs.Sound.{client-right, sound}
-use Rattle.rules.specs.Calls.{Step, unless, own, request, convert, release, cancel, purge, break, poll}
+use Rattle.rules.specs.Calls.{Said, accepted, refused, Step, unless, own, request, convert, release, cancel, purge, break, poll}
 
--- an answer, and what the lent tables then hold. Refusal 0: accepted.
-pub record Outcome : Type 0 where
-  pub refusal : ℕ
-  pub answer : ℕ
-  pub number : ℕ
+-- WHAT A CALL IS LENT: the words and the slots
+pub record Lent : Type 0 where
   pub words : List ℕ
   pub slots : List ℕ
 
-abbrev pub refused : ℕ → List ℕ → List ℕ → Outcome
-refused n ws ss = record { refusal = n; answer = 0; number = 0; words = ws; slots = ss }
+abbrev pub lent : List ℕ → List ℕ → Lent
+lent ws ss = record { words = ws; slots = ss }
+
+-- the written form of a state
+abbrev pub lent-of : Tables → Lent
+lent-of t = lent (words t) (slots t)
+
+-- an entry's outcome: what it says, and what the lent tables then hold
+pub record Outcome : Type 0 where
+  pub said : Said
+  pub lent-after : Lent
+
+abbrev pub outcome : Said → Lent → Outcome
+outcome x t = record { said = x; lent-after = t }
+
+-- a call's step, its state written
+abbrev pub written : Step → Outcome
+written s = outcome (s .said) (lent-of (s .tables))
 
 -- a call's step on the state of sound tables is written back, or nothing is changed where it is refused
-unfoldable pub written-back : ℕ → Step → List ℕ → List ℕ → Outcome
-written-back zero s ws ss =
-    record { refusal = 0; answer = s .answer; number = s .number; words = words (s .tables); slots = slots (s .tables) }
-written-back (suc n) s ws ss = refused (suc n) ws ss
+unfoldable pub written-back : ℕ → Step → Lent → Outcome
+written-back zero s t = written s
+written-back (suc n) s t = outcome (refused (suc n)) t
 
-unfoldable pub if-sound : Bool → (Tables → Step) → List ℕ → List ℕ → Outcome
-if-sound false call ws ss = refused 1 ws ss
-if-sound true call ws ss = written-back (call (read ws ss) .refusal) (call (read ws ss)) ws ss
+unfoldable pub if-sound : Bool → (Tables → Step) → Lent → Outcome
+if-sound false call t = outcome (refused 1) t
+if-sound true call t = let s = call (read (t .words) (t .slots)) in written-back (s .said .refusal) s t
 
-unfoldable pub entry : (Tables → Step) → List ℕ → List ℕ → Outcome
+unfoldable pub entry : (Tables → Step) → Lent → Outcome
 unfolding if-sound
-entry call ws ss = if-sound (sound ws ss) call ws ss
+entry call t = if-sound (sound (t .words) (t .slots)) call t
 
 -- THE SEVEN CALLS
 pub data Call : Type 0 where
@@ -46,6 +59,31 @@ pub data Call : Type 0 where
   to-break : Call
   to-poll : (client : ℕ) → Call
 
+-- what kind of call it is
+pub data Kind : Type 0 where
+  a-request a-convert a-release a-cancel a-purge a-break a-poll : Kind
+
+abbrev pub kind : Call → Kind
+kind (to-request c m f n) = a-request
+kind (to-convert c k m f v) = a-convert
+kind (to-release c k f v) = a-release
+kind (to-cancel c k) = a-cancel
+kind (to-purge c) = a-purge
+kind to-break = a-break
+kind (to-poll c) = a-poll
+
+abbrev pub kind-number : Kind → ℕ
+kind-number a-request = 1
+kind-number a-convert = 2
+kind-number a-release = 3
+kind-number a-cancel = 4
+kind-number a-purge = 5
+kind-number a-break = 6
+kind-number a-poll = 7
+
+abbrev pub same-kind : Kind → Kind → Bool
+same-kind j k = eqb (kind-number j) (kind-number k)
+
 abbrev pub step-of : Call → Tables → Step
 step-of (to-request c m f n) t = request c m f n t
 step-of (to-convert c k m f v) t = convert c k m f v t
@@ -55,43 +93,28 @@ step-of (to-purge c) t = purge c t
 step-of to-break t = break t
 step-of (to-poll c) t = poll c t
 
-unfoldable pub call-entry : Call → List ℕ → List ℕ → Outcome
+-- THE ENTRY of a call: what it says and leaves, of whatever it is lent
+unfoldable pub call-entry : Call → Lent → Outcome
 unfolding entry
-call-entry c ws ss = entry (step-of c) ws ss
+call-entry c t = entry (step-of c) t
 
-abbrev pub request-entry : List ℕ → List ℕ → ℕ → ℕ → ℕ → List ℕ → Outcome
-request-entry ws ss c m f n = call-entry (to-request c m f n) ws ss
-
-abbrev pub convert-entry : List ℕ → List ℕ → ℕ → ℕ → ℕ → ℕ → List ℕ → Outcome
-convert-entry ws ss c k m f v = call-entry (to-convert c k m f v) ws ss
-
-abbrev pub release-entry : List ℕ → List ℕ → ℕ → ℕ → ℕ → List ℕ → Outcome
-release-entry ws ss c k f v = call-entry (to-release c k f v) ws ss
-
-abbrev pub cancel-entry : List ℕ → List ℕ → ℕ → ℕ → Outcome
-cancel-entry ws ss c k = call-entry (to-cancel c k) ws ss
-
-abbrev pub purge-entry : List ℕ → List ℕ → ℕ → Outcome
-purge-entry ws ss c = call-entry (to-purge c) ws ss
-
-abbrev pub break-entry : List ℕ → List ℕ → Outcome
-break-entry ws ss = call-entry to-break ws ss
-
-abbrev pub poll-entry : List ℕ → List ℕ → ℕ → Outcome
-poll-entry ws ss c = call-entry (to-poll c) ws ss
+-- THE CONTRACT of a call's entry, which was lent t, said x and left u. The contract of each of the seven entries cites it, and a run of the
+-- program is made of it (queue_theorem/Runs).
+abbrev pub Keeps : Call → Lent → Said → Lent → Type 0
+Keeps c t x u = outcome x u ≡ call-entry c t
 
 -- START. Its tables may hold anything before; 2 where R, L or a length is wrong.
 unfoldable pub start-accepts : List ℕ → List ℕ → ℕ → ℕ → Bool
 start-accepts ws ss r l =
     leb 1 r && leb r 256 && leb 1 l && leb l 1024 && eqb (length ws) (size r l) && eqb (length ss) (slot-width * r)
 
-unfoldable pub start-if : Bool → List ℕ → List ℕ → ℕ → ℕ → Outcome
-start-if false ws ss r l = refused 2 ws ss
-start-if true ws ss r l = record { refusal = 0; answer = 0; number = 0; words = words (started r l); slots = slots (started r l) }
+unfoldable pub start-if : Bool → Lent → ℕ → ℕ → Outcome
+start-if false t r l = outcome (refused 2) t
+start-if true t r l = outcome (accepted 0 0) (lent-of (started r l))
 
-unfoldable pub start-entry : List ℕ → List ℕ → ℕ → ℕ → Outcome
+unfoldable pub start-entry : Lent → ℕ → ℕ → Outcome
 unfolding start-accepts start-if
-start-entry ws ss r l = start-if (start-accepts ws ss r l) ws ss r l
+start-entry t r l = start-if (start-accepts (t .words) (t .slots) r l) t r l
 
 -- READ: the 32 bytes and validity; zeros where refused
 pub record Reading : Type 0 where

@@ -10,8 +10,8 @@ use Rattle.tables.specs.Layout.{size, slot-width, flat-map, read}
 use Rattle.tables.specs.Grants.{holders}
 use Rattle.tables.specs.Sound.{sound}
 use Rattle.rules.specs.Queues.{find}
-use Rattle.rules.specs.Calls.{unless, name-right}
-use Rattle.rules.specs.Entries.{Outcome, refused}
+use Rattle.rules.specs.Calls.{accepted, refused, unless, name-right}
+use Rattle.rules.specs.Entries.{Lent, lent, Outcome, outcome}
 
 -- a word little-endian
 abbrev pub word-bytes : ℕ → List ℕ
@@ -64,13 +64,13 @@ load-refusal bs ws ss =
     unless (image-sound bs) 1
     (unless (eqb (length ws) (length (image-words bs)) && eqb (length ss) (length (image-slots bs))) 14 0)
 
-unfoldable pub load-into : ℕ → List ℕ → List ℕ → List ℕ → Outcome
-load-into zero bs ws ss = record { refusal = 0; answer = 0; number = 0; words = image-words bs; slots = image-slots bs }
-load-into (suc n) bs ws ss = refused (suc n) ws ss
+unfoldable pub load-into : ℕ → List ℕ → Lent → Outcome
+load-into zero bs t = outcome (accepted 0 0) (lent (image-words bs) (image-slots bs))
+load-into (suc n) bs t = outcome (refused (suc n)) t
 
-unfoldable pub load-entry : List ℕ → List ℕ → List ℕ → Outcome
+unfoldable pub load-entry : List ℕ → Lent → Outcome
 unfolding load-refusal load-into
-load-entry bs ws ss = load-into (load-refusal bs ws ss) bs ws ss
+load-entry bs t = load-into (load-refusal bs (t .words) (t .slots)) bs t
 
 -- HOLDER: the client that holds EX on that name, or 0; no lock has the number 0, nor a client
 abbrev pub ex : ℕ

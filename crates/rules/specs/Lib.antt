@@ -6,3 +6,4 @@ pub mod Entries
 pub mod Images
 pub mod Theorem
 pub mod Bench
+pub mod Accepted

@@ -1,90 +1,55 @@
 -- The queue theorem (document 01's demand 3): what holds of the words and slots after every list of the seven calls from fresh tables.
 use mathlib.Core.Path.{_≡_}
 use mathlib.Core.Logic.{_≢_}
-use mathlib.Core.Bool.{Bool, true, _&&_, not}
+use mathlib.Core.Bool.{Bool, true, _&&_, not, cond}
 use mathlib.Core.List.{List, [], _∷_}
 use Prim.Native.Nat.{ℕ, zero, suc, _+_, _≤_}
 use lib.ListN.{length}
 use lib.Dec.{eqb}
 use Rattle.modes.specs.Modes.{compatible}
 use Rattle.tables.specs.Lists.{count, bit, any, keep, from}
-use Rattle.tables.specs.State.{holds, grants, converts, waits, LockChain, free-locks, denied, blocked, notices, queue, of-locks}
+use Rattle.tables.specs.State.{holds, grants, converts, waits, LockChain, free-locks, denied, blocked, notices, queue, of-locks, state-free, completion-denied}
 use Rattle.tables.specs.Layout.{of-resource, resources-in, locks-in, word-in, link-in, read-chain, read-lock}
 use Rattle.tables.specs.Sound.{ends, sound}
-use Rattle.rules.specs.Entries.{Outcome, Call, to-request, to-convert, to-release, to-cancel, to-purge, to-break, to-poll, call-entry}
+use Rattle.rules.specs.Calls.{Said}
+use Rattle.rules.specs.Entries.{Lent, Call, Kind, kind, same-kind, a-request, a-release, a-cancel, a-purge, a-poll, call-entry, start-entry}
 
 -- THE LIST. Each call gets the words and slots that the one before it left.
-pub record Lent : Type 0 where
-  pub words : List ℕ
-  pub slots : List ℕ
+unfoldable pub lent-after-calls : List Call → Lent → Lent
+lent-after-calls [] t = t
+lent-after-calls (c ∷ cs) t = lent-after-calls cs (call-entry c t .lent-after)
 
-abbrev pub outcome : Call → Lent → Outcome
-outcome c t = call-entry c (t .words) (t .slots)
+-- a number that each call comes to by what it says, summed over the list
+unfoldable pub sum-of : (Call → Said → ℕ) → List Call → Lent → ℕ
+sum-of term [] t = 0
+sum-of term (c ∷ cs) t = let o = call-entry c t in term c (o .said) + sum-of term cs (o .lent-after)
 
-abbrev pub left : Outcome → Lent
-left o = record { words = o .words; slots = o .slots }
+-- a number that calls of one kind come to, and no others
+abbrev pub for-kind : Kind → Call → ℕ → ℕ
+for-kind k c n = cond (same-kind k (kind c)) n 0
 
-unfoldable pub after : List Call → Lent → Lent
-after [] t = t
-after (c ∷ cs) t = after cs (left (outcome c t))
+-- WHAT IS SUMMED. "a call is accepted if it isn't refused"
+unfoldable pub requests-accepted : Call → Said → ℕ
+requests-accepted c s = for-kind a-request c (bit (eqb (s .refusal) 0))
 
--- a number that each call comes to by its refusal and its answer, summed over the list
-unfoldable pub sum-of : (Call → ℕ → ℕ → ℕ) → List Call → Lent → ℕ
-sum-of number [] t = 0
-sum-of number (c ∷ cs) t =
-    let o = outcome c t in
-    number c (o .refusal) (o .answer) + sum-of number cs (left o)
+unfoldable pub releases-accepted : Call → Said → ℕ
+releases-accepted c s = for-kind a-release c (bit (eqb (s .refusal) 0))
 
--- What is summed: accepted requests and releases ("a call is accepted if it isn't refused"), "cancels answering 2", "the counts of freed locks that
--- purges answer", "polls answering completion 2".
-unfoldable pub requests : Call → ℕ → ℕ → ℕ
-requests (to-request c m f n) refusal answer = bit (eqb refusal 0)
-requests (to-convert c k m f v) refusal answer = 0
-requests (to-release c k f v) refusal answer = 0
-requests (to-cancel c k) refusal answer = 0
-requests (to-purge c) refusal answer = 0
-requests to-break refusal answer = 0
-requests (to-poll c) refusal answer = 0
+-- "requests cancelled are cancels answering 2"
+unfoldable pub requests-cancelled : Call → Said → ℕ
+requests-cancelled c s = for-kind a-cancel c (bit (eqb (s .answer) 2))
 
-unfoldable pub releases : Call → ℕ → ℕ → ℕ
-releases (to-request c m f n) refusal answer = 0
-releases (to-convert c k m f v) refusal answer = 0
-releases (to-release c k f v) refusal answer = bit (eqb refusal 0)
-releases (to-cancel c k) refusal answer = 0
-releases (to-purge c) refusal answer = 0
-releases to-break refusal answer = 0
-releases (to-poll c) refusal answer = 0
+-- "locks purged are the counts of freed locks that purges answer, summed"
+unfoldable pub locks-purged : Call → Said → ℕ
+locks-purged c s = for-kind a-purge c (s .answer)
 
-unfoldable pub cancelled : Call → ℕ → ℕ → ℕ
-cancelled (to-request c m f n) refusal answer = 0
-cancelled (to-convert c k m f v) refusal answer = 0
-cancelled (to-release c k f v) refusal answer = 0
-cancelled (to-cancel c k) refusal answer = bit (eqb answer 2)
-cancelled (to-purge c) refusal answer = 0
-cancelled to-break refusal answer = 0
-cancelled (to-poll c) refusal answer = 0
-
-unfoldable pub purged : Call → ℕ → ℕ → ℕ
-purged (to-request c m f n) refusal answer = 0
-purged (to-convert c k m f v) refusal answer = 0
-purged (to-release c k f v) refusal answer = 0
-purged (to-cancel c k) refusal answer = 0
-purged (to-purge c) refusal answer = answer
-purged to-break refusal answer = 0
-purged (to-poll c) refusal answer = 0
-
-unfoldable pub polled-denials : Call → ℕ → ℕ → ℕ
-polled-denials (to-request c m f n) refusal answer = 0
-polled-denials (to-convert c k m f v) refusal answer = 0
-polled-denials (to-release c k f v) refusal answer = 0
-polled-denials (to-cancel c k) refusal answer = 0
-polled-denials (to-purge c) refusal answer = 0
-polled-denials to-break refusal answer = 0
-polled-denials (to-poll c) refusal answer = bit (eqb answer 2)
+-- "polled denials are polls answering completion 2"
+unfoldable pub polled-denials : Call → Said → ℕ
+polled-denials c s = for-kind a-poll c (bit (eqb (s .answer) completion-denied))
 
 -- "Locks in use are those that aren't free after the list."
 unfoldable pub in-use : List ℕ → ℕ
-in-use ws = length (keep (λ k. not (eqb (read-lock ws k .state) 0)) (from 1 (locks-in ws)))
+in-use ws = length (keep (λ k. not (eqb (read-lock ws k .state) state-free)) (from 1 (locks-in ws)))
 
 -- THE WORDS. A lock and a resource of the tables
 pub record IsLock (ws : List ℕ) (k : ℕ) : Type 0 where
@@ -141,8 +106,14 @@ pub record QueuesHold (ws ss : List ℕ) : Type 0 where
   pub convert-heads : (r : ℕ) → IsResource ws r → convert-head ws r ≢ 0 → kept-out ws r (convert-head ws r) (read-lock ws (convert-head ws r) .asked) ≡ true
   pub wait-heads : (r : ℕ) → IsResource ws r → wait-head ws r ≢ 0 → convert-head ws r ≡ 0 → kept-out ws r 0 (read-lock ws (wait-head ws r) .asked) ≡ true
 
--- one statement about a list of calls on the tables t
+-- DEMAND 3, one statement about a list of calls on the tables t
 pub record Demand (cs : List Call) (t : Lent) : Type 0 where
-  pub queues : QueuesHold (after cs t .words) (after cs t .slots)
+  pub queues : QueuesHold (lent-after-calls cs t .words) (lent-after-calls cs t .slots)
   -- (e) accepted requests = locks in use + releases + requests cancelled + locks purged + polled denials
-  pub balance : sum-of requests cs t ≡ in-use (after cs t .words) + sum-of releases cs t + sum-of cancelled cs t + sum-of purged cs t + sum-of polled-denials cs t
+  pub balance : sum-of requests-accepted cs t
+      ≡ in-use (lent-after-calls cs t .words) + sum-of releases-accepted cs t + sum-of requests-cancelled cs t + sum-of locks-purged cs t + sum-of polled-denials cs t
+
+-- THE QUEUE THEOREM: it holds of every list of calls on the tables that `start` leaves, wherever it accepts. Proved as `queue-theorem`.
+abbrev pub QueueTheorem : Type 0
+QueueTheorem =
+    (t : Lent) (r l : ℕ) → start-entry t r l .said .refusal ≡ 0 → (cs : List Call) → Demand cs (start-entry t r l .lent-after)

@@ -1,1 +1,1 @@
-// The rules of the lock manager: definitions in specs/, laws in proofs/. Nothing of it is code.
+// The rules of the lock manager: definitions in specs/, laws in proofs/. This crate has no code.

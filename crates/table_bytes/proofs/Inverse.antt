@@ -6,7 +6,7 @@ use native.Mathlib.Omega.{arith}
 use native.Mathlib.Nat.{div-add-mod, div-div-eq-div-mul, mod-eq-of-lt}
 use lib.ListN.{length, getD, take}
 use Rattle.tables.specs.Lists.{from}
-use Rattle.tables.proofs.Links.{Each}
+use Rattle.tables.specs.Threads.{Each}
 use Rattle.rules.specs.Images.{word-bytes, word-from}
 use Rattle.table_bytes.specs.Bytes.{encoded, decoded}
 

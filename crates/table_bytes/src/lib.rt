@@ -42,7 +42,7 @@ pub fn word_at(bytes: &[u8], at: usize) -> u32
         + 16777216 * of_byte(bytes[at + 3])
 }
 
-// The area, which is as long, becomes the bytes of the words.
+// The area, which has the length for it, becomes the bytes of the words.
 pub fn encode(words: &[u32], area: &mut [u8])
     requires { ⌜ length (now area) ≡ 4 * length (now words) ⌝ }
     ensures { λ _. ⌜ now (area .exit) ≡ encoded (now (words .entry)) ⌝ }

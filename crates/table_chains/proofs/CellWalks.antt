@@ -9,10 +9,10 @@ use native.Mathlib.Decide.{ℕ-discrete}
 use lib.ListN.{getD, set, length}
 use borrow.Author.Needs.{needs}
 use borrow.Author.Tests.{eq-eqb, ne-eqb}
-use Rattle.tables.proofs.ChainWalk.{cell-holding, cell-at, Safe}
-use Rattle.tables.proofs.WordSteps.{push-cells, leave-cells, join-cells}
-use Rattle.tables.proofs.MoveSteps.{shift-cells, arrive-cells}
-use Rattle.tables.proofs.ResourceMoved.{front-cells}
+use Rattle.tables.specs.Stores.{cell-holding, cell-at, Safe}
+use Rattle.tables.specs.Stores.{push-cells, leave-cells, join-cells}
+use Rattle.tables.specs.Stores.{shift-cells, arrive-cells}
+use Rattle.tables.specs.Stores.{front-cells}
 use Rattle.table_fields.specs.Sizes.{Kept}
 use Rattle.table_fields.proofs.Laws.{kept-set, kept-all}
 use Rattle.table_chains.specs.declared.Cells.{Cells}

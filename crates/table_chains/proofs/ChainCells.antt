@@ -7,13 +7,18 @@ use native.Mathlib.Omega.{arith}
 use lib.ListN.{getD, length}
 use Rattle.tables.specs.State.{Tables, free-locks, denied, blocked, notices, queue, Chain, free-resources, of-locks, chain-of}
 use Rattle.tables.specs.Layout.{Address, place, size, head, link, cell, words, resources-in, locks-in, most}
-use Rattle.tables.proofs.Links.{Absent, each-on}
-use Rattle.tables.proofs.Grid.{Within, place-size}
-use Rattle.tables.proofs.Chains.{In}
-use Rattle.tables.proofs.WordChanges.{length-words, Stands, Threaded}
-use Rattle.tables.proofs.ChainWalk.{Safe, walk-safe}
+use Rattle.tables.specs.Threads.{Absent}
+use Rattle.tables.proofs.Links.{each-on}
+use Rattle.tables.specs.Threads.{Within}
+use Rattle.tables.proofs.Grid.{place-size}
+use Rattle.tables.specs.Threads.{In}
+use Rattle.tables.specs.Threads.{Stands, Threaded}
+use Rattle.tables.proofs.WordChanges.{length-words}
+use Rattle.tables.specs.Stores.{Safe}
+use Rattle.tables.proofs.ChainWalk.{walk-safe}
 use Rattle.tables.proofs.ReadBack.{resources-word, locks-word, chain-most}
-use Rattle.tables.proofs.WordSteps.{cell-place, cells-are}
+use Rattle.tables.specs.Stores.{cell-place}
+use Rattle.tables.proofs.WordSteps.{cells-are}
 use Rattle.table_fields.specs.Sizes.{Sized, Kept}
 use Rattle.table_chains.specs.declared.Cells.{Cells}
 use Rattle.table_chains.specs.Cells.{cell-of, cells-at, lock-cells, Walks, Leaves, Pushes}

@@ -6,6 +6,7 @@ use native.Mathlib.Omega.{arith}
 use borrow.Author.Needs.{needs}
 use Rattle.tables.specs.State.{free-resources, of-locks, home-at}
 use Rattle.tables.specs.Layout.{header-width, resource-width, lock-width, place, head, resources-in, locks-in, most}
+use Rattle.tables.proofs.Chains.{home-past}
 use Rattle.table_chains.specs.declared.Cells.{Cells}
 use Rattle.table_chains.specs.Cells.{cells-at, lock-cells, Housed}
 
@@ -20,12 +21,11 @@ unfolding cells-at
 resource-cells-are ws x n y ex en ey = rw (ex, ey .0, en)
 
 -- the place of a home's head
+pub head-free : (s r n : ℕ) → s ≡ 0 → 3 ≡ place n (head (of-locks (home-at s r)))
+head-free s r n e = rw e
+
 pub head-denied : (s r n : ℕ) → 4 ≤ s → 4 ≡ place n (head (of-locks (home-at s r)))
-head-denied zero r n h = absurd (omega arith)
-head-denied (suc zero) r n h = absurd (omega arith)
-head-denied (suc (suc zero)) r n h = absurd (omega arith)
-head-denied (suc (suc (suc zero))) r n h = absurd (omega arith)
-head-denied (suc (suc (suc (suc s)))) r n h = refl
+head-denied s r n h = rw (home-past s r h)
 
 pub head-queue : (s r n x y : ℕ) → (s ≡ 0 → ⊥) → s < 4 → x ≡ header-width + resource-width * (r - 1) → (y ≡ s) × (y < 2 ^ 32) → x + y ≡ place n (head (of-locks (home-at s r)))
 head-queue zero r n x y p q e f = absurd (p refl)
@@ -53,6 +53,6 @@ home-cells-are ws zero r hd cs e f = f ∙ rw e
 home-cells-are ws (suc zero) r hd cs e f = f ∙ rw e
 home-cells-are ws (suc (suc zero)) r hd cs e f = f ∙ rw e
 home-cells-are ws (suc (suc (suc zero))) r hd cs e f = f ∙ rw e
-home-cells-are ws (suc (suc (suc (suc s)))) r hd cs e f = f ∙ rw e
+home-cells-are ws (suc (suc (suc (suc s)))) r hd cs e f = rw (home-past (suc (suc (suc (suc s)))) r (omega arith)) (f ∙ rw (e, home-past (suc (suc (suc (suc s)))) r (omega arith)))
 
-pub ruleset head-laws = (needs, lock-cells-are, resource-cells-are, head-denied, head-queue, queue-low, queue-high, home-cells-are)
+pub ruleset head-laws = (needs, lock-cells-are, resource-cells-are, head-free, head-denied, head-queue, queue-low, queue-high, home-cells-are)

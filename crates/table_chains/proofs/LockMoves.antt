@@ -8,17 +8,20 @@ use borrow.Author.Needs.{needs}
 use lib.ListN.{length}
 use lib.Dec.{eqb}
 use Rattle.tables.specs.declared.Lock.{Lock}
-use Rattle.tables.specs.State.{Tables, lock, blocked-lock, told, blocked, notices, of-locks, chain-of, home, move}
+use Rattle.tables.specs.State.{Tables, lock, blocked-lock, noticed, blocked, notices, of-locks, chain-of, home, move}
 use Rattle.tables.specs.Layout.{head, words, resources-in, locks-in, read-lock}
 use Rattle.tables.proofs.Counts.{within-le}
 use Rattle.tables.proofs.Numbered.{put-lock}
-use Rattle.tables.proofs.Links.{Absent}
+use Rattle.tables.specs.Threads.{Absent}
 use Rattle.tables.proofs.Frame.{homed}
-use Rattle.tables.proofs.Chains.{Present}
+use Rattle.tables.specs.Threads.{Present}
 use Rattle.tables.proofs.ReadBack.{lock-read}
-use Rattle.tables.proofs.WordSteps.{cell-place, leave-cells}
-use Rattle.tables.proofs.HomeChange.{Sane, most-homed, lifted, sane-set, present-set, stands-set}
-use Rattle.tables.proofs.MoveSteps.{Seat, Whole, stays, shift-cells, arrive-cells, set-cells, resettle-cells, unblock, notify, sane-own, lifted-words, set-words, sane-unblock, seat-notices, sane-notify, lock-notify, present-notify, old-notify, on-notify, unblock-words, notify-words, settle-words}
+use Rattle.tables.specs.Stores.{cell-place, leave-cells}
+use Rattle.tables.specs.Threads.{Sane}
+use Rattle.tables.proofs.HomeChange.{most-homed, lifted, sane-set, present-set, stands-set}
+use Rattle.tables.specs.Threads.{Seat, Whole}
+use Rattle.tables.specs.Stores.{stays, shift-cells, arrive-cells, set-cells, resettle-cells}
+use Rattle.tables.proofs.MoveSteps.{unblock, notify, sane-own, lifted-words, set-words, sane-unblock, seat-notices, sane-notify, lock-notify, present-notify, old-notify, on-notify, unblock-words, notify-words, settle-words}
 use Rattle.tables.proofs.Wholeness.{present-home, core-whole}
 use Rattle.tables.proofs.MovedWords.{move-is-steps}
 use Rattle.table_fields.specs.Sizes.{Sized, Kept}
@@ -65,10 +68,10 @@ module _ (k : ℕ) (o m : Lock) (a : List ℕ) (s : Sided k o m a) where
       first-sane : Sane (length (s .state .resources)) (length (s .state .locks)) (unblock k m (s .state))
       first-sane = sane-unblock (length (s .state .resources)) (length (s .state .locks)) (s .state) (s .whole) k m (s .low) side-high (s .new)
 
-      module _ (ns : Cells) (en : ns ≡ lock-cells 6 2 b) (u : Bool) (eu : u ≡ told o) where
+      module _ (ns : Cells) (en : ns ≡ lock-cells 6 2 b) (u : Bool) (eu : u ≡ noticed o) where
         seat-second : u ≡ true → Absent k (unblock k m (s .state) .notices) → ⊥
         seat-second p =
-            subst (λ (z : Bool). Seat z k (unblock k m (s .state) .notices)) (ap told (s .here) ∙ sym eu ∙ p)
+            subst (λ (z : Bool). Seat z k (unblock k m (s .state) .notices)) (ap noticed (s .here) ∙ sym eu ∙ p)
             (seat-notices (length (s .state .resources)) (length (s .state .locks)) (s .state) (s .whole) k m (s .low) side-high (s .new))
 
         pub side-second : Shifts u b ns k
@@ -80,11 +83,11 @@ module _ (k : ℕ) (o m : Lock) (a : List ℕ) (s : Sided k o m a) where
               joins = chain-joins (unblock k m (s .state)) b first-is (of-locks notices) h ns e (kb .sized);
             }
 
-        pub sides-shifted : (v : Bool) (d : List ℕ) → v ≡ told m → d ≡ shift-cells u v (cell-of ns) (ns .most) k b → d ≡ side-cells (resources-in a) (locks-in a) k o m a
+        pub sides-shifted : (v : Bool) (d : List ℕ) → v ≡ noticed m → d ≡ shift-cells u v (cell-of ns) (ns .most) k b → d ≡ side-cells (resources-in a) (locks-in a) k o m a
         unfolding side-cells
         sides-shifted v d ev ed =
             ed ∙ by-cells (of-locks notices) b ns (en ∙ notice-cells b) (λ f n. shift-cells u v f n k b)
-            ∙ rw (eu, ev, kb .same-resources, kb .same-locks) (ap (shift-cells (told o) (told m) (cell-place (resources-in a) (of-locks notices)) (locks-in a) k) first-now)
+            ∙ rw (eu, ev, kb .same-resources, kb .same-locks) (ap (shift-cells (noticed o) (noticed m) (cell-place (resources-in a) (of-locks notices)) (locks-in a) k) first-now)
 
 pub ruleset side-laws = (needs, side-first, side-second, sides-shifted, kept-trans)
 

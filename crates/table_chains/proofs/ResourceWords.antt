@@ -14,10 +14,11 @@ use Rattle.tables.specs.Layout.{of-resource, place, words, resources-in, word-i
 use Rattle.tables.proofs.Counts.{within-le, le-within}
 use Rattle.tables.proofs.WordChanges.{stands}
 use Rattle.tables.proofs.ReadBack.{word-read}
-use Rattle.tables.proofs.MoveSteps.{Seat}
+use Rattle.tables.specs.Threads.{Seat}
 use Rattle.tables.proofs.ThreadedChains.{core-threaded}
 use Rattle.tables.proofs.Wholeness.{counted-seat}
-use Rattle.tables.proofs.ResourceMoved.{front-cells, set-resource-cells, relinked, relinked-words, set-relinked}
+use Rattle.tables.specs.Stores.{front-cells}
+use Rattle.tables.proofs.ResourceMoved.{set-resource-cells, relinked, relinked-words, set-relinked}
 use Rattle.table_fields.specs.Sizes.{Sized, Kept}
 use Rattle.table_fields.specs.declared.ResourceFields.{ResourceFields}
 use Rattle.table_fields.specs.Records.{read-fields, with-fields}

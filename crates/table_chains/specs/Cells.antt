@@ -5,12 +5,12 @@ use mathlib.Core.List.{List}
 use Prim.Native.Nat.{ℕ, _+_, _-_, _*_, _<_, _≤_}
 use lib.ListN.{length}
 use Rattle.tables.specs.declared.Lock.{Lock}
-use Rattle.tables.specs.State.{blocked-lock, told, blocked, notices, Chain, of-locks, home-at}
+use Rattle.tables.specs.State.{blocked-lock, noticed, blocked, notices, Chain, of-locks, home-at}
 use Rattle.tables.specs.Layout.{of-lock, place, head, link, lock-width, resources-in, locks-in, most}
-use Rattle.tables.proofs.Grid.{Within}
-use Rattle.tables.proofs.ChainWalk.{cell-at, Safe}
-use Rattle.tables.proofs.WordSteps.{stride, cell-place}
-use Rattle.tables.proofs.MoveSteps.{shift-cells}
+use Rattle.tables.specs.Threads.{Within}
+use Rattle.tables.specs.Stores.{cell-at, Safe}
+use Rattle.tables.specs.Stores.{stride, cell-place}
+use Rattle.tables.specs.Stores.{shift-cells}
 use Rattle.table_fields.specs.Sizes.{Sized}
 use Rattle.table_chains.specs.declared.Cells.{Cells}
 
@@ -18,7 +18,7 @@ use Rattle.table_chains.specs.declared.Cells.{Cells}
 abbrev pub cell-of : Cells → ℕ → ℕ
 cell-of c = cell-at (c .head) (c .first) (c .width)
 
--- the cells of a chain; of one of locks, whose head stands at hd, and which goes by the field f
+-- the cells of a chain; and the cells of a chain of locks whose head stands at hd and whose link is the field f
 unfoldable pub cells-at : Chain → List ℕ → Cells
 cells-at c ws =
     record {
@@ -72,7 +72,7 @@ pub record Housed (s r : ℕ) (ws : List ℕ) : Type 0 where
   pub some-lock : 1 ≤ locks-in ws
   pub inside : Within (resources-in ws) (locks-in ws) (head (of-locks (home-at s r)))
 
--- what becoming m does to the lock k, which is o, on the blocked chain and then on the notice chain
+-- what happens on the blocked chain and then on the notice chain when the lock k, which is o, becomes m
 unfoldable pub side-cells : ℕ → ℕ → ℕ → Lock → Lock → List ℕ → List ℕ
 side-cells r l k o m ws =
-    shift-cells (told o) (told m) (cell-place r (of-locks notices)) l k (shift-cells (blocked-lock o) (blocked-lock m) (cell-place r (of-locks blocked)) l k ws)
+    shift-cells (noticed o) (noticed m) (cell-place r (of-locks notices)) l k (shift-cells (blocked-lock o) (blocked-lock m) (cell-place r (of-locks blocked)) l k ws)

@@ -8,11 +8,11 @@ use Rattle.tables.specs.declared.Lock.{Lock}
 use Rattle.tables.specs.Lists.{within}
 use Rattle.tables.specs.State.{Resource, Tables, lock, resource, Queue, queue-of, of-locks, chain-of, home, move, move-resource}
 use Rattle.tables.specs.Layout.{words, slots, locks-in}
-use Rattle.tables.proofs.Links.{Absent}
-use Rattle.tables.proofs.Chains.{Present}
-use Rattle.tables.proofs.HomeChange.{Sane}
-use Rattle.tables.proofs.MoveSteps.{Whole}
-use Rattle.tables.proofs.Valid.{used, LockOk, Core, Near}
+use Rattle.tables.specs.Threads.{Absent}
+use Rattle.tables.specs.Threads.{Present}
+use Rattle.tables.specs.Threads.{Sane}
+use Rattle.tables.specs.Threads.{Whole}
+use Rattle.tables.specs.Validity.{used, LockOk, Core, Near}
 use Rattle.table_fields.specs.Sizes.{Sized}
 
 -- these are the words of a state of which P holds

@@ -1,7 +1,7 @@
 // Changes of the words in place: the cells of a chain, a lock that becomes another, the words of a resource.
 use table_fields::ResourceFields;
 use table_fields::is_blocked;
-use table_fields::is_told;
+use table_fields::is_noticed;
 use table_fields::put_lock;
 use table_fields::wide;
 use tables::Lock;
@@ -10,16 +10,16 @@ ghost use mathlib.Core.Bool.{false};
 ghost use Prim.Native.Nat.{_+_, _*_, _-_, _<_, _≤_};
 ghost use Rattle.tables.specs.State.{home, «home-at», blocked, notices, «free-resources», «of-locks»};
 ghost use Rattle.tables.specs.Layout.{place, head, «lock-width», «resources-in», «locks-in»};
-ghost use Rattle.tables.proofs.ChainWalk.{«cell-holding»};
-ghost use Rattle.tables.proofs.WordSteps.{«push-cells», «leave-cells», «join-cells»};
-ghost use Rattle.tables.proofs.MoveSteps.{stays, «shift-cells», «arrive-cells», «resettle-cells»};
-ghost use Rattle.tables.proofs.ResourceMoved.{«front-cells»};
+ghost use Rattle.tables.specs.Stores.{«cell-holding»};
+ghost use Rattle.tables.specs.Stores.{«push-cells», «leave-cells», «join-cells»};
+ghost use Rattle.tables.specs.Stores.{stays, «shift-cells», «arrive-cells», «resettle-cells»};
+ghost use Rattle.tables.specs.Stores.{«front-cells»};
 ghost use Rattle.table_fields.specs.Sizes.{Sized, Kept};
 ghost use Rattle.table_chains.specs.Cells.{«cell-of», «cells-at», «lock-cells», «side-cells», Walks, Leaves, Pushes, Shifts, Fronts, Arrives, Housed};
 ghost use Rattle.table_chains.specs.Contracts.{Some, Moving, Moved, Resourced, ResourceMoved, Sided, Homing};
 
-// The cells of a chain: each names the record that follows, the last one 0. The head's place, that of record 1's
-// cell, how far apart the records' cells stand, and how many records there can be.
+// The cells of a chain: each names the record that follows, the last one 0. The fields are the place of the head, the
+// place of record 1's cell, how far apart the records' cells stand, and how many records there can be.
 pub struct Cells {
     pub head: usize,
     pub first: usize,
@@ -56,8 +56,7 @@ pub fn resource_cells(words: &[u32]) -> Cells
     }
 }
 
-// The place of the head of the chain that is home to a state on a resource. A resource's queues are numbered as
-// the states.
+// The place of the head of the home chain for a state and a resource. A resource's queues are numbered as the states.
 fn home_head(words: &[u32], state: u32, resource: u32) -> usize
     requires { ⌜ Housed state resource (now words) ⌝ }
     ensures { λ x. ⌜ x ≡ place (resources-in (now (words .entry))) (head (of-locks (home-at state resource))) ⌝ }
@@ -134,7 +133,8 @@ pub fn leave(words: &mut [u32], cells: Cells, k: u32)
     words[own] = 0;
 }
 
-// The record k was on a chain or not, and is to be: it enters at the end.
+// The record k joins a chain or leaves it: `was` says whether it was on the chain, `is` whether it is to be. It joins
+// at the end.
 fn shift(words: &mut [u32], cells: Cells, was: bool, is: bool, k: u32)
     requires { ⌜ Shifts was (now words) cells k ⌝ }
     ensures { λ _. ⌜ now (words .exit) ≡ shift-cells was is (cell-of cells) (cells .most) k (now (words .entry)) ⌝ }
@@ -152,7 +152,7 @@ fn shift(words: &mut [u32], cells: Cells, was: bool, is: bool, k: u32)
     }
 }
 
-// The same on a chain of free records: it enters in front.
+// The same on a chain of free records: it joins in front.
 fn shift_front(words: &mut [u32], cells: Cells, was: bool, is: bool, k: u32)
     requires { ⌜ Fronts was (now words) cells k ⌝ }
     ensures { λ _. ⌜ now (words .exit) ≡ front-cells was is (cell-of cells) (cells .most) k (now (words .entry)) ⌝ }
@@ -189,7 +189,7 @@ fn keeps_home(l: Lock, m: Lock) -> bool
     (l.state == m.state) & (l.resource == m.resource)
 }
 
-// The lock k, which is o and is to be m, on the blocked chain and on the notice chain.
+// The lock k, which is o and is to become m, joins or leaves the blocked chain and the notice chain.
 fn shift_sides(words: &mut [u32], k: u32, o: Lock, m: Lock)
     requires { ⌜ Sided k o m (now words) ⌝ }
     ensures { λ _. ⌜ now (words .exit) ≡ side-cells (resources-in (now (words .entry))) (locks-in (now (words .entry))) k o m (now (words .entry)) ⌝ }
@@ -202,7 +202,7 @@ fn shift_sides(words: &mut [u32], k: u32, o: Lock, m: Lock)
     );
     shift(words, blocked, is_blocked(o), is_blocked(m), k);
     let notices = lock_cells(words, table_fields::NOTICES, table_fields::LOCK_NEXT_NOTICE);
-    shift(words, notices, is_told(o), is_told(m), k);
+    shift(words, notices, is_noticed(o), is_noticed(m), k);
 }
 
 // The lock k, which is o, becomes m, which has another home.
@@ -233,8 +233,8 @@ pub fn move_lock(words: &mut [u32], k: u32, m: Lock)
     }
 }
 
-// The resource r gets another name length and flag: it leaves the free resources or joins them in front, as its
-// length was and is (0: free).
+// The resource r gets another name length and flag. A length of 0 means that it is free: it leaves the free resources
+// or joins them in front accordingly.
 pub fn move_resource_words(words: &mut [u32], r: u32, name_length: u32, valid: u32)
     requires { ⌜ Some (Resourced r) (now words) ⌝ }
     ensures { λ _. ⌜ ResourceMoved r «name_length» valid (now (words .entry)) (now (words .exit)) ⌝ }

@@ -1,4 +1,4 @@
--- A resource's record beside its links, as the words have it, and the words with another.
+-- A resource's record beside its links, as it stands in the words; and the words with another record in its place.
 use mathlib.Core.List.{List}
 use Prim.Native.Nat.{ℕ}
 use lib.ListN.{set}

@@ -3,10 +3,10 @@
 use tables::Lock;
 ghost use mathlib.Core.Path.{_≡_};
 ghost use Prim.Native.Nat.{_+_, _*_, _-_, _<_, _≤_, _^_};
-ghost use Rattle.tables.specs.State.{«blocked-lock», told};
+ghost use Rattle.tables.specs.State.{«blocked-lock», noticed};
 ghost use Rattle.tables.specs.Layout.{«header-width», «resource-width», «lock-width», «of-header», «of-resource», «of-lock»};
 ghost use Rattle.tables.specs.Layout.{«resources-in», «locks-in», «word-in», «read-lock»};
-ghost use Rattle.tables.proofs.MoveSteps.{«set-cells»};
+ghost use Rattle.tables.specs.Stores.{«set-cells»};
 ghost use Rattle.table_fields.specs.Sizes.{Sized, Kept};
 ghost use Rattle.table_fields.specs.Records.{«read-fields», «with-fields»};
 
@@ -238,8 +238,8 @@ pub fn is_blocked(l: Lock) -> bool
     (l.state == STATE_CONVERTING) | (l.state == STATE_WAITING)
 }
 
-pub fn is_told(l: Lock) -> bool
-    ensures { λ r. ⌜ r ≡ told l ⌝ }
+pub fn is_noticed(l: Lock) -> bool
+    ensures { λ r. ⌜ r ≡ noticed l ⌝ }
 {
     l.completion != COMPLETION_NONE
 }

@@ -15,7 +15,7 @@ use Rattle.tables.proofs.WordChanges.{length-words}
 use Rattle.tables.proofs.ReadBack.{resources-word, locks-word, resource-read, slot-read, slot-length, word-read}
 use Rattle.tables.proofs.ThreadedChains.{core-readable}
 use Rattle.tables.proofs.ResourceMoved.{resource-moved-slots}
-use Rattle.tables.proofs.Valid.{Core}
+use Rattle.tables.specs.Validity.{Core}
 use Rattle.rules.specs.Queues.{find}
 use Rattle.rules.specs.Calls.{new-resource}
 use Rattle.table_fields.specs.Sizes.{Sized}

@@ -24,7 +24,7 @@ pub const VALUE_BYTES: usize = 32;
 
 pub const SLOT_BYTES: usize = NAME_BYTES + VALUE_BYTES;
 
-// Two words that stand side by side: one test for both.
+// Two words that stand side by side are tested at once.
 const PAIR_BYTES: usize = 2 * WORD_BYTES;
 
 // Two runs of bytes of one length are equal.
@@ -42,8 +42,8 @@ fn same_bytes(a: &[u8], b: &[u8]) -> bool
     true
 }
 
-// The two runs of bytes are equal. Four are compared at once, the last ones first: names that differ mostly do near
-// their end.
+// The two runs of bytes are equal. Four bytes are compared at once, the last ones first: names that differ mostly
+// differ near their end.
 pub fn same(a: &[u8], b: &[u8]) -> bool
     ensures { λ x. ⌜ x ≡ same (now (a .entry)) (now (b .entry)) ⌝ }
 {
@@ -60,7 +60,7 @@ pub fn same(a: &[u8], b: &[u8]) -> bool
     same_bytes(&a[..at], &b[..at])
 }
 
-// All of a run of bytes is zero. Every byte is looked at, so that many can be at once.
+// All of a run of bytes is zero. Every byte is looked at, so that the processor can test many at once.
 pub fn all_zero(a: &[u8]) -> bool
     ensures { λ x. ⌜ x ≡ all-zero (now (a .entry)) ⌝ }
 {

@@ -14,7 +14,8 @@ use Rattle.tables.specs.State.{Lock, Tables, lock, resource, granted, co
 use Rattle.tables.specs.Grants.{holders, fits, convert-grantable, admits, wait-grantable, grantable-head, no-grantable-head}
 use Rattle.tables.proofs.Cases.{by-cases, by-equal, clash, eqb-same, and-left, and-right, or-left, or-right}
 use Rattle.tables.proofs.Counts.{count-same, count-append, all-at, all-intro, all-cong, by-append}
-use Rattle.tables.proofs.Valid.{used, Place, ok-at, Linked, Core, line, idle, Settled, Fits, Near, absent-lock, used-zero, lock-other, resource-other, used-move}
+use Rattle.tables.specs.Validity.{used, Place, Linked, Core, line, idle, Settled, Near}
+use Rattle.tables.proofs.Valid.{ok-at, Fits, absent-lock, used-zero, lock-other, resource-other, used-move}
 
 pub state-within : (t : Tables) (j n : ℕ) → lock t j .state ≡ suc n → within (length (t .locks)) j ≡ true
 state-within t j n h = by-cases (within (length (t .locks)) j) (λ w. w) (λ w. absurd (omega (arith, ap (λ (l : Lock). l .state) (absent-lock t j w))))

@@ -11,31 +11,19 @@ use lib.Dec.{eqb}
 use borrow.Author.Tests.{eq-eqb, ne-eqb}
 use Rattle.tables.specs.Lists.{next}
 use Rattle.tables.specs.State.{Tables, Chain, chain-of}
-use Rattle.tables.specs.Layout.{cell, value, words, follow}
-use Rattle.tables.proofs.Links.{holder, Absent, Distinct, Each, each-map, holder-here, holder-past, next-here, next-past}
+use Rattle.tables.specs.Layout.{cell, word-value, words, follow}
+use Rattle.tables.specs.Threads.{Absent, Distinct, Each}
+use Rattle.tables.proofs.Links.{holder, each-map, holder-here, holder-past, next-here, next-past}
 use Rattle.tables.proofs.Grid.{place-size}
 use Rattle.tables.proofs.Chains.{spot}
-use Rattle.tables.proofs.WordChanges.{Stands, Linked, linked-head, Threaded, no-zero, length-words, read-word, holding}
+use Rattle.tables.specs.Threads.{Stands, LinkedAt, Threaded}
+use Rattle.tables.proofs.WordChanges.{linked-head, no-zero, length-words, read-word, holding}
+use Rattle.tables.specs.Stores.{cell-holding, Safe}
 
 -- f leads from y through ys, and from the last to 0
 abbrev pub Leads : (ℕ → ℕ) → ℕ → List ℕ → Type 0
 Leads f y [] = f y ≡ 0
 Leads f y (x ∷ xs) = (f y ≡ x) × Leads f x xs
-
--- from a cell on, the cell that holds k, at most n cells further; place k: where the cell of the record k stands
-unfoldable pub cell-holding : List ℕ → (ℕ → ℕ) → ℕ → ℕ → ℕ → ℕ
-cell-holding ws place k zero at-cell = at-cell
-cell-holding ws place k (suc n) at-cell = elim (eqb k (getD ws at-cell 0)) [ true ↦ at-cell | false ↦ cell-holding ws place k n (place (getD ws at-cell 0)) ]
-
--- a chain's cells, where its head stands at one place and its links a width apart
-abbrev pub cell-at : ℕ → ℕ → ℕ → ℕ → ℕ
-cell-at head first width zero = head
-cell-at head first width (suc k) = first + width * k
-
--- the walk stays inside the words, and a cell on the way that does not hold k names a record
-abbrev pub Safe : List ℕ → (ℕ → ℕ) → ℕ → ℕ → ℕ → Type 0
-Safe ws place k zero cell = cell < length ws
-Safe ws place k (suc n) cell = (cell < length ws) × (getD ws cell 0 ≢ k → (1 ≤ getD ws cell 0) × Safe ws place k n (place (getD ws cell 0)))
 
 absent-each : (k : ℕ) (xs : List ℕ) → Absent k xs → Each (λ j. j ≢ k) xs
 absent-each k [] a = tt
@@ -93,8 +81,8 @@ module _ (t : Tables) (c : Chain) (h : Threaded t c) where
       (cell-word 0 (linked-head t c (h .present)), each-map (Stands t c) _ (λ j s. cell-word j (s .1)) (chain-of c t) (h .members))
       (next-leads 0 (chain-of c t) (no-zero t c h, h .distinct))
     where
-      cell-word : (j : ℕ) → Linked t c j → getD (words t) (spot t (cell c j)) 0 ≡ next j (0 ∷ chain-of c t)
-      cell-word j l = read-word t (cell c j) (l .inside) ∙ ap (value t) (l .says)
+      cell-word : (j : ℕ) → LinkedAt t c j → getD (words t) (spot t (cell c j)) 0 ≡ next j (0 ∷ chain-of c t)
+      cell-word j l = read-word t (cell c j) (l .inside) ∙ ap (word-value t) (l .says)
 
   -- the walk from the head stays inside the words
   pub walk-safe : (k n : ℕ) → length (chain-of c t) ≤ n → (k ≢ 0 → Absent k (chain-of c t) → ⊥) → Safe (words t) (λ j. spot t (cell c j)) k n (spot t (cell c 0))
@@ -102,7 +90,7 @@ module _ (t : Tables) (c : Chain) (h : Threaded t c) where
       safe-leads (words t) (λ j. spot t (cell c j)) k n 0 (chain-of c t) words-lead
       (inside 0 (linked-head t c (h .present)), each-map (Stands t c) _ (λ j s. inside j (s .1)) (chain-of c t) (h .members)) (no-zero t c h) p o
     where
-      inside : (j : ℕ) → Linked t c j → spot t (cell c j) < length (words t)
+      inside : (j : ℕ) → LinkedAt t c j → spot t (cell c j) < length (words t)
       inside j l = rw (length-words t) (place-size _ _ (cell c j) (l .inside))
 
   -- the walk from the head finds the cell that names k, or the end of the chain (k = 0)

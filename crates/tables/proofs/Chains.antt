@@ -2,19 +2,26 @@
 use mathlib.Core.Path.{_≡_, refl, _∙_, ap, ap₂}
 use mathlib.Core.Logic.{_≢_}
 use mathlib.Core.List.{List}
-use Prim.Native.Nat.{ℕ}
+use Prim.Native.Nat.{ℕ, _≤_}
 use native.Mathlib.Decide.{ℕ-discrete}
+use native.Mathlib.Omega.{arith}
 use lib.ListN.{length}
+use borrow.Author.Tests.{ne-eqb}
 use Rattle.tables.specs.Lists.{put}
-use Rattle.tables.specs.State.{Resource, Tables, no-resource, lock, resource, Queue, grants, converts, waits, Queue-discrete, free-locks, denied, blocked, notices, queue, LockChain-discrete, Chain, free-resources, of-locks, Chain-discrete, queue-of, chain-of}
+use Rattle.tables.specs.State.{Resource, Tables, no-resource, lock, resource, Queue, grants, converts, waits, Queue-discrete, free-locks, denied, blocked, notices, queue, LockChain-discrete, Chain, free-resources, of-locks, Chain-discrete, queue-of, chain-of, home-at}
 use Rattle.tables.specs.Layout.{Address, place, head}
 use Rattle.tables.proofs.Counts.{length-put, nth-put-other}
 use Rattle.tables.proofs.Numbered.{nth-put-here, nth-put-blind}
-use Rattle.tables.proofs.Grid.{Within}
+use Rattle.tables.specs.Threads.{Within}
+use Rattle.tables.specs.Threads.{Present}
 
 unfoldable pub chain? : Discrete Chain
 unfolding ℕ-discrete
 chain? = Chain-discrete (LockChain-discrete ℕ-discrete Queue-discrete)
+
+-- a state that is none of the first four has its home on the denied chain
+pub home-past : (s r : ℕ) → 4 ≤ s → home-at s r ≡ denied
+home-past s r h = rw (ne-eqb s 0 (omega arith), ne-eqb s 1 (omega arith), ne-eqb s 2 (omega arith), ne-eqb s 3 (omega arith))
 
 -- xs for the chain c, and what stands in t for any other chain d
 unfoldable pub queue-with : Queue → List ℕ → Queue → Resource → List ℕ
@@ -58,16 +65,8 @@ with-chain c xs t =
       notices = chain-with c xs (of-locks notices) t;
     }
 
--- an address of t, and its place
-abbrev pub In : Tables → Address → Type 0
-In t a = Within (length (t .resources)) (length (t .locks)) a
-
 abbrev pub spot : Tables → Address → ℕ
 spot t a = place (length (t .resources)) a
-
--- the chain is there to be changed
-abbrev pub Present : Tables → Chain → Type 0
-Present t c = In t (head c)
 
 queue-same : (q : Queue) (xs : List ℕ) (x : Resource) → queue-of q (with-queue q xs x) ≡ xs
 unfolding with-queue

@@ -16,8 +16,8 @@ use Rattle.tables.specs.Sound.{sizes-right, zeros-right, resource-index,
 use Rattle.tables.specs.Grants.{no-grantable-head}
 use Rattle.tables.proofs.Cases.{by-cases, by-equal, clash, and-left, and-right, or-left, or-right, parts}
 use Rattle.tables.proofs.Counts.{within-le, le-within, count-from, all-at, all-intro, bit-one, same-eq, same-refl}
-use Rattle.tables.proofs.Links.{Absent, Distinct, Each}
-use Rattle.tables.proofs.Grid.{Within}
+use Rattle.tables.specs.Threads.{Absent, Distinct, Each}
+use Rattle.tables.specs.Threads.{Within}
 use Rattle.tables.proofs.FollowedChains.{Runs, ends-runs, runs-distinct, runs-no-zero, runs-within, runs-next}
 use Rattle.tables.proofs.ReadState.{resources-read, resource-of, chain-followed, zero-take, zero-drop, slot-in-length}
 

@@ -9,7 +9,7 @@ use borrow.Author.Tests.{eqb-true, eq-eqb, ne-eqb, leb-true, le-leb}
 use Rattle.tables.specs.State.{Lock, Tables}
 use Rattle.tables.specs.Sound.{client-right, modes-right, on-resource, fields-right}
 use Rattle.tables.proofs.Cases.{by-equal, clash, and-intro, or-left, or-right, parts}
-use Rattle.tables.proofs.Valid.{used, Place, StateOk}
+use Rattle.tables.specs.Validity.{used, Place, StateOk}
 
 on-used : (t : Tables) (l : Lock) → on-resource t l ≡ used t (l .resource)
 unfolding on-resource used
@@ -100,7 +100,11 @@ fields-are t l (suc (suc (suc (suc zero)))) e h =
       asks = eqb-true (l .asked) 0 (search parts depth 20);
       notice = eqb-true (l .completion) 2 (search parts depth 20);
     }
-fields-are t l (suc (suc (suc (suc (suc n))))) e h = clash false h refl
+fields-are t l (suc (suc (suc (suc (suc n))))) e h =
+    let s = suc (suc (suc (suc (suc n)))) in
+    clash false
+    (rw (ne-eqb s 0 (omega arith), ne-eqb s 1 (omega arith), ne-eqb s 2 (omega arith), ne-eqb s 3 (omega arith), ne-eqb s 4 (omega arith)) at h)
+    refl
 
 pub are-fields : (t : Tables) (l : Lock) (s : ℕ) → StateOk (used t) l s → fields-right t l s ≡ true
 unfolding fields-right

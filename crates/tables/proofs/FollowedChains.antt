@@ -10,7 +10,8 @@ use Rattle.tables.specs.Lists.{count, next}
 use Rattle.tables.specs.Layout.{follow}
 use Rattle.tables.specs.Sound.{ends}
 use Rattle.tables.proofs.Cases.{by-equal, clash}
-use Rattle.tables.proofs.Links.{Absent, Distinct, Each, count-absent, absent-count, few, next-here, next-past}
+use Rattle.tables.specs.Threads.{Absent, Distinct, Each}
+use Rattle.tables.proofs.Links.{count-absent, absent-count, few, next-here, next-past}
 use Rattle.tables.proofs.ChainWalk.{Leads}
 
 -- the chain that starts with a has the numbers xs and no others: f names what follows each, and 0 ends it

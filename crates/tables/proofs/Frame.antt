@@ -6,11 +6,13 @@ use Prim.Native.Nat.{ℕ, zero, suc}
 use native.Mathlib.Omega.{arith}
 use lib.ListN.{length}
 use Rattle.tables.specs.State.{Lock, Resource, Tables, lock, resource, Queue, LockChain, free-locks, denied, blocked, notices, queue, Chain, free-resources, of-locks, queue-of, chain-of, home-at, home}
-use Rattle.tables.specs.Layout.{Address, head, link, after, word-at}
+use Rattle.tables.specs.Layout.{Address, head, link, following, word-at}
 use Rattle.tables.proofs.Numbered.{put-lock, put-resource, locks-put, lock-put-other, lock-put-blind, resources-put, lock-put-resource, chains-put-lock, chains-put-resource}
-use Rattle.tables.proofs.Links.{Absent, Distinct, Each, each-map, each-map-on}
-use Rattle.tables.proofs.Chains.{with-chain, In, Present, chain-same, chain-other, same-locks, lock-with, resource-count}
-use Rattle.tables.proofs.WordChanges.{Stands, Threaded}
+use Rattle.tables.specs.Threads.{Absent, Distinct, Each}
+use Rattle.tables.proofs.Links.{each-map, each-map-on}
+use Rattle.tables.specs.Threads.{In, Present}
+use Rattle.tables.proofs.Chains.{with-chain, chain-same, chain-other, same-locks, lock-with, resource-count, home-past}
+use Rattle.tables.specs.Threads.{Stands, Threaded}
 
 -- the chains that go by the home link
 abbrev pub Homed : Chain → Type 0
@@ -26,10 +28,10 @@ homed zero r = tt
 homed (suc zero) r = tt
 homed (suc (suc zero)) r = tt
 homed (suc (suc (suc zero))) r = tt
-homed (suc (suc (suc (suc s)))) r = tt
+homed (suc (suc (suc (suc s)))) r = rw (home-past (suc (suc (suc (suc s)))) r (omega arith)) tt
 
 -- the word at a home link says the home
-pub home-word : (t : Tables) (c : Chain) (k : ℕ) → Homed c → word-at t (link c k) ≡ after (of-locks (home (lock t k))) k
+pub home-word : (t : Tables) (c : Chain) (k : ℕ) → Homed c → word-at t (link c k) ≡ following (of-locks (home (lock t k))) k
 home-word t free-resources k h = absurd h
 home-word t (of-locks free-locks) k h = refl
 home-word t (of-locks denied) k h = refl
@@ -44,11 +46,11 @@ module _ (t u : Tables) (resources : length (u .resources) ≡ length (t .resour
 
   link-word : (c : Chain) (k : ℕ) → (Homed c → home (lock u k) ≡ home (lock t k)) → word-at u (link c k) ≡ word-at t (link c k)
   link-word free-resources k e = refl
-  link-word (of-locks free-locks) k e = ap (λ (d : LockChain). after (of-locks d) k) (e tt)
-  link-word (of-locks denied) k e = ap (λ (d : LockChain). after (of-locks d) k) (e tt)
+  link-word (of-locks free-locks) k e = ap (λ (d : LockChain). following (of-locks d) k) (e tt)
+  link-word (of-locks denied) k e = ap (λ (d : LockChain). following (of-locks d) k) (e tt)
   link-word (of-locks blocked) k e = refl
   link-word (of-locks notices) k e = refl
-  link-word (of-locks (queue r q)) k e = ap (λ (d : LockChain). after (of-locks d) k) (e tt)
+  link-word (of-locks (queue r q)) k e = ap (λ (d : LockChain). following (of-locks d) k) (e tt)
 
   pub stands-same : (c : Chain) (k : ℕ) → (Homed c → home (lock u k) ≡ home (lock t k)) → Stands t c k → Stands u c k
   stands-same c zero e s = absurd (omega (arith, s .0))

@@ -11,12 +11,8 @@ use lib.ListN.{getD, set, length, List·getD-append, length-append, length-set}
 use lib.Seq.{getD-set-same, getD-set-other, ext-getD}
 use Rattle.tables.specs.Layout.{header-width, resource-width, lock-width, Address, of-header, of-resource, of-lock, Address-discrete, place, size, row, rows, sheet, written}
 use Rattle.tables.proofs.Blocks.{getD-second, length-row, getD-row, length-rows, getD-rows}
-
--- an address of tables with r resources and l locks
-abbrev pub Within : ℕ → ℕ → Address → Type 0
-Within r l (of-header f) = f < header-width
-Within r l (of-resource k f) = (1 ≤ k) × (k ≤ r) × (f < resource-width)
-Within r l (of-lock k f) = (1 ≤ k) × (k ≤ l) × (f < lock-width)
+use Rattle.tables.specs.Threads.{Within}
+use Rattle.tables.specs.Stores.{stores}
 
 unfoldable pub address? : Discrete Address
 unfolding ℕ-discrete
@@ -120,11 +116,6 @@ update-here a v f = elim (address? a a) as (λ d. elim d [ yes e ↦ v | no n �
 pub update-past : (a b : Address) (v : ℕ) (f : Address → ℕ) → b ≢ a → update a v f b ≡ f b
 unfolding update
 update-past a b v f h = elim (address? b a) as (λ d. elim d [ yes e ↦ v | no n ↦ f b ] ≡ f b) [ yes e ↦ absurd (h e) | no n ↦ refl ]
-
--- a run of stores: vs at the addresses a f, a (f + 1), ..; and what stands at each address then
-abbrev pub stores : (ℕ → ℕ) → ℕ → List ℕ → List ℕ → List ℕ
-stores at-field f [] ws = ws
-stores at-field f (v ∷ vs) ws = stores at-field (suc f) vs (set ws (at-field f) v)
 
 abbrev pub updates : (ℕ → Address) → ℕ → List ℕ → (Address → ℕ) → Address → ℕ
 updates a f [] g = g

@@ -7,21 +7,20 @@ use native.Mathlib.Omega.{arith}
 use lib.ListN.{length}
 use Rattle.tables.specs.Lists.{remove, next}
 use Rattle.tables.specs.State.{Lock, Tables, lock, free-locks, denied, blocked, notices, queue, Chain, free-resources, of-locks, chain-of, home}
-use Rattle.tables.specs.Layout.{of-lock, place, head, link, lock-links, lock-fields, after, words, most}
+use Rattle.tables.specs.Layout.{of-lock, place, head, link, lock-links, lock-fields, following, words, most}
 use Rattle.tables.proofs.Numbered.{put-lock, locks-put, lock-put-here, chains-put-lock}
-use Rattle.tables.proofs.Links.{Absent, Distinct, Each, each-absent, each-append, each-remove, distinct-append, distinct-remove, removed, next-absent}
-use Rattle.tables.proofs.Grid.{stores}
-use Rattle.tables.proofs.Chains.{chain?, with-chain, In, Present, chain-same, chain-other, same-locks, lock-with, resource-count}
-use Rattle.tables.proofs.WordChanges.{Stands, stands, Threaded, put-lock-words}
+use Rattle.tables.specs.Threads.{Absent, Distinct, Each}
+use Rattle.tables.proofs.Links.{each-absent, each-append, each-remove, distinct-append, distinct-remove, removed, next-absent}
+use Rattle.tables.specs.Stores.{stores}
+use Rattle.tables.specs.Threads.{In, Present}
+use Rattle.tables.proofs.Chains.{chain?, with-chain, chain-same, chain-other, same-locks, lock-with, resource-count}
+use Rattle.tables.specs.Threads.{Stands, Threaded}
+use Rattle.tables.proofs.WordChanges.{stands, put-lock-words}
 use Rattle.tables.proofs.ReadBack.{chain-most}
 use Rattle.tables.proofs.Frame.{Homed, homed, home-word, in-same, in-without, threaded-this, threaded-other, threaded-put-lock}
-use Rattle.tables.proofs.WordSteps.{join, push, leave, join-cells, leave-cells, cell-place, join-is, leave-is}
-
--- a state of r resources and l locks whose chains are all threaded
-pub record Sane (r l : ℕ) (t : Tables) : Type 0 where
-  pub resources : length (t .resources) ≡ r
-  pub locks : length (t .locks) ≡ l
-  pub chains : (c : Chain) → Present t c → Threaded t c
+use Rattle.tables.specs.Stores.{join-cells, leave-cells, cell-place}
+use Rattle.tables.proofs.WordSteps.{join, push, leave, join-is, leave-is}
+use Rattle.tables.specs.Threads.{Sane}
 
 module _ (r l : ℕ) (t : Tables) (h : Sane r l t) where
   pub sane-with : (c : Chain) (xs : List ℕ) → Present t c → Distinct xs → Each (Stands t c) xs → Sane r l (with-chain c xs t)
@@ -77,7 +76,7 @@ link-inside t (of-locks notices) k m p q = absurd m
 link-inside t (of-locks (queue r s)) k m p q = (p, q, omega arith)
 
 pub stands-at-home : (t : Tables) (c : Chain) (k : ℕ) → Homed c → 1 ≤ k → k ≤ length (t .locks) → of-locks (home (lock t k)) ≡ c → Stands t c k
-stands-at-home t c k m p q e = stands t c k p (link-inside t c k m p q) (home-word t c k m ∙ ap (λ (d : Chain). after d k) e)
+stands-at-home t c k m p q e = stands t c k p (link-inside t c k m p q) (home-word t c k m ∙ ap (λ (d : Chain). following d k) e)
 
 pub most-homed : (r l : ℕ) (c : Chain) → Homed c → most r l c ≡ l
 most-homed r l free-resources h = absurd h

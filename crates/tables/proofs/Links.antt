@@ -12,23 +12,12 @@ use borrow.Author.Tests.{eq-eqb, ne-eqb}
 use Rattle.tables.specs.Lists.{count, remove, first, next}
 use Rattle.tables.proofs.Cases.{by-equal}
 use Rattle.tables.proofs.Counts.{count-nil, count-same, count-other, count-step, count-remove, count-remove-other, remove-absent}
+use Rattle.tables.specs.Threads.{Absent, Distinct, Each}
 
 -- what stands before k, where j stands before the list; what stands last, if k is not on it
 unfoldable pub holder : ℕ → ℕ → List ℕ → ℕ
 holder j k [] = j
 holder j k (x ∷ xs) = elim (eqb k x) [ true ↦ j | false ↦ holder x k xs ]
-
-abbrev pub Absent : ℕ → List ℕ → Type 0
-Absent k [] = Unit {0}
-Absent k (x ∷ xs) = (k ≢ x) × Absent k xs
-
-abbrev pub Distinct : List ℕ → Type 0
-Distinct [] = Unit {0}
-Distinct (x ∷ xs) = Absent x xs × Distinct xs
-
-abbrev pub Each : (ℕ → Type 0) → List ℕ → Type 0
-Each P [] = Unit {0}
-Each P (x ∷ xs) = P x × Each P xs
 
 -- by counts
 pub count-absent : (k : ℕ) (xs : List ℕ) → count k xs ≡ 0 → Absent k xs

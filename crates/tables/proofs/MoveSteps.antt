@@ -10,22 +10,25 @@ use lib.ListN.{length}
 use lib.Dec.{eqb}
 use borrow.Author.Tests.{eqb-true}
 use Rattle.tables.specs.Lists.{put, remove, next}
-use Rattle.tables.specs.State.{Lock, Resource, Tables, lock, resource, blocked-lock, told, Queue, blocked, notices, Chain, free-resources, of-locks, LockChain, chain-of, home-at, home, shift}
+use Rattle.tables.specs.State.{Lock, Resource, Tables, lock, resource, blocked-lock, noticed, Queue, blocked, notices, Chain, free-resources, of-locks, LockChain, chain-of, home-at, home, shift}
 use Rattle.tables.specs.Layout.{of-lock, place, head, lock-links, lock-fields, words}
 use Rattle.tables.proofs.Cases.{and-left, and-right}
 use Rattle.tables.proofs.Numbered.{put-lock, locks-put, lock-put-here, lock-put-other, resource-put-lock, chains-put-lock, lock-by-locks}
-use Rattle.tables.proofs.Links.{Absent, removed, without, absent-remove, on-remove, absent-append, on-append, on-end}
-use Rattle.tables.proofs.Grid.{stores}
-use Rattle.tables.proofs.Chains.{chain?, with-queue, Present, chain-same, chain-other, same-locks, resource-rest}
-use Rattle.tables.proofs.WordChanges.{Stands, stands, put-lock-words}
+use Rattle.tables.specs.Threads.{Absent}
+use Rattle.tables.proofs.Links.{removed, without, absent-remove, on-remove, absent-append, on-append, on-end}
+use Rattle.tables.specs.Stores.{stores}
+use Rattle.tables.specs.Threads.{Present}
+use Rattle.tables.proofs.Chains.{chain?, with-queue, chain-same, chain-other, same-locks, resource-rest}
+use Rattle.tables.specs.Threads.{Stands}
+use Rattle.tables.proofs.WordChanges.{stands, put-lock-words}
 use Rattle.tables.proofs.ReadBack.{chain-most}
 use Rattle.tables.proofs.Frame.{Homed, homed, in-same, threaded-put-lock}
-use Rattle.tables.proofs.WordSteps.{join, push, leave, join-cells, push-cells, leave-cells, cell-place, join-is, push-is, leave-is}
-use Rattle.tables.proofs.HomeChange.{Sane, sane-leave, sane-join, sane-push, elsewhere, home-short, lifted, sane-lifted, lock-lifted, high-lifted, link-zero, sane-set, present-set, absent-set, stands-set}
-
--- its home stays
-unfoldable pub stays : Lock → Lock → Bool
-stays l m = eqb (l .state) (m .state) && eqb (l .resource) (m .resource)
+use Rattle.tables.specs.Stores.{join-cells, push-cells, leave-cells, cell-place}
+use Rattle.tables.proofs.WordSteps.{join, push, leave, join-is, push-is, leave-is}
+use Rattle.tables.specs.Threads.{Sane}
+use Rattle.tables.proofs.HomeChange.{sane-leave, sane-join, sane-push, elsewhere, home-short, lifted, sane-lifted, lock-lifted, high-lifted, link-zero, sane-set, present-set, absent-set, stands-set}
+use Rattle.tables.specs.Threads.{Seat, Whole}
+use Rattle.tables.specs.Stores.{stays, shift-cells, arrive-cells, set-cells, resettle-cells}
 
 -- k on a chain, where it was and is to be on it or not
 unfoldable pub shift-chain : Bool → Bool → Chain → ℕ → Tables → Tables
@@ -50,35 +53,11 @@ unblock k m t = shift-chain (blocked-lock (lock t k)) (blocked-lock m) (of-locks
 
 unfoldable pub notify : ℕ → Lock → Tables → Tables
 unfolding unblock
-notify k m t = shift-chain (told (lock t k)) (told m) (of-locks notices) k (unblock k m t)
+notify k m t = shift-chain (noticed (lock t k)) (noticed m) (of-locks notices) k (unblock k m t)
 
 unfoldable pub move-steps : ℕ → Lock → Tables → Tables
 unfolding notify
 move-steps k m t = resettle (stays (lock t k) m) k m (notify k m t)
-
--- the same on words
-unfoldable pub shift-cells : Bool → Bool → (ℕ → ℕ) → ℕ → ℕ → List ℕ → List ℕ
-shift-cells true true at-cell n k ws = ws
-shift-cells true false at-cell n k ws = leave-cells at-cell n k ws
-shift-cells false true at-cell n k ws = join-cells at-cell n k ws
-shift-cells false false at-cell n k ws = ws
-
-unfoldable pub arrive-cells : Bool → (ℕ → ℕ) → ℕ → ℕ → List ℕ → List ℕ
-arrive-cells true at-cell n k ws = push-cells at-cell k ws
-arrive-cells false at-cell n k ws = join-cells at-cell n k ws
-
--- k is on the list, or it is not
-abbrev pub Seat : Bool → ℕ → List ℕ → Type 0
-Seat true k xs = Absent k xs → ⊥
-Seat false k xs = Absent k xs
-
--- every lock stands where its fields say
-pub record Whole (r l : ℕ) (t : Tables) : Type 0 where
-  pub sane : Sane r l t
-  pub homes : (k : ℕ) → 1 ≤ k → k ≤ l → Present t (of-locks (home (lock t k)))
-  pub at-home : (k : ℕ) → 1 ≤ k → k ≤ l → Absent k (chain-of (of-locks (home (lock t k))) t) → ⊥
-  pub on-blocked : (k : ℕ) → 1 ≤ k → k ≤ l → Seat (blocked-lock (lock t k)) k (t .blocked)
-  pub on-notices : (k : ℕ) → 1 ≤ k → k ≤ l → Seat (told (lock t k)) k (t .notices)
 
 shift-here : (b d : Bool) (k : ℕ) (xs : List ℕ) → Seat b k xs → Seat d k (shift b d k xs)
 unfolding shift
@@ -171,16 +150,6 @@ arrive-words : (r l : ℕ) (t : Tables) → Sane r l t → (b : Bool) (c : Chain
 unfolding arrive arrive-cells
 arrive-words r l t h true c k p n s = push-is t r (h .resources) c (h .chains c p) k s
 arrive-words r l t h false c k p n s = join-is t r (h .resources) c (h .chains c p) l k n
-
--- the fields of k, and its home
-unfoldable pub set-cells : ℕ → ℕ → Lock → List ℕ → List ℕ
-set-cells r k m ws = stores (λ f. place r (of-lock k f)) lock-links (lock-fields m) ws
-
-unfoldable pub resettle-cells : Bool → ℕ → ℕ → ℕ → Lock → Lock → List ℕ → List ℕ
-unfolding set-cells
-resettle-cells true r l k o m ws = set-cells r k m ws
-resettle-cells false r l k o m ws =
-    arrive-cells (eqb (m .state) 0) (cell-place r (of-locks (home m))) l k (set-cells r k m (leave-cells (cell-place r (of-locks (home o))) l k ws))
 
 -- a lock changes that keeps its home
 sane-put-same : (r l : ℕ) (t : Tables) (k : ℕ) (m : Lock) → home m ≡ home (lock t k) → Sane r l t → Sane r l (put-lock k m t)
@@ -276,7 +245,7 @@ module _ (r l : ℕ) (t : Tables) (h : Sane r l t) (k : ℕ) (m : Lock) (low : 1
 unfoldable pub move-cells : ℕ → ℕ → ℕ → Lock → Lock → List ℕ → List ℕ
 move-cells r l k o m ws =
     resettle-cells (stays o m) r l k o m
-    (shift-cells (told o) (told m) (cell-place r (of-locks notices)) l k (shift-cells (blocked-lock o) (blocked-lock m) (cell-place r (of-locks blocked)) l k ws))
+    (shift-cells (noticed o) (noticed m) (cell-place r (of-locks notices)) l k (shift-cells (blocked-lock o) (blocked-lock m) (cell-place r (of-locks blocked)) l k ws))
 
 pub stays-home : (o m : Lock) → stays o m ≡ true → home m ≡ home o
 unfolding stays
@@ -306,7 +275,7 @@ module _ (r l : ℕ) (t : Tables) (h : Whole r l t) (k : ℕ) (m : Lock) (low : 
   unfolding unblock
   notices-unblock = shift-chain-other (blocked-lock (lock t k)) (blocked-lock m) (of-locks blocked) k t (of-locks notices) (λ e. let z : _≡_ {A = ℕ} 0 1 = cc in omega arith)
 
-  pub seat-notices : Seat (told (lock t k)) k (unblock k m t .notices)
+  pub seat-notices : Seat (noticed (lock t k)) k (unblock k m t .notices)
   seat-notices = rw notices-unblock (h .on-notices k low high)
 
   pub sane-notify : Sane r l (notify k m t)
@@ -315,7 +284,7 @@ module _ (r l : ℕ) (t : Tables) (h : Whole r l t) (k : ℕ) (m : Lock) (low : 
 
   pub locks-notify : notify k m t .locks ≡ t .locks
   unfolding notify unblock
-  locks-notify = shift-chain-locks (told (lock t k)) (told m) (of-locks notices) k (unblock k m t) ∙ shift-chain-locks (blocked-lock (lock t k)) (blocked-lock m) (of-locks blocked) k t
+  locks-notify = shift-chain-locks (noticed (lock t k)) (noticed m) (of-locks notices) k (unblock k m t) ∙ shift-chain-locks (blocked-lock (lock t k)) (blocked-lock m) (of-locks blocked) k t
 
   pub lock-notify : (j : ℕ) → lock (notify k m t) j ≡ lock t j
   lock-notify j = lock-by-locks (notify k m t) t j locks-notify
@@ -323,7 +292,7 @@ module _ (r l : ℕ) (t : Tables) (h : Whole r l t) (k : ℕ) (m : Lock) (low : 
   pub homes-notify : (c : Chain) → Homed c → chain-of c (notify k m t) ≡ chain-of c t
   unfolding notify unblock
   homes-notify c x =
-      shift-chain-other (told (lock t k)) (told m) (of-locks notices) k (unblock k m t) c (homed-notices c x)
+      shift-chain-other (noticed (lock t k)) (noticed m) (of-locks notices) k (unblock k m t) c (homed-notices c x)
       ∙ shift-chain-other (blocked-lock (lock t k)) (blocked-lock m) (of-locks blocked) k t c (homed-blocked c x)
 
   pub present-notify : (c : Chain) → Present t c → Present (notify k m t) c
@@ -356,9 +325,9 @@ module _ (r l : ℕ) (t : Tables) (h : Whole r l t) (k : ℕ) (m : Lock) (low : 
   unfolding unblock
   unblock-words = shift-words r l t (h .sane) (blocked-lock (lock t k)) (blocked-lock m) (of-locks blocked) k (omega arith) (side-short r l t (h .sane) .0) (h .on-blocked k low high)
 
-  pub notify-words : shift-cells (told (lock t k)) (told m) (cell-place r (of-locks notices)) l k (words (unblock k m t)) ≡ words (notify k m t)
+  pub notify-words : shift-cells (noticed (lock t k)) (noticed m) (cell-place r (of-locks notices)) l k (words (unblock k m t)) ≡ words (notify k m t)
   unfolding notify
-  notify-words = shift-words r l (unblock k m t) sane-unblock (told (lock t k)) (told m) (of-locks notices) k (omega arith) (side-short r l _ sane-unblock .1) seat-notices
+  notify-words = shift-words r l (unblock k m t) sane-unblock (noticed (lock t k)) (noticed m) (of-locks notices) k (omega arith) (side-short r l _ sane-unblock .1) seat-notices
 
   pub settle-words : resettle-cells (stays (lock t k) m) r l k (lock t k) m (words (notify k m t)) ≡ words (move-steps k m t)
   unfolding move-steps
@@ -385,16 +354,16 @@ module _ (r l : ℕ) (t : Tables) (h : Whole r l t) (k : ℕ) (m : Lock) (low : 
   blocked-move =
       resettle-side r l (notify k m t) sane-notify k m low high old-notify (present-notify (of-locks (home m)) new) (stays (lock t k) m) (of-locks blocked)
       (λ e. homed-blocked (of-locks (home m)) (homed (m .state) (m .resource)) (sym e)) (λ e. homed-blocked (of-locks (home (lock (notify k m t) k))) (homed (lock (notify k m t) k .state) (lock (notify k m t) k .resource)) (sym e))
-      ∙ shift-chain-other (told (lock t k)) (told m) (of-locks notices) k (unblock k m t) (of-locks blocked) (λ e. let z : _≡_ {A = ℕ} 0 1 = cc in omega arith)
+      ∙ shift-chain-other (noticed (lock t k)) (noticed m) (of-locks notices) k (unblock k m t) (of-locks blocked) (λ e. let z : _≡_ {A = ℕ} 0 1 = cc in omega arith)
       ∙ shift-chain-same (blocked-lock (lock t k)) (blocked-lock m) (of-locks blocked) k t (omega arith)
 
-  pub notices-move : move-steps k m t .notices ≡ shift (told (lock t k)) (told m) k (t .notices)
+  pub notices-move : move-steps k m t .notices ≡ shift (noticed (lock t k)) (noticed m) k (t .notices)
   unfolding move-steps notify
   notices-move =
       resettle-side r l (notify k m t) sane-notify k m low high old-notify (present-notify (of-locks (home m)) new) (stays (lock t k) m) (of-locks notices)
       (λ e. homed-notices (of-locks (home m)) (homed (m .state) (m .resource)) (sym e)) (λ e. homed-notices (of-locks (home (lock (notify k m t) k))) (homed (lock (notify k m t) k .state) (lock (notify k m t) k .resource)) (sym e))
-      ∙ shift-chain-same (told (lock t k)) (told m) (of-locks notices) k (unblock k m t) (omega arith)
-      ∙ ap (shift (told (lock t k)) (told m) k) notices-unblock
+      ∙ shift-chain-same (noticed (lock t k)) (noticed m) (of-locks notices) k (unblock k m t) (omega arith)
+      ∙ ap (shift (noticed (lock t k)) (noticed m) k) notices-unblock
 
   home-move : (j : ℕ) → j ≢ k → (c : Chain) → Homed c → Absent j (chain-of c (move-steps k m t)) → Absent j (chain-of c t)
   unfolding move-steps
@@ -423,9 +392,9 @@ module _ (r l : ℕ) (t : Tables) (h : Whole r l t) (k : ℕ) (m : Lock) (low : 
         on-blocked = λ j p q. subst (λ (xs : List ℕ). Seat (blocked-lock (lock (move-steps k m t) j)) j xs) (sym blocked-move) (by-lock (λ (j : ℕ) (o : Lock). 1 ≤ j → j ≤ l → Seat (blocked-lock o) j (shift (blocked-lock (lock t k)) (blocked-lock m) k (t .blocked)))
             (λ p q. shift-here (blocked-lock (lock t k)) (blocked-lock m) k (t .blocked) (h .on-blocked k low high))
             (λ j n p q. shift-past (blocked-lock (lock t k)) (blocked-lock m) (blocked-lock (lock t j)) j k (t .blocked) n (h .on-blocked j p q)) j p q);
-        on-notices = λ j p q. subst (λ (xs : List ℕ). Seat (told (lock (move-steps k m t) j)) j xs) (sym notices-move) (by-lock (λ (j : ℕ) (o : Lock). 1 ≤ j → j ≤ l → Seat (told o) j (shift (told (lock t k)) (told m) k (t .notices)))
-            (λ p q. shift-here (told (lock t k)) (told m) k (t .notices) (h .on-notices k low high))
-            (λ j n p q. shift-past (told (lock t k)) (told m) (told (lock t j)) j k (t .notices) n (h .on-notices j p q)) j p q);
+        on-notices = λ j p q. subst (λ (xs : List ℕ). Seat (noticed (lock (move-steps k m t) j)) j xs) (sym notices-move) (by-lock (λ (j : ℕ) (o : Lock). 1 ≤ j → j ≤ l → Seat (noticed o) j (shift (noticed (lock t k)) (noticed m) k (t .notices)))
+            (λ p q. shift-here (noticed (lock t k)) (noticed m) k (t .notices) (h .on-notices k low high))
+            (λ j n p q. shift-past (noticed (lock t k)) (noticed m) (noticed (lock t j)) j k (t .notices) n (h .on-notices j p q)) j p q);
       }
 
 -- sizes as a state has them
@@ -513,7 +482,7 @@ module _ (r l : ℕ) (t : Tables) (h : Whole r l t) (k : ℕ) (m : Lock) (low : 
       resettle-side r l (notify k m t) (sane-notify r l t h k m low high new) k m low high (old-notify r l t h k m low high new)
       (present-notify r l t h k m low high new (of-locks (home m)) new) (stays (lock t k) m) free-resources
       (λ e. let z : _≡_ {A = ℕ} 0 1 = cc in omega arith) (λ e. let z : _≡_ {A = ℕ} 0 1 = cc in omega arith)
-      ∙ shift-chain-other (told (lock t k)) (told m) (of-locks notices) k (unblock k m t) free-resources (λ e. let z : _≡_ {A = ℕ} 0 1 = cc in omega arith)
+      ∙ shift-chain-other (noticed (lock t k)) (noticed m) (of-locks notices) k (unblock k m t) free-resources (λ e. let z : _≡_ {A = ℕ} 0 1 = cc in omega arith)
       ∙ shift-chain-other (blocked-lock (lock t k)) (blocked-lock m) (of-locks blocked) k t free-resources (λ e. let z : _≡_ {A = ℕ} 0 1 = cc in omega arith)
 
 -- what a resource has beside its chains stays
@@ -540,5 +509,5 @@ module _ {B : Type 0} (f : Resource → B) (blind : (q : Queue) (xs : List ℕ) 
   unfolding move-steps notify unblock
   rest-move k m t r =
       rest-resettle (stays (lock t k) m) k m (notify k m t) r
-      ∙ rest-shift (told (lock t k)) (told m) (of-locks notices) k (unblock k m t) r
+      ∙ rest-shift (noticed (lock t k)) (noticed m) (of-locks notices) k (unblock k m t) r
       ∙ rest-shift (blocked-lock (lock t k)) (blocked-lock m) (of-locks blocked) k t r

@@ -14,10 +14,14 @@ use Rattle.tables.specs.State.{Lock, Resource, Tables, no-resource, lock
 use Rattle.tables.specs.Layout.{words}
 use Rattle.tables.proofs.Cases.{by-cases, clash, and-left, and-right, and-intro}
 use Rattle.tables.proofs.Counts.{within-le, remove-absent, shift-off}
-use Rattle.tables.proofs.Chains.{chain?, with-queue, Present}
+use Rattle.tables.specs.Threads.{Present}
+use Rattle.tables.proofs.Chains.{chain?, with-queue, home-past}
 use Rattle.tables.proofs.Frame.{Homed, homed}
-use Rattle.tables.proofs.MoveSteps.{stays, stays-home, move-steps, Whole, move-cells, move-words, sane-move, locks-move, blocked-move, notices-move, move-removes, move-keeps, move-pushes, move-joins, free-resources-move, rest-move}
-use Rattle.tables.proofs.Valid.{enter, used, StateOk, LockOk, ok-at, Core, Near, resources-length, field-move, chain-move}
+use Rattle.tables.specs.Stores.{stays}
+use Rattle.tables.specs.Threads.{Whole}
+use Rattle.tables.proofs.MoveSteps.{stays-home, move-steps, move-cells, move-words, sane-move, locks-move, blocked-move, notices-move, move-removes, move-keeps, move-pushes, move-joins, free-resources-move, rest-move}
+use Rattle.tables.specs.Validity.{used, StateOk, LockOk, Core, Near}
+use Rattle.tables.proofs.Valid.{enter, ok-at, resources-length, field-move, chain-move}
 use Rattle.tables.proofs.ThreadedChains.{belongs-home}
 use Rattle.tables.proofs.Wholeness.{home-belongs, present-home, stands-count, core-whole}
 
@@ -57,7 +61,7 @@ enter-end zero r b d k xs e f z = clash true refl z
 enter-end (suc zero) r b d k xs e f z = rw (e, f)
 enter-end (suc (suc zero)) r b d k xs e f z = rw (e, f)
 enter-end (suc (suc (suc zero))) r b d k xs e f z = rw (e, f)
-enter-end (suc (suc (suc (suc s)))) r b d k xs e f z = rw (e, f)
+enter-end (suc (suc (suc (suc s)))) r b d k xs e f z = rw (home-past (suc (suc (suc (suc s)))) r (omega arith), e, f)
 
 -- a lock whose home stays keeps its state and its resource
 home-stays : (u : ℕ → Bool) (l m : Lock) → LockOk u l → LockOk u m → home l ≡ home m → stays l m ≡ true

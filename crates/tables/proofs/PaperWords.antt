@@ -9,14 +9,15 @@ use lib.ListN.{length, take, drop}
 use lib.Dec.{eqb}
 use borrow.Author.Tests.{eqb-true, eq-eqb, ne-eqb, leb-true, le-leb, not-true}
 use Rattle.tables.specs.Lists.{within, count, bit, from, null}
-use Rattle.tables.specs.State.{Lock, Tables, name-width, no-lock, lock, resource, blocked-lock, told, Queue, grants, converts, waits, LockChain, free-locks, denied, blocked, notices, queue, Chain, free-resources, of-locks, chain, home-at, home, belongs}
+use Rattle.tables.specs.State.{Lock, Tables, name-width, no-lock, lock, resource, blocked-lock, noticed, Queue, grants, converts, waits, LockChain, free-locks, denied, blocked, notices, queue, Chain, free-resources, of-locks, chain, home-at, home, belongs}
 use Rattle.tables.specs.Layout.{resource-width, lock-width, of-resource, of-lock, head, resources-in, locks-in, word-in, follow, most, link-in, read-chain, read-lock, slot-in, read}
 use Rattle.tables.specs.Grants.{empty}
 use Rattle.tables.specs.Sound.{indices-right, ends, chain-ends, all-zero, free-resource-right, used-resource-right, resource-right, stands-right, home-right, lock-right, sound}
 use Rattle.tables.proofs.Cases.{by-cases, by-equal, clash, eqb-same, parts}
 use Rattle.tables.proofs.Counts.{within-le, le-within, count-same, count-other, count-nil, count-step, count-from, bit-one}
-use Rattle.tables.proofs.Valid.{used, StateOk, LockOk, ok-at, absent, used-within}
-use Rattle.tables.proofs.Grid.{Within}
+use Rattle.tables.specs.Validity.{used, StateOk, LockOk}
+use Rattle.tables.proofs.Valid.{ok-at, absent, used-within}
+use Rattle.tables.specs.Threads.{Within}
 use Rattle.tables.proofs.FollowedChains.{chain-ends-any}
 use Rattle.tables.proofs.ReadState.{resources-read, locks-read, lock-of, chain-followed}
 use Rattle.tables.proofs.Conditions.{each-at, each-intro, names-differ, differ-names, link-index, locks-low, resource-zeros, by-use, lock-tested, blocked-off, notice-off}
@@ -412,7 +413,7 @@ module _ (ws ss : List ℕ) (h : sound ws ss ≡ true) where
       go : (f : ℕ) → 1 ≤ f → f < lock-width → word-in ws (of-lock (suc k) f) ≡ 0
       go zero a b = absurd (omega arith)
       go (suc zero) a b = blocked-off ws ss h (suc k) p m (ap (λ (l : Lock). blocked-lock l) is-none)
-      go (suc (suc zero)) a b = notice-off ws ss h (suc k) p m (ap (λ (l : Lock). told l) is-none)
+      go (suc (suc zero)) a b = notice-off ws ss h (suc k) p m (ap (λ (l : Lock). noticed l) is-none)
       go (suc (suc (suc zero))) a b = field (λ (l : Lock). l .resource)
       go (suc (suc (suc (suc zero)))) a b = field (λ (l : Lock). l .client)
       go (suc (suc (suc (suc (suc zero))))) a b = field (λ (l : Lock). l .state)
@@ -425,5 +426,5 @@ module _ (ws ss : List ℕ) (h : sound ws ss ≡ true) where
   pub blocked-exactly : (k : ℕ) → count k (read ws ss .blocked) ≡ bit (within (locks-in ws) k && blocked-lock (lock (read ws ss) k))
   blocked-exactly k = rw (locks-read ws ss) at (sound-valid ws ss h .core .linked blocked k)
 
-  pub notices-exactly : (k : ℕ) → count k (read ws ss .notices) ≡ bit (within (locks-in ws) k && told (lock (read ws ss) k))
+  pub notices-exactly : (k : ℕ) → count k (read ws ss .notices) ≡ bit (within (locks-in ws) k && noticed (lock (read ws ss) k))
   notices-exactly k = rw (locks-read ws ss) at (sound-valid ws ss h .core .linked notices k)

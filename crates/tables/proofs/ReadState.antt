@@ -14,7 +14,7 @@ use Rattle.tables.specs.State.{Resource, name-width, no-lock, no-resourc
 use Rattle.tables.specs.Layout.{head, flat-map, slot-width, slot, slots, resources-in, locks-in, read-chain, read-lock, slot-in, read-resource, read}
 use Rattle.tables.specs.Sound.{all-zero}
 use Rattle.tables.proofs.Cases.{and-left, and-right, and-intro}
-use Rattle.tables.proofs.Grid.{Within}
+use Rattle.tables.specs.Threads.{Within}
 
 from-length : (a n : ℕ) → length (from a n) ≡ n
 from-length a zero = refl

@@ -10,17 +10,22 @@ use Rattle.tables.specs.State.{Resource, Tables, no-resource, resource, 
 use Rattle.tables.specs.Layout.{of-resource, place, resource-links, resource-fields, words, slot-width, slot, slots}
 use Rattle.tables.proofs.Counts.{le-within}
 use Rattle.tables.proofs.Numbered.{put-resource}
-use Rattle.tables.proofs.Grid.{stores}
-use Rattle.tables.proofs.Chains.{with-chain, Present}
-use Rattle.tables.proofs.WordChanges.{Stands, stands, put-resource-words}
+use Rattle.tables.specs.Stores.{stores}
+use Rattle.tables.specs.Threads.{Present}
+use Rattle.tables.proofs.Chains.{with-chain}
+use Rattle.tables.specs.Threads.{Stands}
+use Rattle.tables.proofs.WordChanges.{stands, put-resource-words}
 use Rattle.tables.proofs.ReadBack.{chain-most}
 use Rattle.tables.proofs.SlotChanges.{slots-put, slots-move-resource}
-use Rattle.tables.proofs.WordSteps.{push, leave, push-cells, leave-cells, cell-place, push-is, leave-is}
-use Rattle.tables.proofs.HomeChange.{Sane, sane-leave, sane-push}
-use Rattle.tables.proofs.MoveSteps.{Seat}
-use Rattle.tables.proofs.Valid.{Core}
+use Rattle.tables.specs.Stores.{push-cells, leave-cells, cell-place}
+use Rattle.tables.proofs.WordSteps.{push, leave, push-is, leave-is}
+use Rattle.tables.specs.Threads.{Sane}
+use Rattle.tables.proofs.HomeChange.{sane-leave, sane-push}
+use Rattle.tables.specs.Threads.{Seat}
+use Rattle.tables.specs.Validity.{Core}
 use Rattle.tables.proofs.ThreadedChains.{core-threaded}
 use Rattle.tables.proofs.Wholeness.{counted-seat, core-whole}
+use Rattle.tables.specs.Stores.{front-cells}
 
 -- k on a chain of free records, where it was and is to be on it or not: it enters at the front
 unfoldable pub front-chain : Bool → Bool → Chain → ℕ → Tables → Tables
@@ -28,13 +33,6 @@ front-chain true true c k t = t
 front-chain true false c k t = leave c k t
 front-chain false true c k t = push c k t
 front-chain false false c k t = t
-
--- the same on words
-unfoldable pub front-cells : Bool → Bool → (ℕ → ℕ) → ℕ → ℕ → List ℕ → List ℕ
-front-cells true true at-cell n k ws = ws
-front-cells true false at-cell n k ws = leave-cells at-cell n k ws
-front-cells false true at-cell n k ws = push-cells at-cell k ws
-front-cells false false at-cell n k ws = ws
 
 -- the two fields of the resource k, with r resources
 unfoldable pub set-resource-cells : ℕ → ℕ → Resource → List ℕ → List ℕ

@@ -16,10 +16,13 @@ use Rattle.tables.specs.Grants.{holders, empty}
 use Rattle.tables.specs.Sound.{free-resource-right, name-unique, used-resource-right, holders-compatible, sound}
 use Rattle.tables.proofs.Cases.{by-cases, clash, eqb-same, parts}
 use Rattle.tables.proofs.Counts.{within-le, le-within, count-nil, all-at}
-use Rattle.tables.proofs.Valid.{used, Place, StateOk, LockOk, ok-at, ResourceOk, holder-place, Linked, Core, line, idle, Settled, Valid, absent, absent-lock, used-within}
+use Rattle.tables.specs.Validity.{used, Place, StateOk, LockOk, ResourceOk, Linked, Core, line, idle, Settled, Valid}
+use Rattle.tables.proofs.Valid.{ok-at, holder-place, absent, absent-lock, used-within}
 use Rattle.tables.proofs.ChainMembers.{holder-in, no-head-idle}
-use Rattle.tables.proofs.Links.{Each, count-absent, absent-count, counted-on, each-absent, next-absent}
-use Rattle.tables.proofs.Grid.{Within, is-written}
+use Rattle.tables.specs.Threads.{Each}
+use Rattle.tables.proofs.Links.{count-absent, absent-count, counted-on, each-absent, next-absent}
+use Rattle.tables.specs.Threads.{Within}
+use Rattle.tables.proofs.Grid.{is-written}
 use Rattle.tables.proofs.ReadState.{resources-read, locks-read, lock-of, zeros-are, zero-drop, slot-is, slots-are}
 use Rattle.tables.proofs.Conditions.{names-differ, resources-low, resources-high, locks-low, locks-high, words-sized, slots-sized, header-zero, resource-zeros, chain-inside, chain-links, by-use, name-short, name-zeros, slot-wide, name-is, name-length, value-is, valid-is, fields-tested, stands-as, blocked-off, notice-off, compatible-tested, heads-tested}
 use Rattle.tables.proofs.Fields.{fields-are}

@@ -10,13 +10,15 @@ use Rattle.tables.specs.Lists.{within, count, null}
 use Rattle.tables.specs.State.{Lock, Tables, lock, resource, granted, converting, waiting, grants, converts, waits, LockChain, free-locks, denied, blocked, notices, queue, Chain, free-resources, of-locks, chain, home-at, home, belongs}
 use Rattle.tables.proofs.Cases.{by-cases, and-left, and-right}
 use Rattle.tables.proofs.Counts.{within-le, count-same, count-step}
-use Rattle.tables.proofs.Links.{Each, counted-distinct}
-use Rattle.tables.proofs.Chains.{Present}
-use Rattle.tables.proofs.WordChanges.{Stands, stands, Threaded}
+use Rattle.tables.specs.Threads.{Each}
+use Rattle.tables.proofs.Links.{counted-distinct}
+use Rattle.tables.specs.Threads.{Present}
+use Rattle.tables.specs.Threads.{Stands, Threaded}
+use Rattle.tables.proofs.WordChanges.{stands}
 use Rattle.tables.proofs.ReadBack.{Readable}
 use Rattle.tables.proofs.Frame.{Homed}
 use Rattle.tables.proofs.HomeChange.{stands-at-home}
-use Rattle.tables.proofs.Valid.{Core}
+use Rattle.tables.specs.Validity.{Core}
 use Rattle.tables.proofs.ChainMembers.{and-bit, on-chain, chain-once}
 
 -- what holds of every number that is counted holds of each on the list

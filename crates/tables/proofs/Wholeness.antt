@@ -7,13 +7,15 @@ use native.Mathlib.Omega.{arith}
 use lib.ListN.{length}
 use borrow.Author.Tests.{eq-eqb}
 use Rattle.tables.specs.Lists.{count, bit}
-use Rattle.tables.specs.State.{Lock, Tables, lock, blocked-lock, told, LockChain, blocked, notices, of-locks, chain, home-at, home, belongs}
+use Rattle.tables.specs.State.{Lock, Tables, lock, blocked-lock, noticed, LockChain, blocked, notices, of-locks, chain, home-at, home, belongs}
 use Rattle.tables.proofs.Cases.{and-intro, eqb-same}
 use Rattle.tables.proofs.Counts.{within-le, le-within}
 use Rattle.tables.proofs.Links.{count-absent, counted-on}
-use Rattle.tables.proofs.Chains.{Present}
-use Rattle.tables.proofs.MoveSteps.{Seat, Whole}
-use Rattle.tables.proofs.Valid.{used, Place, StateOk, LockOk, Core, used-within}
+use Rattle.tables.specs.Threads.{Present}
+use Rattle.tables.proofs.Chains.{home-past}
+use Rattle.tables.specs.Threads.{Seat, Whole}
+use Rattle.tables.specs.Validity.{used, Place, StateOk, LockOk, Core}
+use Rattle.tables.proofs.Valid.{used-within}
 use Rattle.tables.proofs.ChainMembers.{chain-has}
 use Rattle.tables.proofs.ThreadedChains.{core-threaded}
 
@@ -45,7 +47,7 @@ present-home t l ok = go (l .state) ok
     go (suc zero) o = (range (o .place) .0, range (o .place) .1, omega arith)
     go (suc (suc zero)) o = (range (o .place) .0, range (o .place) .1, omega arith)
     go (suc (suc (suc zero))) o = (range (o .place) .0, range (o .place) .1, omega arith)
-    go (suc (suc (suc (suc s)))) o = omega arith
+    go (suc (suc (suc (suc s)))) o = rw (home-past (suc (suc (suc (suc s)))) (l .resource) (omega arith)) (omega arith)
 
 module _ (t : Tables) (core : Core t) where
   -- how often a lock stands on a chain, and whether
@@ -59,5 +61,5 @@ module _ (t : Tables) (core : Core t) where
         homes = λ k p q. present-home t (lock t k) (core .lock-ok k);
         at-home = λ k p q. counted-on k (chain t (home (lock t k))) (omega (arith, chain-has t (core .linked) (home (lock t k)) k (le-within (length (t .locks)) k p q) (home-belongs (used t) (lock t k) (core .lock-ok k))));
         on-blocked = λ k p q. counted-seat (blocked-lock (lock t k)) k (t .blocked) (stands-count blocked k p q);
-        on-notices = λ k p q. counted-seat (told (lock t k)) k (t .notices) (stands-count notices k p q);
+        on-notices = λ k p q. counted-seat (noticed (lock t k)) k (t .notices) (stands-count notices k p q);
       }

@@ -9,11 +9,15 @@ use lib.ListN.{getD, set, length, drop, List·getD-map, List·getD-eq-default}
 use lib.Seq.{set-set, getD-drop}
 use Rattle.tables.specs.Lists.{remove, first, next}
 use Rattle.tables.specs.State.{Lock, Resource, Tables, lock, resource, Queue, grants, converts, waits, free-locks, denied, blocked, notices, queue, Chain, free-resources, of-locks, queue-of, chain-of, home-at, home}
-use Rattle.tables.specs.Layout.{Address, of-header, of-resource, of-lock, size, written, link, cell, resource-links, lock-links, resource-fields, lock-fields, Word, plain, after, header-words, resource-words, lock-words, word-at, value, content, words}
+use Rattle.tables.specs.Layout.{Address, of-header, of-resource, of-lock, size, written, link, cell, resource-links, lock-links, resource-fields, lock-fields, Word, plain, following, header-words, resource-words, lock-words, word-at, word-value, content, words}
 use Rattle.tables.proofs.Numbered.{put-lock, put-resource, locks-put, lock-put-here, lock-put-other, resource-put-lock, chains-put-lock, resources-put, resource-put-here, resource-put-other, lock-put-resource, chains-put-resource}
-use Rattle.tables.proofs.Links.{holder, Absent, Distinct, Each, each-on, each-absent, holder-on, holder-here, next-here, next-past, next-append-here, next-append-past, remove-here, without, next-remove-here, next-remove-gone, next-remove-past, next-push-past}
-use Rattle.tables.proofs.Grid.{address?, update, update-here, update-past, Side, on, off, lock-side, resource-side, stores, updates, stores-written, updates-past, row-agrees, length-written, getD-written, written-same, set-written}
-use Rattle.tables.proofs.Chains.{chain?, with-chain, with-queue, In, spot, Present, chain-same, chain-other, same-locks, lock-with, resource-count, resource-rest}
+use Rattle.tables.specs.Threads.{Absent, Distinct, Each}
+use Rattle.tables.proofs.Links.{holder, each-on, each-absent, holder-on, holder-here, next-here, next-past, next-append-here, next-append-past, remove-here, without, next-remove-here, next-remove-gone, next-remove-past, next-push-past}
+use Rattle.tables.specs.Stores.{stores}
+use Rattle.tables.proofs.Grid.{address?, update, update-here, update-past, Side, on, off, lock-side, resource-side, updates, stores-written, updates-past, row-agrees, length-written, getD-written, written-same, set-written}
+use Rattle.tables.specs.Threads.{In, Present}
+use Rattle.tables.proofs.Chains.{chain?, with-chain, with-queue, spot, chain-same, chain-other, same-locks, lock-with, resource-count, resource-rest, home-past}
+use Rattle.tables.specs.Threads.{LinkedAt, Stands, Threaded}
 
 pub length-words : (t : Tables) → length (words t) ≡ size (length (t .resources)) (length (t .locks))
 unfolding words
@@ -40,7 +44,7 @@ write-word t u a v p q i here past =
 -- each word that says what follows k on c stands at the cell of k on c
 abbrev pub Placed : Address → Word → Type 0
 Placed a (plain v) = Unit {0}
-Placed a (after c k) = cell c k ≡ a
+Placed a (following c k) = cell c k ≡ a
 
 abbrev pub Row : (ℕ → Address) → ℕ → List Word → Type 0
 Row a f [] = Unit {0}
@@ -60,7 +64,7 @@ home-link zero r k = refl
 home-link (suc zero) r k = refl
 home-link (suc (suc zero)) r k = refl
 home-link (suc (suc (suc zero))) r k = refl
-home-link (suc (suc (suc (suc s)))) r k = refl
+home-link (suc (suc (suc (suc s)))) r k = rw (home-past (suc (suc (suc (suc s)))) r (omega arith))
 
 placed-in : (a : ℕ → Address) (ws : List Word) → Row a 0 ws → (f : ℕ) → Placed (a f) (getD ws f (plain 0))
 placed-in a ws h f = subst (λ (i : ℕ). Placed (a i) (getD ws f (plain 0))) (zero-add f) (row-at a 0 ws h f)
@@ -73,12 +77,7 @@ placed t (of-lock zero f) h = absurd (omega arith)
 placed t (of-lock (suc k) f) h =
     placed-in (of-lock (suc k)) (lock-words (suc k) (lock t (suc k))) (home-link (lock t (suc k) .state) (lock t (suc k) .resource) (suc k), (refl, (refl, row-plain (of-lock (suc k)) 3 (lock-fields (lock t (suc k)))))) f
 
--- the word of k on c stands where its cell is: so it does where the cell is in the tables, and k's home is c if the cell is a home link
-pub record Linked (t : Tables) (c : Chain) (k : ℕ) : Type 0 where
-  pub inside : In t (cell c k)
-  pub says : word-at t (cell c k) ≡ after c k
-
-pub linked-head : (t : Tables) (c : Chain) → Present t c → Linked t c 0
+pub linked-head : (t : Tables) (c : Chain) → Present t c → LinkedAt t c 0
 linked-head t free-resources h = record { inside = h; says = refl }
 linked-head t (of-locks free-locks) h = record { inside = h; says = refl }
 linked-head t (of-locks denied) h = record { inside = h; says = refl }
@@ -88,19 +87,9 @@ linked-head t (of-locks (queue r grants)) h = record { inside = h; says = refl }
 linked-head t (of-locks (queue r converts)) h = record { inside = h; says = refl }
 linked-head t (of-locks (queue r waits)) h = record { inside = h; says = refl }
 
--- k can stand on c
-abbrev pub Stands : Tables → Chain → ℕ → Type 0
-Stands t c k = (1 ≤ k) × Linked t c k
-
-pub stands : (t : Tables) (c : Chain) (k : ℕ) → 1 ≤ k → In t (link c k) → word-at t (link c k) ≡ after c k → Stands t c k
+pub stands : (t : Tables) (c : Chain) (k : ℕ) → 1 ≤ k → In t (link c k) → word-at t (link c k) ≡ following c k → Stands t c k
 stands t c zero p i e = absurd (omega arith)
 stands t c (suc k) p i e = (p, record { inside = i; says = e })
-
--- a chain whose words say what it is
-pub record Threaded (t : Tables) (c : Chain) : Type 0 where
-  pub present : Present t c
-  pub distinct : Distinct (chain-of c t)
-  pub members : Each (Stands t c) (chain-of c t)
 
 -- a word as it stands, or one of the chain c
 pub data Seen (t : Tables) (c : Chain) (xs : List ℕ) (a : Address) : Type 0 where
@@ -117,23 +106,23 @@ seen : (t : Tables) (c : Chain) (xs : List ℕ) → Present t c → (a : Address
 seen t c xs h a i = go (word-at t a) refl
   where
     go : (w : Word) → word-at t a ≡ w → Seen t c xs a
-    go (plain v) e = apart (ap (value (with-chain c xs t)) (word-with t c xs a ∙ e) ∙ sym (ap (value t) e))
-    go (after d k) e =
-        let new : content (with-chain c xs t) a ≡ next k (0 ∷ chain-of d (with-chain c xs t)) = ap (value (with-chain c xs t)) (word-with t c xs a ∙ e) in
-        let old : content t a ≡ next k (0 ∷ chain-of d t) = ap (value t) e in
+    go (plain v) e = apart (ap (word-value (with-chain c xs t)) (word-with t c xs a ∙ e) ∙ sym (ap (word-value t) e))
+    go (following d k) e =
+        let new : content (with-chain c xs t) a ≡ next k (0 ∷ chain-of d (with-chain c xs t)) = ap (word-value (with-chain c xs t)) (word-with t c xs a ∙ e) in
+        let old : content t a ≡ next k (0 ∷ chain-of d t) = ap (word-value t) e in
         let where-it-is : cell d k ≡ a = subst (Placed a) e (placed t a i) in
         elim (chain? d c) [
           | yes f ↦ inside-chain k (rw f at where-it-is) (rw f at old) ((rw f at new) ∙ ap (λ (l : List ℕ). next k (0 ∷ l)) (chain-same c xs t h))
           | no n ↦ apart (new ∙ ap (λ (l : List ℕ). next k (0 ∷ l)) (chain-other c d xs t n) ∙ sym old)
         ]
 
-cell-with : (t : Tables) (c : Chain) (xs : List ℕ) (k : ℕ) → Present t c → Linked t c k → content (with-chain c xs t) (cell c k) ≡ next k (0 ∷ xs)
+cell-with : (t : Tables) (c : Chain) (xs : List ℕ) (k : ℕ) → Present t c → LinkedAt t c k → content (with-chain c xs t) (cell c k) ≡ next k (0 ∷ xs)
 cell-with t c xs k h l =
-    ap (value (with-chain c xs t)) (word-with t c xs (cell c k) ∙ l .says) ∙ ap (λ (ys : List ℕ). next k (0 ∷ ys)) (chain-same c xs t h)
+    ap (word-value (with-chain c xs t)) (word-with t c xs (cell c k) ∙ l .says) ∙ ap (λ (ys : List ℕ). next k (0 ∷ ys)) (chain-same c xs t h)
 
 -- a chain changes: the cells of p and q are written, and what follows any other record stays
 module _ (t : Tables) (c : Chain) (xs : List ℕ) (p q v u : ℕ)
-    (h : Present t c) (lp : Linked t c p) (lq : Linked t c q)
+    (h : Present t c) (lp : LinkedAt t c p) (lq : LinkedAt t c q)
     (at-p : p ≢ q → next p (0 ∷ xs) ≡ v) (at-q : next q (0 ∷ xs) ≡ u)
     (rest : (k : ℕ) → k ≢ p → k ≢ q → next k (0 ∷ xs) ≡ next k (0 ∷ chain-of c t)) where
   agree-past : (b : Address) → In t b → b ≢ cell c p → b ≢ cell c q → content (with-chain c xs t) b ≡ content t b
@@ -170,11 +159,11 @@ module _ (t : Tables) (c : Chain) (h : Threaded t c) where
   pub no-zero : Absent 0 (chain-of c t)
   no-zero = each-absent (Stands t c) (chain-of c t) 0 (h .members) (λ s. omega (arith, s .0))
 
-  pub linked-on : (k : ℕ) → (Absent k (0 ∷ chain-of c t) → ⊥) → Linked t c k
+  pub linked-on : (k : ℕ) → (Absent k (0 ∷ chain-of c t) → ⊥) → LinkedAt t c k
   linked-on zero o = linked-head t c (h .present)
   linked-on (suc k) o = each-on (Stands t c) (chain-of c t) (suc k) (h .members) (λ a. o (omega arith, a)) .1
 
-  linked-holder : (k : ℕ) → Linked t c (holder 0 k (chain-of c t))
+  linked-holder : (k : ℕ) → LinkedAt t c (holder 0 k (chain-of c t))
   linked-holder k = linked-on (holder 0 k (chain-of c t)) (holder-on 0 k (chain-of c t))
 
   pub append-words : (k : ℕ) → words (with-chain c (chain-of c t ++ (k ∷ [])) t) ≡ set (words t) (holding t c 0) k
@@ -206,23 +195,23 @@ module _ (t u : Tables) (resources : length (u .resources) ≡ length (t .resour
     (is-old : (i : ℕ) → word-at t (a i) ≡ getD old i (plain 0)) (is-new : (i : ℕ) → word-at u (a i) ≡ getD new i (plain 0))
     (others : (b : Address) → ((i : ℕ) → b ≢ a i) → word-at u b ≡ word-at t b)
     (fields : drop m new ≡ map plain vs) (new-length : length new ≡ m + length vs) (old-length : length old ≡ m + length vs)
-    (links : (i : ℕ) → i < m → value t (getD new i (plain 0)) ≡ value t (getD old i (plain 0)))
+    (links : (i : ℕ) → i < m → word-value t (getD new i (plain 0)) ≡ word-value t (getD old i (plain 0)))
     (inside : (i : ℕ) → m ≤ i → i < m + length vs → In t (a i)) where
-  same-value : (w : Word) → value u w ≡ value t w
+  same-value : (w : Word) → word-value u w ≡ word-value t w
   same-value (plain v) = refl
-  same-value (after c j) = ap (λ (xs : List ℕ). next j (0 ∷ xs)) (chains c)
+  same-value (following c j) = ap (λ (xs : List ℕ). next j (0 ∷ xs)) (chains c)
 
-  record-row : (f : ℕ) → value t (getD new f (plain 0)) ≡ updates a m vs (content t) (a f)
+  record-row : (f : ℕ) → word-value t (getD new f (plain 0)) ≡ updates a m vs (content t) (a f)
   record-row f =
-      row-agrees a injective m vs (content t) (λ i. value t (getD new i (plain 0)))
-      (λ i p. links i p ∙ sym (ap (value t) (is-old i)))
-      (λ i p. ap (value t) (sym (getD-drop m new i (plain 0)) ∙ ap (λ (ws : List Word). getD ws i (plain 0)) fields ∙ List·getD-map plain vs i 0))
-      (λ i p. ap (value t) (List·getD-eq-default new (plain 0) (omega arith)) ∙ sym (ap (value t) (is-old i ∙ List·getD-eq-default old (plain 0) (omega arith))))
+      row-agrees a injective m vs (content t) (λ i. word-value t (getD new i (plain 0)))
+      (λ i p. links i p ∙ sym (ap (word-value t) (is-old i)))
+      (λ i p. ap (word-value t) (sym (getD-drop m new i (plain 0)) ∙ ap (λ (ws : List Word). getD ws i (plain 0)) fields ∙ List·getD-map plain vs i 0))
+      (λ i p. ap (word-value t) (List·getD-eq-default new (plain 0) (omega arith)) ∙ sym (ap (word-value t) (is-old i ∙ List·getD-eq-default old (plain 0) (omega arith))))
       f
 
   record-agrees : (b : Address) → Side a b → content u b ≡ updates a m vs (content t) b
-  record-agrees b (on i e) = subst (λ (b : Address). content u b ≡ updates a m vs (content t) b) e (same-value (word-at u (a i)) ∙ ap (value t) (is-new i) ∙ record-row i)
-  record-agrees b (off n) = same-value (word-at u b) ∙ ap (value t) (others b n) ∙ sym (updates-past a m vs (content t) b n)
+  record-agrees b (on i e) = subst (λ (b : Address). content u b ≡ updates a m vs (content t) b) e (same-value (word-at u (a i)) ∙ ap (word-value t) (is-new i) ∙ record-row i)
+  record-agrees b (off n) = same-value (word-at u b) ∙ ap (word-value t) (others b n) ∙ sym (updates-past a m vs (content t) b n)
 
   pub record-words : words u ≡ stores (λ f. spot t (a f)) m vs (words t)
   unfolding words
@@ -233,7 +222,7 @@ module _ (t u : Tables) (resources : length (u .resources) ≡ length (t .resour
 -- the fields of a lock change, and its home link stays: the lock keeps its home, or stands neither on the old nor on the new
 module _ (t : Tables) (k : ℕ) (l : Lock) (low : 1 ≤ k) (high : k ≤ length (t .locks))
     (kept : next k (0 ∷ chain-of (of-locks (home l)) t) ≡ next k (0 ∷ chain-of (of-locks (home (lock t k))) t)) where
-  lock-links-kept : (i : ℕ) → i < lock-links → value t (getD (lock-words k l) i (plain 0)) ≡ value t (getD (lock-words k (lock t k)) i (plain 0))
+  lock-links-kept : (i : ℕ) → i < lock-links → word-value t (getD (lock-words k l) i (plain 0)) ≡ word-value t (getD (lock-words k (lock t k)) i (plain 0))
   lock-links-kept zero p = kept
   lock-links-kept (suc zero) p = refl
   lock-links-kept (suc (suc zero)) p = refl
@@ -254,7 +243,7 @@ module _ (t : Tables) (k : ℕ) (l : Lock) (low : 1 ≤ k) (high : k ≤ length 
 
 -- the fields of a resource change, and its chains stay
 module _ (t : Tables) (r : ℕ) (x : Resource) (low : 1 ≤ r) (high : r ≤ length (t .resources)) (kept : (q : Queue) → queue-of q x ≡ queue-of q (resource t r)) where
-  resource-links-kept : (i : ℕ) → i < resource-links → value t (getD (resource-words r x) i (plain 0)) ≡ value t (getD (resource-words r (resource t r)) i (plain 0))
+  resource-links-kept : (i : ℕ) → i < resource-links → word-value t (getD (resource-words r x) i (plain 0)) ≡ word-value t (getD (resource-words r (resource t r)) i (plain 0))
   resource-links-kept zero p = refl
   resource-links-kept (suc zero) p = refl
   resource-links-kept (suc (suc zero)) p = refl

@@ -6,11 +6,15 @@ use native.Mathlib.Omega.{arith}
 use lib.ListN.{getD, set, length}
 use Rattle.tables.specs.Lists.{remove, next}
 use Rattle.tables.specs.State.{Tables, free-locks, denied, blocked, notices, queue, Chain, free-resources, of-locks, chain-of}
-use Rattle.tables.specs.Layout.{resource-width, lock-width, place, head, link, cell, value, words}
-use Rattle.tables.proofs.Links.{Absent, each-on, next-past}
+use Rattle.tables.specs.Layout.{resource-width, lock-width, place, head, link, cell, word-value, words}
+use Rattle.tables.specs.Threads.{Absent}
+use Rattle.tables.proofs.Links.{each-on, next-past}
 use Rattle.tables.proofs.Chains.{with-chain, spot}
-use Rattle.tables.proofs.WordChanges.{Stands, Linked, linked-head, linked-on, Threaded, read-word, append-words, remove-words, push-words}
-use Rattle.tables.proofs.ChainWalk.{cell-holding, cell-at, walk-holds}
+use Rattle.tables.specs.Threads.{Stands, LinkedAt, Threaded}
+use Rattle.tables.proofs.WordChanges.{linked-head, linked-on, read-word, append-words, remove-words, push-words}
+use Rattle.tables.specs.Stores.{cell-holding, cell-at}
+use Rattle.tables.proofs.ChainWalk.{walk-holds}
+use Rattle.tables.specs.Stores.{join-cells, push-cells, leave-cells, cell-place, stride}
 
 -- on a state: k joins a chain at its end, or in front, or leaves it
 unfoldable pub join : Chain → ℕ → Tables → Tables
@@ -21,25 +25,6 @@ push c k t = with-chain c (k ∷ chain-of c t) t
 
 unfoldable pub leave : Chain → ℕ → Tables → Tables
 leave c k t = with-chain c (remove k (chain-of c t)) t
-
--- on words: at k says where the cell of k stands (k = 0: the chain's head), and n bounds the walk
-unfoldable pub join-cells : (ℕ → ℕ) → ℕ → ℕ → List ℕ → List ℕ
-join-cells at-cell n k ws = set ws (cell-holding ws at-cell 0 n (at-cell 0)) k
-
-unfoldable pub push-cells : (ℕ → ℕ) → ℕ → List ℕ → List ℕ
-push-cells at-cell k ws = set (set ws (at-cell k) (getD ws (at-cell 0) 0)) (at-cell 0) k
-
-unfoldable pub leave-cells : (ℕ → ℕ) → ℕ → ℕ → List ℕ → List ℕ
-leave-cells at-cell n k ws = set (set ws (cell-holding ws at-cell k n (at-cell 0)) (getD ws (at-cell k) 0)) (at-cell k) 0
-
--- where the cell of k stands, with r resources
-abbrev pub cell-place : ℕ → Chain → ℕ → ℕ
-cell-place r c k = place r (cell c k)
-
--- how far apart the links of a chain stand; so code finds its cells from two places and that width
-abbrev pub stride : Chain → ℕ
-stride free-resources = resource-width
-stride (of-locks c) = lock-width
 
 link-place : (r : ℕ) (c : Chain) (k : ℕ) → place r (link c 1) + stride c * k ≡ place r (link c (suc k))
 link-place r free-resources k = omega arith
@@ -57,8 +42,8 @@ cells-are r c = fun-ext at-each
     at-each (suc k) = link-place r c k
 
 module _ (t : Tables) (r : ℕ) (size : length (t .resources) ≡ r) (c : Chain) (h : Threaded t c) where
-  cell-word : (k : ℕ) → Linked t c k → getD (words t) (spot t (cell c k)) 0 ≡ next k (0 ∷ chain-of c t)
-  cell-word k l = read-word t (cell c k) (l .inside) ∙ ap (value t) (l .says)
+  cell-word : (k : ℕ) → LinkedAt t c k → getD (words t) (spot t (cell c k)) 0 ≡ next k (0 ∷ chain-of c t)
+  cell-word k l = read-word t (cell c k) (l .inside) ∙ ap (word-value t) (l .says)
 
   pub join-is : (n k : ℕ) → length (chain-of c t) ≤ n → join-cells (cell-place r c) n k (words t) ≡ words (join c k t)
   unfolding join join-cells

@@ -17,11 +17,14 @@ use Rattle.tables.specs.Grants.{holders, no-grantable-head, empty}
 use Rattle.tables.specs.Sound.{sizes-right, zeros-right, resource-index, lock-index, indices-right, ends, chain-ends, chains-end, all-zero, free-resource-right, name-unique, used-resource-right, resource-right, stands-right, home-right, lock-right, linked-right, holders-compatible, state-right, sound}
 use Rattle.tables.proofs.Cases.{by-cases, by-equal, clash, eqb-same, and-intro, or-left, or-right}
 use Rattle.tables.proofs.Counts.{within-le, le-within, all-intro, nil-of-counts}
-use Rattle.tables.proofs.Valid.{used, StateOk, ok-at, Core, Valid, used-within}
+use Rattle.tables.specs.Validity.{used, StateOk, Core, Valid}
+use Rattle.tables.proofs.Valid.{ok-at, used-within}
 use Rattle.tables.proofs.ChainMembers.{and-bit, on-chain, on-grants, on-converts, on-waits, in-holder, idle-no-head}
 use Rattle.tables.proofs.Blocks.{length-blocks}
-use Rattle.tables.proofs.Links.{Each, count-absent, next-here, next-past, next-absent}
-use Rattle.tables.proofs.Chains.{In, spot, Present}
+use Rattle.tables.specs.Threads.{Each}
+use Rattle.tables.proofs.Links.{count-absent, next-here, next-past, next-absent}
+use Rattle.tables.specs.Threads.{In, Present}
+use Rattle.tables.proofs.Chains.{spot}
 use Rattle.tables.proofs.WordChanges.{no-zero, length-words}
 use Rattle.tables.proofs.ChainWalk.{words-lead}
 use Rattle.tables.proofs.ReadBack.{Readable, slot-length, resources-word, locks-word, word-read, chain-most, slot-read, tables-read}

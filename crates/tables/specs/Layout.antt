@@ -76,7 +76,7 @@ abbrev pub cell : Chain → ℕ → Address
 cell c zero = head c
 cell c (suc k) = link c (suc k)
 
--- what a record has beside its chains, and how many words stand before it
+-- the fields of a record that are no links, and how many link words stand before them
 abbrev pub resource-links : ℕ
 resource-links = 4
 
@@ -92,21 +92,21 @@ lock-fields l = l .resource ∷ l .client ∷ l .state ∷ l .held ∷ l .asked 
 -- what a word says: a number; or what follows the record k on a chain, or 0 (k = 0: the chain's first)
 pub data Word : Type 0 where
   plain : ℕ → Word
-  after : Chain → ℕ → Word
+  following : Chain → ℕ → Word
 
 -- the words of the header, with r resources and l locks; of a resource; of a lock
 abbrev pub header-words : ℕ → ℕ → List Word
 header-words r l =
-    plain r ∷ plain l ∷ after free-resources 0 ∷ after (of-locks free-locks) 0 ∷ after (of-locks denied) 0 ∷ after (of-locks blocked) 0
-    ∷ after (of-locks notices) 0 ∷ []
+    plain r ∷ plain l ∷ following free-resources 0 ∷ following (of-locks free-locks) 0 ∷ following (of-locks denied) 0 ∷ following (of-locks blocked) 0
+    ∷ following (of-locks notices) 0 ∷ []
 
 abbrev pub resource-words : ℕ → Resource → List Word
 resource-words r x =
-    after free-resources r ∷ after (of-locks (queue r grants)) 0 ∷ after (of-locks (queue r converts)) 0 ∷ after (of-locks (queue r waits)) 0
+    following free-resources r ∷ following (of-locks (queue r grants)) 0 ∷ following (of-locks (queue r converts)) 0 ∷ following (of-locks (queue r waits)) 0
     ∷ map plain (resource-fields x)
 
 abbrev pub lock-words : ℕ → Lock → List Word
-lock-words k l = after (of-locks (home l)) k ∷ after (of-locks blocked) k ∷ after (of-locks notices) k ∷ map plain (lock-fields l)
+lock-words k l = following (of-locks (home l)) k ∷ following (of-locks blocked) k ∷ following (of-locks notices) k ∷ map plain (lock-fields l)
 
 -- a word that none of these names is zero
 abbrev pub word-at : Tables → Address → Word
@@ -114,12 +114,12 @@ word-at t (of-header f) = getD (header-words (length (t .resources)) (length (t 
 word-at t (of-resource r f) = getD (resource-words r (resource t r)) f (plain 0)
 word-at t (of-lock k f) = getD (lock-words k (lock t k)) f (plain 0)
 
-abbrev pub value : Tables → Word → ℕ
-value t (plain v) = v
-value t (after c k) = next k (0 ∷ chain-of c t)
+abbrev pub word-value : Tables → Word → ℕ
+word-value t (plain v) = v
+word-value t (following c k) = next k (0 ∷ chain-of c t)
 
 abbrev pub content : Tables → Address → ℕ
-content t a = value t (word-at t a)
+content t a = word-value t (word-at t a)
 
 -- THE WORDS of a state
 unfoldable pub words : Tables → List ℕ
@@ -192,7 +192,7 @@ read-resource ws ss r =
       wait = read-chain ws (of-locks (queue r waits));
     }
 
--- THE STATE that words and slots are the written form of, where they are one
+-- THE STATE whose written form the words and slots are, if they are the written form of one
 unfoldable pub read : List ℕ → List ℕ → Tables
 unfolding read-chain read-lock read-resource
 read ws ss =

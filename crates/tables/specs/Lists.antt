@@ -20,7 +20,7 @@ abbrev pub within : ℕ → ℕ → Bool
 within n zero = false
 within n (suc k) = ltb k n
 
--- how often k stands on a list; once or not at all, as a test says
+-- how often k stands on a list; and a test as a number, 1 or 0
 unfoldable pub count : ℕ → List ℕ → ℕ
 count k [] = 0
 count k (j ∷ js) = cond (eqb k j) (suc (count k js)) (count k js)

@@ -6,7 +6,7 @@ use lib.ListN.{length, take, drop}
 use lib.Dec.{eqb, leb}
 use Rattle.modes.specs.Modes.{compatible}
 use Rattle.tables.specs.Lists.{count, bit, all, from, null, same}
-use Rattle.tables.specs.State.{Lock, Tables, name-width, lock, resource, grants, converts, waits, LockChain, free-locks, denied, blocked, notices, queue, Chain, free-resources, of-locks, chain, belongs}
+use Rattle.tables.specs.State.{Lock, Tables, name-width, state-free, state-granted, state-converting, state-waiting, state-denied, completion-none, completion-granted, completion-denied, completion-conversion-denied, lock, resource, grants, converts, waits, LockChain, free-locks, denied, blocked, notices, queue, Chain, free-resources, of-locks, chain, belongs}
 use Rattle.tables.specs.Layout.{of-header, of-resource, of-lock, size, slot-width, resources-in, locks-in, word-in, most, link-in, slot-in, read}
 use Rattle.tables.specs.Grants.{holders, no-grantable-head, empty}
 
@@ -105,19 +105,24 @@ modes-right l = leb (l .held) 5 && leb (l .asked) 5
 unfoldable pub on-resource : Tables → Lock → Bool
 on-resource t l = not (null (resource t (l .resource) .name))
 
+-- a granted lock's completion: "0, 1 or 3"
+abbrev pub granted-completion : ℕ → Bool
+granted-completion c = eqb c completion-none || eqb c completion-granted || eqb c completion-conversion-denied
+
 -- "Free: all but home next zero. Denied: resource, held and asked zero, completion 2. Granted: asked zero, completion 0, 1 or 3.
--- Converting and waiting: completion 0. Waiting: held zero, and it holds no mode." The states are 0 to 4.
+-- Converting and waiting: completion 0. Waiting: held zero, and it holds no mode." There is no other state.
 unfoldable pub fields-right : Tables → Lock → ℕ → Bool
 unfolding client-right modes-right on-resource
-fields-right t l zero = eqb (l .resource) 0 && eqb (l .client) 0 && eqb (l .held) 0 && eqb (l .asked) 0 && eqb (l .completion) 0
-fields-right t l (suc zero) =
-    on-resource t l && client-right (l .client) && modes-right l && eqb (l .asked) 0 && (eqb (l .completion) 0 || eqb (l .completion) 1 || eqb (l .completion) 3)
-fields-right t l (suc (suc zero)) = on-resource t l && client-right (l .client) && modes-right l && eqb (l .completion) 0
-fields-right t l (suc (suc (suc zero))) =
-    on-resource t l && client-right (l .client) && modes-right l && eqb (l .completion) 0 && eqb (l .held) 0
-fields-right t l (suc (suc (suc (suc zero)))) =
-    client-right (l .client) && eqb (l .resource) 0 && eqb (l .held) 0 && eqb (l .asked) 0 && eqb (l .completion) 2
-fields-right t l (suc (suc (suc (suc (suc s))))) = false
+fields-right t l state =
+    let standing = on-resource t l && client-right (l .client) && modes-right l in
+    cond (eqb state state-free) (eqb (l .resource) 0 && eqb (l .client) 0 && eqb (l .held) 0 && eqb (l .asked) 0 && eqb (l .completion) completion-none)
+    (cond (eqb state state-granted)
+    (standing && eqb (l .asked) 0 && granted-completion (l .completion))
+    (cond (eqb state state-converting) (standing && eqb (l .completion) completion-none)
+    (cond (eqb state state-waiting) (standing && eqb (l .completion) completion-none && eqb (l .held) 0)
+    (cond (eqb state state-denied)
+    (client-right (l .client) && eqb (l .resource) 0 && eqb (l .held) 0 && eqb (l .asked) 0 && eqb (l .completion) completion-denied)
+    false))))
 
 unfoldable pub lock-right : Tables → ℕ → Bool
 unfolding home-right fields-right

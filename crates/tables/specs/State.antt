@@ -1,14 +1,42 @@
 -- The state of a lock manager: what its two tables mean. A chain is the list of the numbers of the records on it, first to last.
-use mathlib.Core.Bool.{Bool, true, false, _&&_, _||_, not}
+use mathlib.Core.Bool.{Bool, true, false, _&&_, _||_, not, cond}
 use mathlib.Core.List.{List, [], _∷_, _++_}
-use Prim.Native.Nat.{ℕ, zero, suc}
+use Prim.Native.Nat.{ℕ}
 use lib.ListN.{replicate}
 use lib.Dec.{eqb}
 use Rattle.tables.specs.Lists.{nth, put, remove, null, from}
 pub use Rattle.tables.specs.declared.Lock.{Lock}
 
--- RECORDS. A lock has a resource, a client, a state (0 free, 1 granted, 2 converting, 3 waiting, 4 denied), the held and the asked mode
--- and a completion (0 none, 1 granted, 2 request denied, 3 conversion denied); the record is the code's struct.
+-- RECORDS. A lock has a resource, a client, a state, the held and the asked mode and a completion; the record is the code's struct.
+-- These are its states ..
+abbrev pub state-free : ℕ
+state-free = 0
+
+abbrev pub state-granted : ℕ
+state-granted = 1
+
+abbrev pub state-converting : ℕ
+state-converting = 2
+
+abbrev pub state-waiting : ℕ
+state-waiting = 3
+
+abbrev pub state-denied : ℕ
+state-denied = 4
+
+-- .. and its completions: none, granted, request denied, conversion denied
+abbrev pub completion-none : ℕ
+completion-none = 0
+
+abbrev pub completion-granted : ℕ
+completion-granted = 1
+
+abbrev pub completion-denied : ℕ
+completion-denied = 2
+
+abbrev pub completion-conversion-denied : ℕ
+completion-conversion-denied = 3
+
 pub record Resource : Type 0 where
   pub name : List ℕ
   pub value : List ℕ
@@ -38,7 +66,7 @@ no-value = replicate value-width 0
 
 -- a freed record keeps nothing
 abbrev pub no-lock : Lock
-no-lock = record { resource = 0; client = 0; state = 0; held = 0; asked = 0; completion = 0 }
+no-lock = record { resource = 0; client = 0; state = state-free; held = 0; asked = 0; completion = completion-none }
 
 abbrev pub no-resource : Resource
 no-resource = record { name = []; value = no-value; valid = 0; grant = []; convert = []; wait = [] }
@@ -65,13 +93,13 @@ started r l =
 
 -- what a lock's record says of it
 abbrev pub granted : Lock → Bool
-granted l = eqb (l .state) 1
+granted l = eqb (l .state) state-granted
 
 abbrev pub converting : Lock → Bool
-converting l = eqb (l .state) 2
+converting l = eqb (l .state) state-converting
 
 abbrev pub waiting : Lock → Bool
-waiting l = eqb (l .state) 3
+waiting l = eqb (l .state) state-waiting
 
 abbrev pub blocked-lock : Lock → Bool
 blocked-lock l = converting l || waiting l
@@ -81,8 +109,12 @@ abbrev pub holds : Lock → Bool
 holds l = granted l || converting l
 
 -- its completion is unread
-abbrev pub told : Lock → Bool
-told l = not (eqb (l .completion) 0)
+abbrev pub unread : Lock → Bool
+unread l = not (eqb (l .completion) completion-none)
+
+-- it belongs on the notice chain, which has "exactly those with a completion"
+abbrev pub noticed : Lock → Bool
+noticed l = unread l
 
 -- CHAINS. The eight kinds: of free resources; of free, denied, blocked and noticed locks; and the three of each resource.
 pub data Queue : Type 0 where
@@ -117,33 +149,33 @@ chain-of (of-locks c) t = chain t c
 
 -- the home chain of a lock: its state and its resource say which
 abbrev pub home-at : ℕ → ℕ → LockChain
-home-at zero r = free-locks
-home-at (suc zero) r = queue r grants
-home-at (suc (suc zero)) r = queue r converts
-home-at (suc (suc (suc zero))) r = queue r waits
-home-at (suc (suc (suc (suc s)))) r = denied
+home-at s r =
+    cond (eqb s state-free) free-locks
+    (cond (eqb s state-granted) (queue r grants)
+    (cond (eqb s state-converting) (queue r converts)
+    (cond (eqb s state-waiting) (queue r waits) denied)))
 
 abbrev pub home : Lock → LockChain
 home l = home-at (l .state) (l .resource)
 
 -- which locks belong on a chain
 abbrev pub belongs : LockChain → Lock → Bool
-belongs free-locks l = eqb (l .state) 0
-belongs denied l = eqb (l .state) 4
+belongs free-locks l = eqb (l .state) state-free
+belongs denied l = eqb (l .state) state-denied
 belongs blocked l = blocked-lock l
-belongs notices l = told l
+belongs notices l = noticed l
 belongs (queue r grants) l = granted l && eqb (l .resource) r
 belongs (queue r converts) l = converting l && eqb (l .resource) r
 belongs (queue r waits) l = waiting l && eqb (l .resource) r
 
--- CHANGES. A record that was on a chain, or not, is to be on it, or not: it enters at the end ..
+-- CHANGES. Whether a record was on a chain, and whether it is to be: it leaves the chain, joins it at its end, or neither ..
 unfoldable pub shift : Bool → Bool → ℕ → List ℕ → List ℕ
 shift true true k xs = xs
 shift true false k xs = remove k xs
 shift false true k xs = xs ++ (k ∷ [])
 shift false false k xs = xs
 
--- .. and a chain of free records at the front
+-- .. and on a chain of free records it joins at the front
 unfoldable pub shift-front : Bool → Bool → ℕ → List ℕ → List ℕ
 shift-front true true k xs = xs
 shift-front true false k xs = remove k xs
@@ -169,10 +201,10 @@ move r k m t =
       resources = put (t .resources) r (relist k l m (resource t r));
       locks = put (t .locks) k m;
       free-resources = t .free-resources;
-      free-locks = shift-front (eqb (l .state) 0) (eqb (m .state) 0) k (t .free-locks);
-      denied = shift (eqb (l .state) 4) (eqb (m .state) 4) k (t .denied);
+      free-locks = shift-front (eqb (l .state) state-free) (eqb (m .state) state-free) k (t .free-locks);
+      denied = shift (eqb (l .state) state-denied) (eqb (m .state) state-denied) k (t .denied);
       blocked = shift (blocked-lock l) (blocked-lock m) k (t .blocked);
-      notices = shift (told l) (told m) k (t .notices);
+      notices = shift (noticed l) (noticed m) k (t .notices);
     }
 
 -- the resource r becomes x: it leaves the free chain or joins its front, as its name says

@@ -1,5 +1,5 @@
-// The two lent tables of the lock manager. So far a lock record's fields; specs/ says what tables are and when they are
-// sound, proofs/ has the laws between a state and its written form.
+// The two lent tables of the lock manager. The code here is the records that definitions and code share. specs/ says what
+// tables are and when they are sound, proofs/ has the laws between a state and its written form.
 
 // A lock's record beside its three links.
 pub struct Lock {
@@ -12,6 +12,7 @@ pub struct Lock {
 }
 
 // What a listing says of a lock.
+#[repr(C)]
 pub struct LockEntry {
     pub number: u32,
     pub client: u32,

@@ -42,13 +42,19 @@ pub enum Call {
 /// Areas that calls write to, made once so that no timing has their making in it.
 pub struct Areas {
     pub value: [u8; 32],
-    pub entries: Vec<u32>,
+    pub entries: Vec<zamgyorud::raw::Entry>,
+    pub flat_entries: Vec<[u32; 5]>,
     pub image: Vec<u8>,
 }
 
 impl Areas {
     pub fn new(tables: &Tables) -> Areas {
-        Areas { value: [0; 32], entries: vec![0; 5 * 1024], image: vec![0; 4 * tables.words.len() + tables.slots.len()] }
+        Areas {
+            value: [0; 32],
+            entries: vec![Default::default(); 1024],
+            flat_entries: vec![[0; 5]; 1024],
+            image: vec![0; 4 * tables.words.len() + tables.slots.len()],
+        }
     }
 }
 
@@ -116,7 +122,7 @@ impl Manager for Flat {
                 areas.value = value;
                 u32::from(valid)
             })),
-            Call::List { client, lock } => one(flat::list(words, slots, *client, *lock, &mut areas.entries)),
+            Call::List { client, lock } => one(flat::list(words, slots, *client, *lock, &mut areas.flat_entries)),
             Call::Image => none(flat::image(words, slots, &mut areas.image)),
             Call::Load { image } => none(flat::load(image, words, slots)),
             Call::Holder { image, name } => flat::holder(image, name).map_or_else(|number| 256 + u64::from(number), u64::from),

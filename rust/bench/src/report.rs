@@ -35,6 +35,14 @@ impl Results {
     fn middle_ratio(&self) -> f64 {
         median(self.cells.iter().map(|(_, cell)| cell.ratio))
     }
+
+    /// How many cells of a size have the library behind, and the titles of their rows.
+    fn behind(&self, at: usize) -> (usize, Vec<&'static str>) {
+        let cells: Vec<usize> =
+            self.cells.iter().filter(|((size, _, _), cell)| *size == at && cell.ratio > 1.0).map(|((_, _, row), _)| *row).collect();
+        let titles = ROWS.iter().enumerate().filter(|(row, _)| cells.contains(row)).map(|(_, spec)| spec.title).collect();
+        (cells.len(), titles)
+    }
 }
 
 /// A time as a person reads it.
@@ -61,6 +69,7 @@ pub fn page(results: &Results) -> String {
     for (at, size) in SIZES.iter().enumerate() {
         size_table(&mut page, results, at, *size);
     }
+    required_form(&mut page, results);
     share_table(&mut page, results);
     growth_table(&mut page, results);
     page
@@ -99,6 +108,26 @@ fn size_table(page: &mut String, results: &Results, at: usize, size: Size) {
         }
         page.push('\n');
     }
+}
+
+/// Where the library is behind, and what document 01's table of 384 entries has to do with it.
+fn required_form(page: &mut String, results: &Results) {
+    page.push_str("\n## Where the library is behind\n\nRatios above 1.0");
+    for (at, size) in SIZES.iter().enumerate() {
+        let (count, titles) = results.behind(at);
+        let _ = write!(page, "{} R {}, L {}: {count}", if at == 0 { ". Tables of" } else { ";" }, size.resources, size.locks);
+        if count > 0 {
+            let _ = write!(page, " ({})", titles.join("; "));
+        }
+    }
+    page.push_str(
+        ".\n\n\
+         Document 01 asks that grants are decided by a constant table of 64 by 6 entries. The language has no constant in memory, so the compiler \
+         builds the 384 bytes on the stack at each use. That is 20 to 25 ns a decision, where masks take 2: on the smallest tables more than the \
+         library's lead. A request pays it where somebody holds a mode on its name; a conversion that is not down; release, cancel and \
+         purge where the sweep finds a head; break in its clearing, for each line on which a lock of a busy owner holds a mode. Where nobody \
+         holds a mode, the table is not asked. The soundness check asks masks.\n",
+    );
 }
 
 /// How much of a call is the check of the tables.

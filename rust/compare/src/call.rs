@@ -50,7 +50,7 @@ pub enum Call {
         lock: u32,
         room: usize,
     },
-    /// Into a list of so many words.
+    /// Into a list of so many entries.
     List {
         client: u32,
         lock: u32,
@@ -74,10 +74,17 @@ pub enum Call {
     /// Changes the tables, and makes a call on what comes of it. If that is sound and `stays` is set, the game goes on from there; else the
     /// tables are as before.
     Damaged {
-        changes: Vec<Change>,
+        changes: Changes,
         call: Box<Call>,
         stays: bool,
     },
+}
+
+/// Changes to tables, and the label of the damage that they are. Changes anywhere have no label.
+#[derive(Clone, Debug, Default)]
+pub struct Changes {
+    pub label: &'static str,
+    pub list: Vec<Change>,
 }
 
 /// A change to tables.
@@ -93,7 +100,7 @@ pub enum Change {
 #[derive(Clone, Debug)]
 pub enum Image {
     /// That of the game's tables, with changes made to the tables before and to its length after.
-    OfTables { changes: Vec<Change>, longer_by: isize },
+    OfTables { changes: Changes, longer_by: isize },
     /// Given bytes.
     Bytes(Rc<[u8]>),
 }
@@ -115,7 +122,7 @@ impl Image {
         match self {
             Image::OfTables { changes, longer_by } => {
                 let mut changed = tables.clone();
-                damage(&mut changed, changes);
+                damage(&mut changed, &changes.list);
                 let mut bytes = changed.bytes();
                 bytes.resize(bytes.len().saturating_add_signed(*longer_by), 0);
                 bytes
@@ -161,23 +168,6 @@ impl Entry {
         Entry::Holder,
         Entry::Sound,
     ];
-
-    /// The refusals it can give.
-    pub fn refusals(self) -> &'static [u32] {
-        match self {
-            Entry::Start => &[2],
-            Entry::Request => &[1, 3, 4, 5, 6, 11, 12, 13],
-            Entry::Convert => &[1, 3, 4, 5, 7, 8, 9, 10, 13],
-            Entry::Release => &[1, 3, 5, 7, 8, 9, 10],
-            Entry::Cancel => &[1, 3, 8, 9, 10],
-            Entry::Purge | Entry::Poll => &[1, 3],
-            Entry::Break => &[1],
-            Entry::Read | Entry::List => &[1, 3, 8, 10],
-            Entry::Image | Entry::Load => &[1, 14],
-            Entry::Holder => &[1, 6],
-            Entry::Sound => &[],
-        }
-    }
 
     /// The kinds of answers it can give when it is accepted.
     pub fn answers(self) -> &'static [&'static str] {
@@ -236,10 +226,23 @@ fn shown(bytes: &[u8]) -> String {
     format!("\"{}\" ({} bytes)", bytes.escape_ascii(), bytes.len())
 }
 
+impl fmt::Display for Changes {
+    fn fmt(&self, f: &mut fmt::Formatter) -> fmt::Result {
+        let what = if self.label.is_empty() { "anywhere" } else { self.label };
+        write!(f, "\"{what}\" {:?}", self.list)
+    }
+}
+
+impl fmt::Display for Entry {
+    fn fmt(&self, f: &mut fmt::Formatter) -> fmt::Result {
+        f.pad(&format!("{self:?}").to_lowercase())
+    }
+}
+
 impl fmt::Display for Image {
     fn fmt(&self, f: &mut fmt::Formatter) -> fmt::Result {
         match self {
-            Image::OfTables { changes, longer_by } => write!(f, "image of the tables, changes {changes:?}, longer by {longer_by}"),
+            Image::OfTables { changes, longer_by } => write!(f, "image of the tables, changes {changes}, longer by {longer_by}"),
             Image::Bytes(bytes) => write!(f, "image of {} bytes made from the seed", bytes.len()),
         }
     }
@@ -261,14 +264,14 @@ impl fmt::Display for Call {
             Call::Break => write!(f, "break"),
             Call::Poll { client } => write!(f, "poll client {client}"),
             Call::Read { client, lock, room } => write!(f, "read client {client} lock {lock} into {room} bytes"),
-            Call::List { client, lock, room } => write!(f, "list client {client} lock {lock} into {room} words"),
+            Call::List { client, lock, room } => write!(f, "list client {client} lock {lock} into {room} entries"),
             Call::Image { room } => write!(f, "image into {room} bytes"),
             Call::Load { image, words, slots } => write!(f, "load {image} into {words} words, {slots} bytes"),
             Call::Holder { image, name } => write!(f, "holder of {} in {image}", shown(name)),
             Call::Sound => write!(f, "sound"),
             Call::Damaged { changes, call, stays } => {
                 let after = if *stays { "stay if sound" } else { "then undone" };
-                write!(f, "changes {changes:?} ({after}) and {call}")
+                write!(f, "changes {changes} ({after}) and {call}")
             }
         }
     }

@@ -1,22 +1,74 @@
-//! Changes to sound tables in a few words or bytes. Most make them unsound, in every way that document 01 names; some leave them sound in a
-//! form that no list of calls reaches.
+//! Makes changes to sound tables, in a few words or bytes: the named ones of [`crate::damages`], and some anywhere.
 
-use crate::call::Change;
+use crate::call::{Change, Changes};
+use crate::damages::{DAMAGES, Damage};
 use crate::manager::Tables;
 use crate::rng::Rng;
-use model::State;
+use model::{Lock, Mode, Resource, Standing, State};
 use std::collections::VecDeque;
 
-/// Where the words of records are, told once more here, so that damage doesn't rest on what is compared.
+pub const MOST: u32 = u32::MAX;
+
+// The places of the words in a resource record, and then in a lock record. They are said once more here, and not taken from what is
+// compared.
+pub const NEXT: usize = 0;
+pub const GRANT: usize = 1;
+pub const CONVERT: usize = 2;
+pub const WAIT: usize = 3;
+pub const NAME_LENGTH: usize = 4;
+pub const VALIDITY: usize = 5;
+
+pub const HOME: usize = 0;
+pub const BLOCKED: usize = 1;
+pub const NOTICE: usize = 2;
+pub const RESOURCE: usize = 3;
+pub const CLIENT: usize = 4;
+pub const STATE: usize = 5;
+pub const HELD: usize = 6;
+pub const ASKED: usize = 7;
+pub const COMPLETION: usize = 8;
+
+pub fn granted(lock: &Lock) -> bool {
+    matches!(lock.standing, Standing::Granted { .. })
+}
+
+pub fn converting(lock: &Lock) -> bool {
+    matches!(lock.standing, Standing::Converting { .. })
+}
+
+pub fn waiting(lock: &Lock) -> bool {
+    matches!(lock.standing, Standing::Waiting { .. })
+}
+
+pub fn denied(lock: &Lock) -> bool {
+    lock.standing == Standing::Denied
+}
+
+/// Whether a granted lock has a completion; none for others.
+pub fn unread(lock: &Lock) -> Option<bool> {
+    granted(lock).then(|| lock.completion() != 0)
+}
+
+pub fn word(at: usize, word: u32) -> Option<Vec<Change>> {
+    Some(vec![Change::Word(at, word)])
+}
+
+/// The first word of a resource's record.
 fn resource_at(number: u32) -> usize {
     8 + 8 * (number as usize - 1)
 }
 
-/// A maker of changes to some tables that have a state.
-pub struct Damager<'a> {
-    pub rng: &'a mut Rng,
-    pub tables: &'a Tables,
-    pub state: &'a State,
+/// The chains that tables have.
+#[derive(Clone, Copy, PartialEq, Eq)]
+pub enum Kind {
+    FreeResources,
+    FreeLocks,
+    Denied,
+    Blocked,
+    Notices,
+    Grant,
+    Convert,
+    Wait,
 }
 
 /// A chain: the word of its head, its numbers, and how far a number's link is from its record's start.
@@ -27,28 +79,27 @@ struct Chain<'a> {
     of_resources: bool,
 }
 
+/// A maker of changes to some tables that have a state.
+pub struct Damager<'a> {
+    pub rng: &'a mut Rng,
+    pub tables: &'a Tables,
+    pub state: &'a State,
+}
+
 impl<'a> Damager<'a> {
-    /// Changes in one to three places, or of a length.
-    pub fn changes(&mut self) -> Vec<Change> {
-        let made = match self.rng.below(18) {
-            0 => self.swap_neighbours(),
-            1 => self.give_completion(),
-            2 => self.drop_first(),
-            3 => self.name_without_locks(),
-            4 => self.same_name(),
-            5 => self.join_chains(),
-            6 => self.cut_chain(),
-            7 => self.lengths(),
-            8 => self.slot_byte(),
-            9 => self.resource_word(),
-            10 => self.head_word(),
-            11..=13 => self.lock_field(),
-            14 => self.lock_link(),
-            15 => self.ease_head(),
-            16 => self.clash(),
-            _ => Vec::new(),
-        };
-        if made.is_empty() { self.anywhere() } else { made }
+    /// A named damage for which there is a place, or changes anywhere.
+    pub fn changes(&mut self) -> Changes {
+        let tries = if self.rng.percent(80) { 12 } else { 0 };
+        let named = (0..tries).find_map(|_| {
+            let damage = self.rng.pick(DAMAGES);
+            self.named(damage)
+        });
+        named.unwrap_or_else(|| Changes { label: "", list: (0..self.rng.between(1, 3)).map(|_| self.one_anywhere()).collect() })
+    }
+
+    /// A damage, if there is a place for it.
+    pub fn named(&mut self, damage: &Damage) -> Option<Changes> {
+        (damage.make)(self).map(|list| Changes { label: damage.label, list })
     }
 
     fn lock_at(&self, number: u32) -> usize {
@@ -59,220 +110,414 @@ impl<'a> Damager<'a> {
         chain.link + if chain.of_resources { resource_at(number) } else { self.lock_at(number) }
     }
 
-    fn some_resource(&mut self) -> Option<u32> {
-        self.nth(self.state.resources.len(), |state, at| state.resources.keys().nth(at).copied())
+    /// The word that names the number at a place of a chain, or ends it.
+    fn cell_at(&self, chain: &Chain, place: usize) -> usize {
+        if place == 0 { chain.head } else { self.link_at(chain, chain.numbers[place - 1]) }
     }
 
-    fn some_lock(&mut self) -> Option<u32> {
-        self.nth(self.state.locks.len(), |state, at| state.locks.keys().nth(at).copied())
+    fn pick<T: Copy>(&mut self, things: &[T]) -> Option<T> {
+        if things.is_empty() { None } else { Some(*self.rng.pick(things)) }
     }
 
-    fn nth(&mut self, count: usize, get: impl Fn(&State, usize) -> Option<u32>) -> Option<u32> {
-        if count == 0 { None } else { get(self.state, self.rng.below(count)) }
+    fn lock_where(&mut self, fits: impl Fn(&Lock) -> bool) -> Option<u32> {
+        let found: Vec<u32> = self.state.locks.iter().filter(|(_, lock)| fits(lock)).map(|(number, _)| *number).collect();
+        self.pick(&found)
     }
 
-    /// A chain that may be empty.
-    fn some_chain(&mut self) -> Chain<'a> {
-        let resource = self.some_resource();
-        let kind = self.rng.below(8);
+    fn resource_where(&mut self, fits: impl Fn(&Resource) -> bool) -> Option<u32> {
+        let found: Vec<u32> = self.state.resources.iter().filter(|(_, resource)| fits(resource)).map(|(number, _)| *number).collect();
+        self.pick(&found)
+    }
+
+    fn free_lock(&mut self) -> Option<u32> {
         let state = self.state;
-        let of_locks = |head, numbers, link| Chain { head, numbers, link, of_resources: false };
-        match (kind, resource) {
-            (0, _) => Chain { head: 2, numbers: &state.free_resources, link: 0, of_resources: true },
-            (1, _) => of_locks(4, &state.denied, 0),
-            (2, _) => of_locks(5, &state.blocked, 1),
-            (3, _) => of_locks(6, &state.notices, 2),
-            (4, Some(r)) => of_locks(resource_at(r) + 1, &state.resources[&r].granted, 0),
-            (5, Some(r)) => of_locks(resource_at(r) + 2, &state.resources[&r].converting, 0),
-            (6, Some(r)) => of_locks(resource_at(r) + 3, &state.resources[&r].waiting, 0),
-            _ => of_locks(3, &state.free_locks, 0),
+        let count = state.free_locks.len();
+        if count == 0 { None } else { state.free_locks.get(self.rng.below(count)).copied() }
+    }
+
+    fn free_resource(&mut self) -> Option<u32> {
+        let state = self.state;
+        let count = state.free_resources.len();
+        if count == 0 { None } else { state.free_resources.get(self.rng.below(count)).copied() }
+    }
+
+    /// A number from 1 up.
+    pub fn up_to(&mut self, most: u32) -> u32 {
+        self.rng.between(1, most as usize) as u32
+    }
+
+    pub fn above_zero(&mut self) -> u32 {
+        *self.rng.pick(&[1, 2, 255, MOST])
+    }
+
+    pub fn a_lock(&mut self) -> u32 {
+        self.up_to(self.state.most_locks)
+    }
+
+    /// An index that is out of range by one or by far.
+    pub fn beyond(&mut self, most: u32) -> u32 {
+        *self.rng.pick(&[most + 1, most + 1, 1025, MOST])
+    }
+
+    pub fn beyond_locks(&mut self) -> u32 {
+        self.beyond(self.state.most_locks)
+    }
+
+    pub fn words_length(&mut self, more: isize) -> Option<Vec<Change>> {
+        Some(vec![Change::WordsLength(self.tables.words.len().saturating_add_signed(more))])
+    }
+
+    pub fn slots_length(&mut self, more: isize) -> Option<Vec<Change>> {
+        Some(vec![Change::SlotsLength(self.tables.slots.len().saturating_add_signed(more))])
+    }
+
+    pub fn used_word(&mut self, field: usize, value: fn(&mut Damager<'a>) -> u32) -> Option<Vec<Change>> {
+        let resource = self.resource_where(|_| true)?;
+        word(resource_at(resource) + field, value(self))
+    }
+
+    pub fn free_word(&mut self, field: usize, value: fn(&mut Damager<'a>) -> u32) -> Option<Vec<Change>> {
+        let resource = self.free_resource()?;
+        word(resource_at(resource) + field, value(self))
+    }
+
+    pub fn any_lock_word(&mut self, field: usize, value: fn(&mut Damager<'a>) -> u32) -> Option<Vec<Change>> {
+        let lock = self.a_lock();
+        word(self.lock_at(lock) + field, value(self))
+    }
+
+    pub fn free_lock_word(&mut self, field: usize, value: fn(&mut Damager<'a>) -> u32) -> Option<Vec<Change>> {
+        let lock = self.free_lock()?;
+        word(self.lock_at(lock) + field, value(self))
+    }
+
+    pub fn lock_word(&mut self, fits: fn(&Lock) -> bool, field: usize, value: fn(&mut Damager<'a>) -> u32) -> Option<Vec<Change>> {
+        let lock = self.lock_where(fits)?;
+        word(self.lock_at(lock) + field, value(self))
+    }
+
+    /// A byte of a resource's slot that isn't what it was.
+    fn byte(&mut self, resource: u32, within: usize) -> Option<Vec<Change>> {
+        let at = 96 * (resource as usize - 1) + within;
+        let other = self.tables.slots[at].wrapping_add(self.rng.between(1, 255) as u8);
+        Some(vec![Change::Byte(at, other)])
+    }
+
+    pub fn free_byte(&mut self, least: usize, most: usize) -> Option<Vec<Change>> {
+        let (resource, within) = (self.free_resource()?, self.rng.between(least, most));
+        self.byte(resource, within)
+    }
+
+    pub fn value_byte(&mut self) -> Option<Vec<Change>> {
+        let (resource, within) = (self.resource_where(|_| true)?, self.rng.between(64, 95));
+        self.byte(resource, within)
+    }
+
+    pub fn byte_after_name(&mut self, place: fn(usize) -> usize) -> Option<Vec<Change>> {
+        let resource = self.resource_where(|resource| resource.name.len() < 64)?;
+        self.byte(resource, place(self.state.resources[&resource].name.len()))
+    }
+
+    /// A name's length is one less, and its last byte isn't zero.
+    pub fn cut_name(&mut self) -> Option<Vec<Change>> {
+        let resource = self.resource_where(|resource| resource.name.len() > 1 && resource.name.last() != Some(&0))?;
+        word(resource_at(resource) + NAME_LENGTH, self.state.resources[&resource].name.len() as u32 - 1)
+    }
+
+    /// A chain of a kind that has at least so many numbers.
+    fn chain(&mut self, kind: Kind, least: usize) -> Option<Chain<'a>> {
+        let state = self.state;
+        let queue = |queues: &'a Resource| match kind {
+            Kind::Grant => &queues.granted,
+            Kind::Convert => &queues.converting,
+            _ => &queues.waiting,
+        };
+        let chain = match kind {
+            Kind::FreeResources => Chain { head: 2, numbers: &state.free_resources, link: NEXT, of_resources: true },
+            Kind::FreeLocks => Chain { head: 3, numbers: &state.free_locks, link: HOME, of_resources: false },
+            Kind::Denied => Chain { head: 4, numbers: &state.denied, link: HOME, of_resources: false },
+            Kind::Blocked => Chain { head: 5, numbers: &state.blocked, link: BLOCKED, of_resources: false },
+            Kind::Notices => Chain { head: 6, numbers: &state.notices, link: NOTICE, of_resources: false },
+            Kind::Grant | Kind::Convert | Kind::Wait => {
+                let long: Vec<u32> =
+                    state.resources.iter().filter(|(_, queues)| queue(queues).len() >= least).map(|(number, _)| *number).collect();
+                let resource = self.pick(&long)?;
+                let field = match kind {
+                    Kind::Grant => GRANT,
+                    Kind::Convert => CONVERT,
+                    _ => WAIT,
+                };
+                Chain { head: resource_at(resource) + field, numbers: queue(&state.resources[&resource]), link: HOME, of_resources: false }
+            }
+        };
+        Some(chain).filter(|chain| chain.numbers.len() >= least)
+    }
+
+    /// A home chain of locks of any kind that has at least so many.
+    fn home_chain(&mut self, least: usize) -> Option<Chain<'a>> {
+        let kind = *self.rng.pick(&[Kind::FreeLocks, Kind::Denied, Kind::Grant, Kind::Convert, Kind::Wait]);
+        self.chain(kind, least)
+    }
+
+    /// The last of a chain leads to one on it.
+    pub fn circle(&mut self, kind: Kind) -> Option<Vec<Change>> {
+        let chain = self.chain(kind, 1)?;
+        let count = chain.numbers.len();
+        word(self.cell_at(&chain, count), chain.numbers[self.rng.below(count)])
+    }
+
+    pub fn after_itself(&mut self) -> Option<Vec<Change>> {
+        let chain = self.home_chain(1)?;
+        let place = self.rng.below(chain.numbers.len());
+        word(self.cell_at(&chain, place + 1), chain.numbers[place])
+    }
+
+    /// The last of a chain is left out of it. A lock's resource keeps another lock.
+    pub fn drop_last(&mut self, kind: Kind) -> Option<Vec<Change>> {
+        let chain = self.chain(kind, 1)?;
+        let last = *chain.numbers.back()?;
+        let resource = if chain.of_resources { None } else { self.state.locks.get(&last).and_then(Lock::resource) };
+        if resource.is_some_and(|resource| self.state.resources[&resource].locks().count() < 2) {
+            return None;
         }
+        word(self.cell_at(&chain, chain.numbers.len() - 1), 0)
     }
 
-    /// Two neighbours on a chain change places, which three words do.
-    fn swap_neighbours(&mut self) -> Vec<Change> {
-        let chain = self.some_chain();
-        let numbers = chain.numbers;
-        if numbers.len() < 2 {
-            return Vec::new();
-        }
-        let at = self.rng.below(numbers.len() - 1);
-        let before = if at == 0 { chain.head } else { self.link_at(&chain, numbers[at - 1]) };
-        let after = numbers.get(at + 2).copied().unwrap_or(0);
-        let (a, b) = (numbers[at], numbers[at + 1]);
-        vec![Change::Word(before, b), Change::Word(self.link_at(&chain, b), a), Change::Word(self.link_at(&chain, a), after)]
+    pub fn free_and_used(&mut self) -> Option<Vec<Change>> {
+        let chain = self.chain(Kind::FreeResources, 0)?;
+        word(self.cell_at(&chain, chain.numbers.len()), self.resource_where(|_| true)?)
     }
 
-    /// A granted lock gets a completion and joins the notice chain.
-    fn give_completion(&mut self) -> Vec<Change> {
-        let Some(lock) = self.some_lock() else { return Vec::new() };
-        let end = self.state.notices.back().map_or(6, |last| self.lock_at(*last) + 2);
-        let completion = *self.rng.pick(&[1, 3, 2]);
-        vec![Change::Word(self.lock_at(lock) + 8, completion), Change::Word(end, lock)]
+    /// The first free lock stands on the grant chain of a free resource.
+    pub fn free_takes_lock(&mut self) -> Option<Vec<Change>> {
+        let (resource, lock) = (self.free_resource()?, *self.state.free_locks.front()?);
+        let at = self.lock_at(lock);
+        Some(vec![
+            Change::Word(3, self.tables.words[at]),
+            Change::Word(at, 0),
+            Change::Word(resource_at(resource) + GRANT, lock),
+            Change::Word(at + RESOURCE, resource),
+            Change::Word(at + CLIENT, 1),
+            Change::Word(at + STATE, 1),
+        ])
     }
 
-    /// The first lock of a chain is left out of it.
-    fn drop_first(&mut self) -> Vec<Change> {
-        let head = *self.rng.pick(&[5, 6]);
-        let chain = if head == 5 { &self.state.blocked } else { &self.state.notices };
-        let Some(first) = chain.front() else { return Vec::new() };
-        let link = self.lock_at(*first) + head - 4;
-        vec![Change::Word(head, self.tables.words[link]), Change::Word(link, 0)]
+    /// A name becomes another's, from which it differs in at most so many bytes.
+    pub fn same_name(&mut self, most: usize) -> Option<Vec<Change>> {
+        let one = self.resource_where(|_| true)?;
+        let new = self.state.resources[&one].name.clone();
+        let unlike = |name: &[u8]| (0..64).filter(|at| name.get(*at).unwrap_or(&0) != new.get(*at).unwrap_or(&0)).count();
+        let other =
+            self.resource_where(|other| other.name != new && (most == 64 || other.name.len() == new.len() && unlike(&other.name) <= most))?;
+        let start = 96 * (other as usize - 1);
+        let bytes = (0..64).map(|at| Change::Byte(start + at, *new.get(at).unwrap_or(&0)));
+        Some(bytes.chain([Change::Word(resource_at(other) + NAME_LENGTH, new.len() as u32)]).collect())
     }
 
     /// A free resource gets a name and no lock.
-    fn name_without_locks(&mut self) -> Vec<Change> {
-        let Some(first) = self.state.free_resources.front() else {
-            return Vec::new();
+    pub fn name_without_locks(&mut self) -> Option<Vec<Change>> {
+        let at = resource_at(*self.state.free_resources.front()?);
+        Some(vec![Change::Word(2, self.tables.words[at]), Change::Word(at, 0), Change::Word(at + NAME_LENGTH, 1)])
+    }
+
+    pub fn no_heads(&mut self) -> Option<Vec<Change>> {
+        let at = resource_at(self.resource_where(|_| true)?);
+        Some([GRANT, CONVERT, WAIT].map(|field| Change::Word(at + field, 0)).to_vec())
+    }
+
+    /// Two home chains, the second not empty.
+    fn two_homes(&mut self, least: usize) -> Option<(Chain<'a>, Chain<'a>)> {
+        let chains = (self.home_chain(least)?, self.home_chain(1)?);
+        (chains.0.head != chains.1.head).then_some(chains)
+    }
+
+    pub fn shared_tail(&mut self) -> Option<Vec<Change>> {
+        let (one, other) = self.two_homes(1)?;
+        let place = self.rng.below(other.numbers.len());
+        word(self.cell_at(&one, one.numbers.len()), other.numbers[place])
+    }
+
+    pub fn shared_head(&mut self) -> Option<Vec<Change>> {
+        let (one, other) = self.two_homes(0)?;
+        let place = self.rng.below(other.numbers.len());
+        word(one.head, other.numbers[place])
+    }
+
+    pub fn other_resource(&mut self, fits: fn(&Lock) -> bool) -> Option<Vec<Change>> {
+        let lock = self.lock_where(fits)?;
+        let other = self.up_to(self.state.most_resources);
+        if self.state.locks[&lock].resource() == Some(other) { None } else { word(self.lock_at(lock) + RESOURCE, other) }
+    }
+
+    /// A lock gets a completion and joins the notice chain.
+    pub fn give_completion(&mut self, fits: fn(&Lock) -> bool) -> Option<Vec<Change>> {
+        let lock = self.lock_where(fits)?;
+        let end = self.state.notices.back().map_or(6, |last| self.lock_at(*last) + NOTICE);
+        Some(vec![Change::Word(self.lock_at(lock) + COMPLETION, *self.rng.pick(&[1, 3])), Change::Word(end, lock)])
+    }
+
+    pub fn other_completion(&mut self) -> Option<Vec<Change>> {
+        let lock = self.lock_where(|lock| unread(lock) == Some(true))?;
+        word(self.lock_at(lock) + COMPLETION, 4 - self.state.locks[&lock].completion())
+    }
+
+    /// A lock leaves a chain on which it belongs.
+    pub fn take_off(&mut self, kind: Kind) -> Option<Vec<Change>> {
+        let chain = self.chain(kind, 1)?;
+        let place = self.rng.below(chain.numbers.len());
+        let link = self.cell_at(&chain, place + 1);
+        Some(vec![Change::Word(self.cell_at(&chain, place), self.tables.words[link]), Change::Word(link, 0)])
+    }
+
+    /// A lock joins the end of a chain on which it doesn't belong.
+    pub fn put_on(&mut self, kind: Kind, fits: fn(&Lock) -> bool) -> Option<Vec<Change>> {
+        let chain = self.chain(kind, 0)?;
+        word(self.cell_at(&chain, chain.numbers.len()), self.lock_where(fits)?)
+    }
+
+    pub fn free_lock_on(&mut self, kind: Kind) -> Option<Vec<Change>> {
+        let chain = self.chain(kind, 0)?;
+        word(self.cell_at(&chain, chain.numbers.len()), self.free_lock()?)
+    }
+
+    /// Two locks on a resource hold two modes, the second of them a lock of some kind.
+    pub fn clash(&mut self, one: Mode, other: Mode, fits: fn(&Lock) -> bool) -> Option<Vec<Change>> {
+        let state = self.state;
+        let of_kind = |resource: &Resource| resource.holders().filter(|lock| fits(&state.locks[lock])).collect::<Vec<u32>>();
+        let resource = self.resource_where(|resource| resource.holders().count() >= 2 && !of_kind(resource).is_empty())?;
+        let second = self.pick(&of_kind(&state.resources[&resource]))?;
+        let firsts: Vec<u32> = state.resources[&resource].holders().filter(|lock| *lock != second).collect();
+        let first = self.pick(&firsts)?;
+        Some([(first, one), (second, other)].map(|(lock, mode)| Change::Word(self.lock_at(lock) + HELD, mode.number())).to_vec())
+    }
+
+    /// A convert head asks for a mode that the others' modes go with.
+    pub fn ease_convert_head(&mut self) -> Option<Vec<Change>> {
+        let resource = self.resource_where(|resource| !resource.converting.is_empty())?;
+        let head = *self.state.resources[&resource].converting.front()?;
+        let eased: Vec<Mode> = Mode::ALL.into_iter().filter(|mode| self.state.fits(resource, *mode, head)).collect();
+        word(self.lock_at(head) + ASKED, self.pick(&eased)?.number())
+    }
+
+    /// All others on a resource hold NL, and its convert head asks for a mode that doesn't go with the one that it holds.
+    pub fn own_mode_alone(&mut self) -> Option<Vec<Change>> {
+        let resource = self.resource_where(|resource| !resource.converting.is_empty())?;
+        let head = *self.state.resources[&resource].converting.front()?;
+        let pairs = Mode::ALL.into_iter().flat_map(|held| Mode::ALL.map(|asked| (held, asked)));
+        let (held, asked) = self.pick(&pairs.filter(|(held, asked)| !held.compatible(*asked)).collect::<Vec<_>>())?;
+        let own = [(HELD, held), (ASKED, asked)].map(|(field, mode)| Change::Word(self.lock_at(head) + field, mode.number()));
+        Some([self.all_others_null(resource, head), own.to_vec()].concat())
+    }
+
+    pub fn ease_wait_head(&mut self) -> Option<Vec<Change>> {
+        let resource = self.resource_where(|resource| resource.converting.is_empty() && !resource.waiting.is_empty())?;
+        let head = *self.state.resources[&resource].waiting.front()?;
+        let eased: Vec<Mode> = Mode::ALL.into_iter().filter(|mode| self.state.fits(resource, *mode, 0)).collect();
+        word(self.lock_at(head) + ASKED, self.pick(&eased)?.number())
+    }
+
+    /// All that hold a mode beside a head hold NL.
+    pub fn give_way(&mut self, head: fn(&Resource) -> Option<&u32>) -> Option<Vec<Change>> {
+        let resource = self.resource_where(|resource| head(resource).is_some())?;
+        head(&self.state.resources[&resource]).map(|head| self.all_others_null(resource, *head))
+    }
+
+    fn all_others_null(&self, resource: u32, head: u32) -> Vec<Change> {
+        let others = self.state.resources[&resource].holders().filter(|lock| *lock != head);
+        others.map(|lock| Change::Word(self.lock_at(lock) + HELD, Mode::Nl.number())).collect()
+    }
+
+    /// The only conversion of a resource, behind which a compatible request waits, is granted what it holds.
+    pub fn restore_conversion(&mut self) -> Option<Vec<Change>> {
+        let state = self.state;
+        let alone = |resource: u32| {
+            let queues = &state.resources[&resource];
+            let asked = queues.waiting.front().and_then(|head| state.locks[head].asked());
+            queues.converting.len() == 1 && asked.is_some_and(|asked| state.fits(resource, asked, 0))
         };
-        let at = resource_at(*first);
-        vec![Change::Word(2, self.tables.words[at]), Change::Word(at, 0), Change::Word(at + 4, 1)]
+        let found: Vec<u32> = state.resources.keys().copied().filter(|resource| alone(*resource)).collect();
+        let resource = self.pick(&found)?;
+        let queues = &state.resources[&resource];
+        let lock = *queues.converting.front()?;
+        let grant_end = queues.granted.back().map_or(resource_at(resource) + GRANT, |last| self.lock_at(*last));
+        let blocked = self.chain(Kind::Blocked, 1)?;
+        let place = blocked.numbers.iter().position(|other| *other == lock)?;
+        let link = self.cell_at(&blocked, place + 1);
+        Some(vec![
+            Change::Word(resource_at(resource) + CONVERT, 0),
+            Change::Word(grant_end, lock),
+            Change::Word(self.lock_at(lock) + STATE, 1),
+            Change::Word(self.lock_at(lock) + ASKED, 0),
+            Change::Word(self.cell_at(&blocked, place), self.tables.words[link]),
+            Change::Word(link, 0),
+        ])
     }
 
-    /// A name becomes another's, if they are of one length and differ in few bytes.
-    fn same_name(&mut self) -> Vec<Change> {
-        let (Some(one), Some(other)) = (self.some_resource(), self.some_resource()) else {
-            return Vec::new();
+    /// Two neighbours on a chain change places, which three words do. A head stays, unless it waits behind a conversion.
+    pub fn swap_neighbours(&mut self, kind: Kind) -> Option<Vec<Change>> {
+        let chain = self.chain(kind, 2)?;
+        let numbers = chain.numbers;
+        let behind = self.state.locks.get(&numbers[0]).and_then(Lock::resource).map(|resource| &self.state.resources[&resource].converting);
+        let first = match kind {
+            Kind::Convert => 1,
+            Kind::Wait => usize::from(behind.is_some_and(VecDeque::is_empty)),
+            _ => 0,
         };
-        let (old, new) = (&self.state.resources[&one].name, &self.state.resources[&other].name);
-        let start = 96 * (one as usize - 1);
-        let unequal = (0..old.len().min(new.len())).filter(|at| old[*at] != new[*at]);
-        let changes: Vec<Change> = unequal.map(|at| Change::Byte(start + at, new[at])).collect();
-        if one == other || old.len() != new.len() || changes.len() > 3 { Vec::new() } else { changes }
+        let at = Some(self.rng.between(first, first.max(numbers.len() - 2))).filter(|at| at + 1 < numbers.len())?;
+        let after = numbers.get(at + 2).copied().unwrap_or(0);
+        let (a, b) = (numbers[at], numbers[at + 1]);
+        Some(vec![
+            Change::Word(self.cell_at(&chain, at), b),
+            Change::Word(self.link_at(&chain, b), a),
+            Change::Word(self.link_at(&chain, a), after),
+        ])
     }
 
-    /// A chain goes on into another one.
-    fn join_chains(&mut self) -> Vec<Change> {
-        let chain = self.some_chain();
-        let Some(last) = chain.numbers.back() else { return Vec::new() };
-        let most = if chain.of_resources { self.state.most_resources } else { self.state.most_locks };
-        vec![Change::Word(self.link_at(&chain, *last), self.rng.between(1, most as usize) as u32)]
+    /// A conversion behind the convert head, and what it holds.
+    fn conversion_behind(&mut self, fits: fn(Mode) -> bool) -> Option<(u32, Mode)> {
+        let chain = self.chain(Kind::Convert, 2)?;
+        let lock = chain.numbers[self.rng.between(1, chain.numbers.len() - 1)];
+        self.state.locks[&lock].held().filter(|held| fits(*held)).map(|held| (lock, held))
     }
 
-    /// A chain ends early.
-    fn cut_chain(&mut self) -> Vec<Change> {
-        vec![Change::Word(self.some_chain().head, 0)]
+    pub fn ask_for_less(&mut self) -> Option<Vec<Change>> {
+        let (lock, held) = self.conversion_behind(|held| held != Mode::Nl)?;
+        let less: Vec<Mode> = Mode::ALL.into_iter().filter(|mode| *mode != held && held.down_to(*mode)).collect();
+        word(self.lock_at(lock) + ASKED, self.pick(&less)?.number())
     }
 
-    fn lengths(&mut self) -> Vec<Change> {
-        let (words, slots) = (self.tables.words.len(), self.tables.slots.len());
-        let change = match self.rng.below(9) {
-            0 => Change::WordsLength(self.rng.below(10)),
-            1 => Change::WordsLength(words - 1),
-            2 => Change::WordsLength(words + 1),
-            3 => Change::WordsLength(words + 9),
-            4 => Change::SlotsLength(0),
-            5 => Change::SlotsLength(slots - 1),
-            6 => Change::SlotsLength(slots + 96),
-            7 => Change::Word(0, *self.rng.pick(&[0, 257, self.state.most_resources + 1, u32::MAX])),
-            _ => Change::Word(1, *self.rng.pick(&[0, 1025, self.state.most_locks + 1, u32::MAX])),
-        };
-        vec![change]
+    pub fn ask_for_same(&mut self) -> Option<Vec<Change>> {
+        let (lock, held) = self.conversion_behind(|_| true)?;
+        word(self.lock_at(lock) + ASKED, held.number())
     }
 
-    /// A byte in a name, after it, in a value, or in a free slot.
-    fn slot_byte(&mut self) -> Vec<Change> {
-        let number = self.rng.between(1, self.state.most_resources as usize) as u32;
-        let length = self.state.resources.get(&number).map_or(0, |resource| resource.name.len());
-        let within = match self.rng.below(3) {
-            0 if length > 0 => self.rng.below(length),
-            1 if length < 64 => self.rng.between(length, 63),
-            _ => self.rng.between(64, 95),
-        };
-        vec![Change::Byte(96 * (number as usize - 1) + within, self.rng.next() as u8)]
+    /// A holder has another mode that goes with the others' and grants no head.
+    pub fn other_held(&mut self) -> Option<Vec<Change>> {
+        let lock = self.lock_where(|lock| lock.held().is_some())?;
+        let mode = *self.rng.pick(&Mode::ALL);
+        let change = Change::Word(self.lock_at(lock) + HELD, mode.number());
+        let mut changed = self.tables.clone();
+        crate::call::damage(&mut changed, &[change]);
+        let stays = self.state.locks[&lock].held() != Some(mode) && State::from_tables(&changed.words, &changed.slots).is_some();
+        stays.then(|| vec![change])
     }
 
-    fn resource_word(&mut self) -> Vec<Change> {
-        let number = self.rng.between(1, self.state.most_resources as usize) as u32;
-        let field = self.rng.below(8);
-        let word = match field {
-            4 => *self.rng.pick(&[0, 1, 2, 3, 64, 65]),
-            5 => self.rng.below(3) as u32,
-            6 | 7 => 1,
-            _ => self.index(),
-        };
-        vec![Change::Word(resource_at(number) + field, word)]
+    pub fn turn_validity(&mut self) -> Option<Vec<Change>> {
+        let resource = self.resource_where(|_| true)?;
+        word(resource_at(resource) + VALIDITY, u32::from(!self.state.resources[&resource].valid))
     }
 
-    fn head_word(&mut self) -> Vec<Change> {
-        let index = self.index();
-        vec![Change::Word(self.rng.between(2, 7), index)]
+    /// A byte of a name is another, and the name still nobody else's.
+    pub fn other_name(&mut self) -> Option<Vec<Change>> {
+        let resource = self.resource_where(|_| true)?;
+        let mut name = self.state.resources[&resource].name.clone();
+        let within = self.rng.below(name.len());
+        name[within] = name[within].wrapping_add(self.rng.between(1, 255) as u8);
+        let change = Change::Byte(96 * (resource as usize - 1) + within, name[within]);
+        self.state.named(&name).is_none().then(|| vec![change])
     }
 
-    /// An index that may be out of range by one or by far.
-    fn index(&mut self) -> u32 {
-        let (resources, locks) = (self.state.most_resources, self.state.most_locks);
-        match self.rng.below(8) {
-            0 => 0,
-            1 => locks + 1,
-            2 => resources + 1,
-            3 => u32::MAX,
-            4 => self.rng.between(1, resources as usize) as u32,
-            _ => self.rng.between(1, locks as usize) as u32,
-        }
-    }
-
-    /// A field of a lock in use takes another value that fields of this kind can have, or one just beyond. Heads of queues come often,
-    /// since what they ask for decides on soundness.
-    fn lock_field(&mut self) -> Vec<Change> {
-        let Some(number) = self.lock_to_change() else { return Vec::new() };
-        let field = self.rng.between(3, 8);
-        let word = match field {
-            3 => self.rng.below(self.state.most_resources as usize + 1) as u32,
-            4 => *self.rng.pick(&[0, 1, 2, 255, 256, u32::MAX]),
-            5 => self.rng.below(6) as u32,
-            8 => self.rng.below(5) as u32,
-            _ => self.rng.below(7) as u32,
-        };
-        vec![Change::Word(self.lock_at(number) + field, word)]
-    }
-
-    /// A blocked lock asks for NL: if it is a head, it becomes grantable.
-    fn ease_head(&mut self) -> Vec<Change> {
-        let Some(resource) = self.some_resource() else { return Vec::new() };
-        let queues = &self.state.resources[&resource];
-        let heads: Vec<u32> = [queues.converting.front(), queues.waiting.front()].into_iter().flatten().copied().collect();
-        if heads.is_empty() {
-            return Vec::new();
-        }
-        let head = *self.rng.pick(&heads);
-        vec![Change::Word(self.lock_at(head) + 7, 0)]
-    }
-
-    /// A holder gets a strong mode, which may clash with what others hold.
-    fn clash(&mut self) -> Vec<Change> {
-        let Some(resource) = self.some_resource() else { return Vec::new() };
-        let holders: Vec<u32> = self.state.resources[&resource].holders().collect();
-        let holder = *self.rng.pick(&holders);
-        vec![Change::Word(self.lock_at(holder) + 6, self.rng.between(2, 5) as u32)]
-    }
-
-    fn lock_to_change(&mut self) -> Option<u32> {
-        let blocked: Vec<u32> = self.state.blocked.iter().copied().take(8).collect();
-        match self.rng.below(4) {
-            0 => Some(self.rng.between(1, self.state.most_locks as usize) as u32),
-            1 if !blocked.is_empty() => Some(*self.rng.pick(&blocked)),
-            2 => self.some_resource().and_then(|r| self.state.resources[&r].locks().last()),
-            _ => self.some_lock(),
-        }
-    }
-
-    fn lock_link(&mut self) -> Vec<Change> {
-        let number = self.rng.between(1, self.state.most_locks as usize) as u32;
-        let field = self.rng.below(3);
-        let link = match self.rng.below(3) {
-            0 => number,
-            1 => 0,
-            _ => self.index(),
-        };
-        vec![Change::Word(self.lock_at(number) + field, link)]
-    }
-
-    /// One to three places anywhere, with likely or unlikely numbers.
-    fn anywhere(&mut self) -> Vec<Change> {
-        (0..self.rng.between(1, 3)).map(|_| self.one_anywhere()).collect()
-    }
-
+    /// A word or byte anywhere, with a likely or unlikely number.
     fn one_anywhere(&mut self) -> Change {
         if self.rng.percent(25) {
             return Change::Byte(self.rng.below(self.tables.slots.len()), self.rng.next() as u8);
@@ -286,7 +531,7 @@ impl<'a> Damager<'a> {
             3 => self.rng.below(7) as u32,
             4 => *self.rng.pick(&self.tables.words),
             5 => self.rng.next() as u32,
-            _ => self.index(),
+            _ => self.a_lock(),
         };
         Change::Word(at, word)
     }

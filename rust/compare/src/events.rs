@@ -1,7 +1,9 @@
 //! Noteworthy branches: what a call met and did, told from the states before and after it.
 
-use crate::call::Call;
+use crate::call::{Call, Image};
 use model::{Lock, Mode, Resource, Standing, State, Unread};
+use std::collections::{BTreeSet, VecDeque};
+use std::fmt;
 
 macro_rules! events {
     ($($name:ident = $label:literal,)*) => {
@@ -15,8 +17,20 @@ macro_rules! events {
             pub fn label(self) -> &'static str {
                 match self { $(Event::$name => $label,)* }
             }
+
+            /// Whether it is about one of the seven calls that change the tables.
+            pub fn of_call(self) -> bool {
+                let calls = ["request", "convert", "release", "cancel", "purge", "break", "poll"];
+                calls.iter().any(|call| self.label().starts_with(call))
+            }
         }
     };
+}
+
+impl fmt::Display for Event {
+    fn fmt(&self, f: &mut fmt::Formatter) -> fmt::Result {
+        f.write_str(self.label())
+    }
 }
 
 events! {
@@ -24,15 +38,15 @@ events! {
     LargestTables = "a call on tables of R 256, L 1024",
     LargestTablesFull = "a call on tables of R 256, L 1024 with no free lock",
     NewName = "request: new name takes a resource",
-    NewNameNoLock = "request: new name, a resource is free, no lock is: 12",
+    NewNameByCase = "request: a new name that differs from one in use in the case of letters alone",
+    NewNameLonger = "request: a new name that begins with one in use",
     GrantedBeside = "request: granted beside other holders",
     GrantedPastWaiters = "request: granted although others wait",
     NlBesideEx = "request: NL granted beside EX",
     WaitsIncompatible = "request: waits for a held mode",
     WaitsForConversion = "request: compatible, waits behind a conversion",
     DontQueueGranted = "request: flag 4 and granted",
-    DontQueueNoLock = "request: flag 4 would block, no lock free: 12 before 13",
-    NoResourceNoLock = "request: neither resource nor lock free: 11 before 12",
+    KnownNameNoResource = "request: accepted on a known name where no resource is free",
     LongestName = "request: name of 64 bytes",
     NameEndsInZero = "request: name that ends in a zero byte",
     DeepWaitQueue = "request: eighth or later in a wait queue",
@@ -68,7 +82,9 @@ events! {
     ReleaseStores = "release: flag 1 stores the value",
     ReleaseStoresEmptied = "release: flag 1 where the resource is freed",
     ReleaseInvalidates = "release: flag 2 makes the value not valid",
+    ReleaseInvalidatesEmptied = "release: flag 2 where the resource is freed",
     ReleaseFlagLowMode = "release: flag 1 or 2 ignored from below PW",
+    ValueWhereIgnored = "convert, release: 7 where flag 1 would be ignored",
     CancelConvertHead = "cancel: the convert head",
     CancelConvertBehind = "cancel: a conversion behind others",
     CancelConvertSweeps = "cancel: a conversion, the sweep grants",
@@ -100,6 +116,7 @@ events! {
     BreakAgain = "break: a deadlock remains",
     PollOthers = "poll: only others have notices",
     PollNotFirst = "poll: a notice behind others'",
+    PollFirstOfTwo = "poll: the first of a client's notices",
     PollFreesBetween = "poll: a denied lock between other denied ones",
     ReadNotValid = "read: not valid",
     ReadStored = "read: a stored value",
@@ -114,13 +131,31 @@ events! {
     HolderConverting = "holder: a converting lock holds EX",
     HolderNobody = "holder: known name, nobody holds EX",
     HolderUnknown = "holder: unknown name",
+    SoundStartedSmallest = "sound: started tables of R 1, L 1",
+    SoundStartedSmall = "sound: started tables of R 4, L 8",
+    SoundStartedLargest = "sound: started tables of R 256, L 1024",
+    SoundHalf = "sound: R 64, L 256 with half of the resources in use",
+    SoundFull = "sound: R 64, L 256 with all resources in use",
+    SoundLargestHalf = "sound: R 256, L 1024 with half of the resources in use",
+    SoundLargestFull = "sound: R 256, L 1024 with all resources and all locks in use",
+    SoundEveryState = "sound: locks of every state, resources free and in use",
+    SoundEveryCompletion = "sound: notices with completions 1, 2 and 3",
+    SoundLongestName = "sound: a name of 64 bytes",
+    SoundZeroName = "sound: a name, and the same with a zero byte behind it",
+    SoundNamesByCase = "sound: two names that differ in the case of letters alone",
+    SoundNamesAlike = "sound: 128 names of one length whose first 47 bytes are alike",
+    SoundAsksForLess = "sound: a conversion that asks for less than it holds",
+    SoundAsksForSame = "sound: a conversion that asks for what it holds",
+    SoundClient255 = "sound: a lock of client 255",
+    SoundNotValid = "sound: a resource that isn't valid",
+    SoundNotices = "sound: notices in another order than their locks",
+    SoundBlocked = "sound: blocked locks in another order than on their resource",
+    SoundFreeChains = "sound: free resources and free locks in another order than upward",
     ImageSound = "an image of sound tables",
     ImageOfRandomState = "an image of a random sound state",
     ImageOfWrongLength = "an image of a wrong length",
-    DamageOfNothing = "a change that changes nothing",
     SoundDamageAccepted = "damaged tables still sound, call accepted",
     SoundDamageRefused = "damaged tables still sound, call refused",
-    FewerThanEightWords = "fewer than eight words",
 }
 
 /// What was noteworthy about a call.
@@ -128,7 +163,7 @@ pub fn events(before: &State, call: &Call, answer: u64, refused: Option<u32>, af
     let mut found = Vec::new();
     let notes = Notes { before, after, answer };
     match (call, refused) {
-        (Call::Request { flags, name, .. }, Some(number)) => notes.refused_request(number, *flags, name, &mut found),
+        (Call::Convert { client, lock, .. } | Call::Release { client, lock, .. }, Some(7)) => notes.value(*client, *lock, &mut found),
         (_, Some(_)) => {}
         (Call::Start { resources: 1, locks: 1, .. }, None) => found.push(Event::SmallestTables),
         (Call::Request { mode, flags, name, .. }, None) => notes.request(*mode, *flags, name, &mut found),
@@ -141,9 +176,8 @@ pub fn events(before: &State, call: &Call, answer: u64, refused: Option<u32>, af
         (Call::Read { lock, room, .. }, None) => notes.read(*lock, *room, &mut found),
         (Call::List { lock, room, .. }, None) => notes.list(*lock, *room, &mut found),
         (Call::Load { .. }, None) if before.most_locks != after.most_locks => found.push(Event::LoadOtherSizes),
-        (Call::Holder { image: crate::call::Image::OfTables { changes, .. }, name }, None) if changes.is_empty() => {
-            notes.holder(name, &mut found);
-        }
+        (Call::Holder { image: Image::OfTables { changes, .. }, name }, None) if changes.list.is_empty() => notes.holder(name, &mut found),
+        (Call::Sound, None) => sound(before, &mut found),
         _ => {}
     }
     if (before.most_resources, before.most_locks) == (256, 1024) {
@@ -151,6 +185,61 @@ pub fn events(before: &State, call: &Call, answer: u64, refused: Option<u32>, af
         found.extend(before.free_locks.is_empty().then_some(Event::LargestTablesFull));
     }
     found
+}
+
+/// What is noteworthy about tables that were found sound.
+fn sound(state: &State, found: &mut Vec<Event>) {
+    let sizes = (state.most_resources, state.most_locks);
+    let idle = state.locks.is_empty() && upward(&state.free_resources) && upward(&state.free_locks);
+    note(found, idle && sizes == (1, 1), Event::SoundStartedSmallest);
+    note(found, idle && sizes == (4, 8), Event::SoundStartedSmall);
+    note(found, idle && sizes == (256, 1024), Event::SoundStartedLargest);
+    let used = state.resources.len();
+    note(found, sizes == (64, 256) && used == 32, Event::SoundHalf);
+    note(found, sizes == (64, 256) && used == 64, Event::SoundFull);
+    note(found, sizes == (256, 1024) && used == 128, Event::SoundLargestHalf);
+    note(found, sizes == (256, 1024) && used == 256 && state.free_locks.is_empty(), Event::SoundLargestFull);
+    note(found, !upward(&state.free_resources) && !upward(&state.free_locks), Event::SoundFreeChains);
+    note(found, state.resources.values().any(|resource| !resource.valid), Event::SoundNotValid);
+    sound_locks(state, found);
+    sound_names(state, found);
+}
+
+fn upward(chain: &VecDeque<u32>) -> bool {
+    chain.iter().is_sorted()
+}
+
+fn sound_locks(state: &State, found: &mut Vec<Event>) {
+    let has = |number: u32| state.locks.values().any(|lock| lock.state_number() == number);
+    let free = !state.free_locks.is_empty() && !state.free_resources.is_empty();
+    note(found, free && (1..=4).all(has), Event::SoundEveryState);
+    let unread = |number: u32| state.locks.values().any(|lock| lock.completion() == number);
+    note(found, (1..=3).all(unread), Event::SoundEveryCompletion);
+    let asks = |down: fn(Mode, Mode) -> bool| {
+        state.locks.values().any(|lock| lock.held().zip(lock.asked()).is_some_and(|(held, asked)| down(held, asked)))
+    };
+    note(found, asks(|held, asked| held != asked && held.down_to(asked)), Event::SoundAsksForLess);
+    note(found, asks(|held, asked| held == asked), Event::SoundAsksForSame);
+    note(found, state.locks.values().any(|lock| lock.client == 255), Event::SoundClient255);
+    note(found, !upward(&state.notices), Event::SoundNotices);
+    let place = |lock: &u32| state.blocked.iter().position(|other| other == lock);
+    let otherwise = |queue: &VecDeque<u32>| !queue.iter().map(place).is_sorted();
+    let resources = state.resources.values();
+    note(found, resources.clone().any(|queues| otherwise(&queues.converting) || otherwise(&queues.waiting)), Event::SoundBlocked);
+}
+
+fn sound_names(state: &State, found: &mut Vec<Event>) {
+    let names: BTreeSet<&[u8]> = state.resources.values().map(|resource| &resource.name[..]).collect();
+    let lower: BTreeSet<Vec<u8>> = names.iter().map(|name| name.to_ascii_lowercase()).collect();
+    note(found, names.iter().any(|name| name.len() == 64), Event::SoundLongestName);
+    let shorter = |name: &[u8]| name.strip_suffix(&[0]).is_some_and(|shorter| names.contains(shorter));
+    note(found, names.iter().any(|name| shorter(name)), Event::SoundZeroName);
+    note(found, lower.len() < names.len(), Event::SoundNamesByCase);
+    let alike = names.first().and_then(|first| first.get(..47)).map_or(0, |start| {
+        let length = names.first().map(|first| first.len());
+        names.iter().filter(|name| name.starts_with(start) && Some(name.len()) == length).count()
+    });
+    note(found, alike >= 128, Event::SoundNamesAlike);
 }
 
 struct Notes<'a> {
@@ -193,13 +282,10 @@ impl Notes<'_> {
         note(found, converting > 0 && converting < swept.len(), both);
     }
 
-    fn refused_request(&self, number: u32, flags: u32, name: &[u8], found: &mut Vec<Event>) {
-        let known = self.before.named(name);
-        let no_lock = self.before.free_locks.is_empty();
-        note(found, number == 12 && known.is_none(), Event::NewNameNoLock);
-        note(found, number == 11 && no_lock, Event::NoResourceNoLock);
-        let would_block = known.is_some_and(|resource| !self.before.fits(resource, Mode::Ex, 0));
-        note(found, number == 12 && flags == 4 && would_block, Event::DontQueueNoLock);
+    /// A value of a wrong length, where the flag that stores it would be ignored.
+    fn value(&self, client: u32, lock: u32, found: &mut Vec<Event>) {
+        let own = self.before.locks.get(&lock).filter(|lock| u32::from(lock.client) == client);
+        note(found, own.and_then(Lock::held).is_some_and(|held| !held.writes_value()), Event::ValueWhereIgnored);
     }
 
     fn request(&self, mode: u32, flags: u32, name: &[u8], found: &mut Vec<Event>) {
@@ -208,11 +294,15 @@ impl Notes<'_> {
         let granted = self.answer >> 32 == 1;
         note(found, granted && flags == 4, Event::DontQueueGranted);
         let Some(resource) = self.before.named(name) else {
+            let mut used = self.before.resources.values().map(|resource| &resource.name);
+            note(found, used.clone().any(|other| other.eq_ignore_ascii_case(name)), Event::NewNameByCase);
+            note(found, used.any(|other| name.starts_with(other)), Event::NewNameLonger);
             return found.push(Event::NewName);
         };
         let queues = &self.before.resources[&resource];
         let fits = Mode::from_number(mode).is_some_and(|mode| self.before.fits(resource, mode, 0));
         let ex_held = !self.before.fits(resource, Mode::Cr, 0);
+        note(found, self.before.free_resources.is_empty(), Event::KnownNameNoResource);
         note(found, granted, Event::GrantedBeside);
         note(found, granted && !queues.waiting.is_empty(), Event::GrantedPastWaiters);
         note(found, granted && mode == 0 && ex_held, Event::NlBesideEx);
@@ -279,6 +369,7 @@ impl Notes<'_> {
         note(found, writer && flags == 1 && !emptied, Event::ReleaseStores);
         note(found, writer && flags == 1 && emptied, Event::ReleaseStoresEmptied);
         note(found, writer && flags == 2 && !emptied && queues.valid, Event::ReleaseInvalidates);
+        note(found, writer && flags == 2 && emptied, Event::ReleaseInvalidatesEmptied);
         note(found, !writer && flags != 0, Event::ReleaseFlagLowMode);
     }
 
@@ -378,6 +469,9 @@ impl Notes<'_> {
         let lock = self.answer as u32;
         note(found, lock == 0 && !self.before.notices.is_empty(), Event::PollOthers);
         note(found, lock != 0 && self.before.notices.front() != Some(&lock), Event::PollNotFirst);
+        let client = self.before.locks.get(&lock).map(|lock| lock.client);
+        let its = self.before.notices.iter().filter(|notice| Some(self.was(**notice).client) == client);
+        note(found, its.count() >= 2, Event::PollFirstOfTwo);
         let place = self.before.denied.iter().position(|other| *other == lock);
         let between = place.is_some_and(|place| place > 0 && place + 1 < self.before.denied.len());
         note(found, between, Event::PollFreesBetween);
@@ -395,11 +489,11 @@ impl Notes<'_> {
     fn list(&self, lock: u32, room: usize, found: &mut Vec<Event>) {
         let (_, queues) = self.queues(lock);
         let count = queues.locks().count();
-        note(found, room / 5 > 0 && room / 5 < count, Event::ListCutShort);
+        note(found, room > 0 && room < count, Event::ListCutShort);
         note(found, room == 0, Event::ListNoRoom);
-        note(found, room / 5 > count, Event::ListRoomLeft);
+        note(found, room > count, Event::ListRoomLeft);
         let all = !queues.granted.is_empty() && !queues.converting.is_empty() && !queues.waiting.is_empty();
-        note(found, all && room / 5 >= count, Event::ListAllQueues);
+        note(found, all && room >= count, Event::ListAllQueues);
     }
 
     fn holder(&self, name: &[u8], found: &mut Vec<Event>) {

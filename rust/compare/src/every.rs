@@ -38,7 +38,7 @@ fn calls(resources: u32, locks: u32) -> Vec<Call> {
             calls.extend(names.iter().flat_map(|name| [request(name, 0), request(name, 4)]));
         }
         for lock in 1..=locks {
-            calls.extend([Call::Cancel { client, lock }, Call::Read { client, lock, room: 32 }, Call::List { client, lock, room: 20 }]);
+            calls.extend([Call::Cancel { client, lock }, Call::Read { client, lock, room: 32 }, Call::List { client, lock, room: 4 }]);
             calls.extend([0, 2].map(|flags| Call::Release { client, lock, flags, value: Vec::new() }));
             calls.extend(MODES.flat_map(|mode| [0, 6].map(|flags| Call::Convert { client, lock, mode, flags, value: Vec::new() })));
         }

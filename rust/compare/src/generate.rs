@@ -1,10 +1,11 @@
 //! Games: seeded lists of calls, skewed so that queues grow deep, conversions meet, deadlocks close and every refusal comes.
 
-use crate::call::{Call, Image};
+use crate::call::{Call, Changes, Entry, Image};
 use crate::damage::Damager;
+use crate::damages::DAMAGES;
 use crate::manager::Tables;
 use crate::rng::Rng;
-use crate::states::{Filling, random};
+use crate::states::{Filling, random, varied};
 use model::{Lock, State};
 
 /// What a game's next call may be, with how often it comes. A game multiplies these by numbers of its own.
@@ -52,9 +53,38 @@ const MODES: [[usize; 6]; 6] =
 /// The kinds of sizes: how often, the most resources and locks, and the most calls.
 const SIZES: [(usize, usize, usize, usize); 5] = [(5, 1, 1, 60), (43, 4, 8, 300), (32, 8, 32, 260), (14, 64, 256, 120), (6, 256, 1024, 60)];
 
+/// The sizes of chosen games: the smallest tables, lockplay's, tables of 128, 129, 3,072 and 3,073 words, which are the edges of the buffers
+/// into which the library decodes an image, some between these, and the largest.
+const CHOSEN_SIZES: [(u32, u32); 9] = [(1, 1), (4, 8), (6, 8), (14, 1), (64, 256), (248, 120), (247, 121), (200, 500), (256, 1024)];
+
+/// How the tables of chosen games are at first.
+const CHOSEN_FILLS: [Fill; 3] = [Fill::Started, Fill::Half, Fill::Full];
+
+/// Games of smaller seeds than this are chosen ones: those of chosen sizes, then three that make every damage in turn: of the tables, of an
+/// image that is loaded, and of an image that holder is asked about.
+pub const CHOSEN: u64 = SIZED + 3;
+const SIZED: u64 = (CHOSEN_SIZES.len() * CHOSEN_FILLS.len()) as u64;
+
+/// How many calls a chosen game has.
+const CHOSEN_LENGTH: usize = 150;
+
+/// What the tables of a game hold at first.
+#[derive(Clone, Copy, PartialEq, Eq)]
+enum Fill {
+    /// Mostly nothing, or anything.
+    Any,
+    Started,
+    /// Half of the resources are in use.
+    Half,
+    /// All resources are in use and all locks, as far as there are.
+    Full,
+}
+
 /// How often the actions come in games of other styles than the plain one.
 const RING: [usize; 15] = [60, 4, 2, 2, 1, 5, 12, 1, 1, 1, 1, 1, 1, 1, 3];
 const PILE: [usize; 15] = [50, 14, 10, 4, 1, 3, 16, 1, 1, 1, 1, 1, 1, 1, 3];
+const IMAGES: [usize; 15] = [8, 8, 3, 1, 0, 1, 4, 1, 1, 6, 30, 30, 2, 0, 8];
+const LINES: [usize; 15] = [30, 24, 13, 6, 2, 6, 16, 0, 0, 0, 0, 0, 0, 0, 0];
 
 /// What a game is out for.
 #[derive(Clone, Copy, PartialEq, Eq)]
@@ -65,6 +95,10 @@ enum Style {
     Ring,
     /// Deep queues on one or two names, readers behind writers.
     Pile,
+    /// Images of tables of a chosen size.
+    Images,
+    /// Every damage, on a state that has a place for it, and what is done with it.
+    Damages(Entry),
 }
 
 pub struct Game {
@@ -77,6 +111,9 @@ pub struct Game {
     actions: Vec<usize>,
     length: usize,
     style: Style,
+    fill: Fill,
+    /// How many calls were made after the opening.
+    made: usize,
     /// In how many of a hundred cases a field of the call being made is out of order.
     wild: usize,
 }
@@ -85,24 +122,46 @@ impl Game {
     /// The game of a seed.
     pub fn new(seed: u64) -> Game {
         let mut rng = Rng::new(seed);
+        if (SIZED..CHOSEN).contains(&seed) {
+            let entry = [Entry::Sound, Entry::Load, Entry::Holder][(seed - SIZED) as usize];
+            return Game::of(rng, (8, 32), Style::Damages(entry), DAMAGES.len() + 2);
+        }
+        if seed < SIZED {
+            let (sizes, fill) = (seed as usize / CHOSEN_FILLS.len(), seed as usize % CHOSEN_FILLS.len());
+            return Game { fill: CHOSEN_FILLS[fill], ..Game::of(rng, CHOSEN_SIZES[sizes], Style::Images, CHOSEN_LENGTH) };
+        }
         let (_, most_resources, most_locks, most_calls) = SIZES[rng.weighted(&SIZES.map(|(weight, ..)| weight))];
-        let (resources, locks) = sizes(&mut rng, most_resources, most_locks);
-        let clients = clients(&mut rng, locks);
-        let names = names(&mut rng, resources);
+        let sizes = sizes(&mut rng, most_resources, most_locks);
         let style = [Style::Plain, Style::Ring, Style::Pile][rng.weighted(&[70, 15, 15])];
+        let length = rng.between(most_calls / 3, most_calls);
+        Game::of(rng, sizes, style, length)
+    }
+
+    /// A game of the calls that lockplay has lines for, on tables of its sizes.
+    pub fn of_lines(seed: u64) -> Game {
+        let mut rng = Rng::new(seed);
+        let style = [Style::Plain, Style::Ring, Style::Pile][rng.weighted(&[60, 20, 20])];
+        let mut game = Game::of(rng, model::lockplay::SIZES, style, 0);
+        game.actions = LINES.iter().map(|often| often * game.rng.between(1, 6)).collect();
+        game
+    }
+
+    fn of(mut rng: Rng, (resources, locks): (u32, u32), style: Style, length: usize) -> Game {
+        let clients = clients(&mut rng, locks);
+        let names = if style == Style::Images { alike_names(resources) } else { names(&mut rng, resources) };
         let modes = match style {
-            Style::Plain => *rng.pick(&MODES),
+            Style::Plain | Style::Images | Style::Damages(_) => *rng.pick(&MODES),
             Style::Ring => [0, 0, 0, 1, 1, 9],
             Style::Pile => [3, 4, 1, 9, 1, 3],
         };
         let often = match style {
-            Style::Plain => ACTIONS.map(|(_, often)| often),
+            Style::Plain | Style::Damages(_) => ACTIONS.map(|(_, often)| often),
             Style::Ring => RING,
             Style::Pile => PILE,
+            Style::Images => IMAGES,
         };
         let actions = often.iter().map(|often| often * rng.between(1, 6)).collect();
-        let length = rng.between(most_calls / 3, most_calls);
-        Game { rng, resources, locks, clients, names, modes, actions, length, style, wild: 0 }
+        Game { rng, resources, locks, clients, names, modes, actions, length, style, fill: Fill::Any, made: 0, wild: 0 }
     }
 
     /// How many calls the game has.
@@ -112,28 +171,70 @@ impl Game {
 
     /// The first call: start, or the load of a random sound state.
     pub fn opening(&mut self) -> Call {
+        if let Style::Damages(_) = self.style {
+            return load_of(&varied());
+        }
         let (resources, locks) = (self.resources, self.locks);
-        // Large tables are hardly ever filled by calls alone.
-        if self.rng.percent(if locks > 64 { 25 } else { 60 }) {
+        let start = match self.fill {
+            // Large tables are hardly ever filled by calls alone.
+            Fill::Any => self.rng.percent(if locks > 64 { 25 } else { 60 }),
+            fill => fill == Fill::Started,
+        };
+        if start {
             let (words, slots) = lengths(resources, locks);
             return Call::Start { resources, locks, words, slots };
         }
-        self.load_random(resources, locks)
+        let used = match self.fill {
+            Fill::Half => Some(resources.div_ceil(2)),
+            Fill::Full => Some(resources),
+            Fill::Any | Fill::Started => None,
+        };
+        self.load_random(resources, locks, used)
     }
 
-    /// A call for tables that have a state.
+    /// A call that lockplay has a line for, on tables that have a state.
+    pub fn next_line(&mut self, state: &State) -> Call {
+        self.plain(state, false, 18)
+    }
+
+    /// A call for tables that have a state. After the opening, the tables are judged.
     pub fn next(&mut self, tables: &Tables, state: &State) -> Call {
+        self.made += 1;
+        if self.made == 1 {
+            return Call::Sound;
+        }
+        if let Style::Damages(entry) = self.style {
+            return self.damage_in_turn(tables, state, entry);
+        }
         if self.rng.weighted(&self.actions) == ACTIONS.len() - 1 {
             let changes = Damager { rng: &mut self.rng, tables, state }.changes();
-            let call = Box::new(self.plain(state, false));
-            return Call::Damaged { changes, call, stays: self.rng.percent(60) };
+            return self.damaged(changes, state, 60);
         }
         self.plain_or_tables(tables, state)
     }
 
+    /// The damage whose turn it is. What it meets may not be a place for it, so it is tried again.
+    fn damage_in_turn(&mut self, tables: &Tables, state: &State, entry: Entry) -> Call {
+        let damage = &DAMAGES[self.made - 2];
+        let made = (0..100).find_map(|_| Damager { rng: &mut self.rng, tables, state }.named(damage));
+        let changes = made.unwrap_or_default();
+        let (words, slots) = lengths(state.most_resources, state.most_locks);
+        match entry {
+            Entry::Load => Call::Load { image: Image::OfTables { changes, longer_by: 0 }, words, slots },
+            Entry::Holder => Call::Holder { image: Image::OfTables { changes, longer_by: 0 }, name: b"vip-7".to_vec() },
+            _ => self.damaged(changes, state, 0),
+        }
+    }
+
+    /// A call on damaged tables, often with wrong arguments too. Tables that stay sound are kept in so many of a hundred cases.
+    fn damaged(&mut self, changes: Changes, state: &State, stays: usize) -> Call {
+        let call = Box::new(self.plain(state, false, 40));
+        Call::Damaged { changes, call, stays: self.rng.percent(stays) }
+    }
+
     /// A call without damage before it; load and holder may damage their image.
     fn plain_or_tables(&mut self, tables: &Tables, state: &State) -> Call {
-        match self.plain(state, true) {
+        match self.plain(state, true, 18) {
             Call::Load { image: Image::OfTables { longer_by, .. }, words, slots } if self.rng.percent(50) => {
                 let changes = Damager { rng: &mut self.rng, tables, state }.changes();
                 Call::Load { image: Image::OfTables { changes, longer_by }, words, slots }
@@ -146,8 +247,9 @@ impl Game {
         }
     }
 
-    fn plain(&mut self, state: &State, may_replace: bool) -> Call {
-        self.wild = if self.rng.percent(88) { 1 } else { 35 };
+    /// A call without damage. In so many of a hundred cases its arguments are wild.
+    fn plain(&mut self, state: &State, may_replace: bool, wild: usize) -> Call {
+        self.wild = if self.rng.percent(wild) { 35 } else { 1 };
         loop {
             let action = self.action(state);
             if let Some(call) = self.make(action, state, may_replace) {
@@ -250,14 +352,14 @@ impl Game {
 
     /// A value for flags: 32 bytes if they store it, mostly.
     fn value(&mut self, flags: u32) -> Vec<u8> {
-        let right = flags & 1 != 0 && !self.is_wild();
+        let right = flags & 1 != 0 && !self.is_wild() && self.rng.percent(90);
         let length = if right { 32 } else { *self.rng.pick(&[0, 0, 31, 33, 32, 64]) };
         self.rng.bytes(length)
     }
 
     /// A name in use in this game, the first ones more often; seldom another, or one of a wrong length.
     fn name(&mut self) -> Vec<u8> {
-        if self.is_wild() {
+        if self.is_wild() || self.style == Style::Images && self.rng.percent(12) {
             let length = *self.rng.pick(&[0, 65, 66, 200]);
             return self.rng.bytes(length);
         }
@@ -266,7 +368,7 @@ impl Game {
             return self.rng.bytes(length);
         }
         let hot = match self.style {
-            Style::Plain => 65,
+            Style::Plain | Style::Images | Style::Damages(_) => 65,
             Style::Ring => 0,
             Style::Pile => 97,
         };
@@ -281,7 +383,7 @@ impl Game {
             let number = *self.rng.pick(&[0, state.most_locks + 1, 1025, u32::MAX]);
             return (client, number);
         }
-        let any = self.rng.percent(14);
+        let any = self.rng.percent(18);
         let chosen: Vec<u32> = state.locks.iter().filter(|(_, lock)| any || fits(lock)).map(|(number, _)| *number).collect();
         if chosen.is_empty() || self.rng.percent(2) {
             return (client, self.rng.between(1, state.most_locks as usize) as u32);
@@ -291,17 +393,16 @@ impl Game {
         (if self.is_wild() || self.rng.percent(2) { client } else { owner }, number)
     }
 
-    /// Room in words for a list: just right, too little, none, not a whole entry more, or plenty.
+    /// Room for a list: just right, too little, none, one too many, or plenty.
     fn list_room(&mut self, state: &State, lock: u32) -> usize {
         let resource = state.locks.get(&lock).and_then(Lock::resource);
         let count = resource.map_or(1, |resource| state.resources[&resource].locks().count());
-        match self.rng.below(6) {
+        match self.rng.below(5) {
             0 => 0,
-            1 => 5 * count + 3,
-            2 => 5 * self.rng.below(count) + 4,
-            3 => 5 * self.rng.below(count + 1),
-            4 => 5 * count + 20,
-            _ => 5 * count,
+            1 => count + 1,
+            2 => self.rng.below(count + 1),
+            3 => count + 4,
+            _ => count,
         }
     }
 
@@ -314,18 +415,18 @@ impl Game {
     /// The image of the tables, mostly of the right length, or of a random state.
     fn image(&mut self) -> Image {
         if self.rng.percent(12) {
-            let Call::Load { image, .. } = self.load_random(self.resources, self.locks) else { unreachable!("a load") };
+            let Call::Load { image, .. } = self.load_random(self.resources, self.locks, None) else { unreachable!("a load") };
             return image;
         }
         let longer_by = if self.rng.percent(88) { 0 } else { *self.rng.pick(&[-1, 1, -96, 96, -4, 4, -100_000]) };
-        Image::OfTables { changes: Vec::new(), longer_by }
+        Image::OfTables { changes: Changes::default(), longer_by }
     }
 
     /// A load of the tables' image, or of a random state; seldom into tables of wrong lengths.
     fn load(&mut self, state: &State) -> Call {
         if self.rng.percent(15) {
             let (resources, locks) = sizes(&mut self.rng, self.resources as usize, self.locks as usize);
-            return self.load_random(resources, locks);
+            return self.load_random(resources, locks, None);
         }
         let (words, slots) = lengths(state.most_resources, state.most_locks);
         let (words, slots) = match self.rng.below(8) {
@@ -338,12 +439,9 @@ impl Game {
         Call::Load { image: self.image(), words, slots }
     }
 
-    fn load_random(&mut self, resources: u32, locks: u32) -> Call {
-        let filling = Filling { resources, locks, clients: &self.clients, names: &self.names };
-        let (words, slots) = random(&mut self.rng, &filling).to_tables();
-        let lengths = (words.len(), slots.len());
-        let bytes = Tables { words, slots }.bytes();
-        Call::Load { image: Image::Bytes(bytes.into()), words: lengths.0, slots: lengths.1 }
+    fn load_random(&mut self, resources: u32, locks: u32, used: Option<u32>) -> Call {
+        let filling = Filling { resources, locks, clients: &self.clients, names: &self.names, used };
+        load_of(&random(&mut self.rng, &filling))
     }
 
     /// A start with something wrong, mostly.
@@ -365,6 +463,14 @@ impl Game {
             _ => Call::Start { resources: resources + 9, locks, words, slots },
         }
     }
+}
+
+/// The load of a state's image.
+fn load_of(state: &State) -> Call {
+    let (words, slots) = state.to_tables();
+    let lengths = (words.len(), slots.len());
+    let bytes = Tables { words, slots }.bytes();
+    Call::Load { image: Image::Bytes(bytes.into()), words: lengths.0, slots: lengths.1 }
 }
 
 /// Whether a client has a lock on a name.
@@ -401,7 +507,7 @@ fn clients(rng: &mut Rng, locks: u32) -> Vec<u32> {
 fn names(rng: &mut Rng, resources: u32) -> Vec<Vec<u8>> {
     let r = resources as usize;
     let count = *rng.pick(&[1, 2, r.div_ceil(2), r, r + 2, r + 2]);
-    let style = rng.below(4);
+    let style = rng.below(5);
     let mut names: Vec<Vec<u8>> = (0..count).map(|at| name_of_style(rng, style, at)).collect();
     names.sort();
     names.dedup();
@@ -409,11 +515,23 @@ fn names(rng: &mut Rng, resources: u32) -> Vec<Vec<u8>> {
     names
 }
 
+/// Names of 64 bytes of which the first 60 are alike.
+fn alike_names(resources: u32) -> Vec<Vec<u8>> {
+    (0..resources).map(|at| format!("{}{at:04}", "x".repeat(60)).into_bytes()).collect()
+}
+
+/// Names of which eight differ in the case of their letters alone.
+fn by_case(at: usize) -> Vec<u8> {
+    let letters = b"vip".iter().enumerate().map(|(bit, letter)| if at >> bit & 1 == 1 { letter.to_ascii_uppercase() } else { *letter });
+    letters.chain(format!("-{}", at / 8).into_bytes()).collect()
+}
+
 fn name_of_style(rng: &mut Rng, style: usize, at: usize) -> Vec<u8> {
     match style {
         0 => format!("{}{at:04}", "x".repeat(60)).into_bytes(),
         1 => [vec![b'a'; 1 + at / 2 % 32], format!("{}", at / 64).into_bytes(), vec![0; at % 2]].concat(),
         2 => vec![0; 1 + at % 64],
+        3 => by_case(at),
         _ => {
             let length = rng.between(2, 64);
             rng.bytes(length)

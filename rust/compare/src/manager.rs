@@ -32,10 +32,9 @@ pub trait Manager {
     fn purge(&self, tables: &mut Tables, client: u32) -> u64;
     fn break_deadlock(&self, tables: &mut Tables) -> u64;
     fn poll(&self, tables: &mut Tables, client: u32) -> u64;
-    /// The value goes into an area of any length, as much as fits; zeros go there if the call is refused.
+    /// The value goes into an area of any length, as much as fits.
     fn read(&self, tables: &Tables, client: u32, lock: u32, value: &mut [u8]) -> u64;
-    /// Five words for each lock, as many as fit whole.
-    fn list(&self, tables: &Tables, client: u32, lock: u32, entries: &mut [u32]) -> u64;
+    fn list(&self, tables: &Tables, client: u32, lock: u32, entries: &mut [Listed]) -> u64;
     fn image(&self, tables: &Tables, area: &mut [u8]) -> u64;
     fn load(&self, image: &[u8], tables: &mut Tables) -> u64;
     fn sound(&self, tables: &Tables) -> u32;
@@ -43,7 +42,11 @@ pub trait Manager {
     fn holder(&self, image: &[u8], name: &[u8]) -> u32;
 }
 
-const REFUSED: u64 = 1 << 63;
+/// A lock as list gives it: number, client, state, held, asked.
+pub type Listed = [u32; 5];
+
+/// The highest bit of an answer: it is a refusal.
+pub const REFUSED: u64 = 1 << 63;
 
 /// The number of the refusal in an answer, if it is one.
 pub fn refusal(answer: u64) -> Option<u32> {
@@ -64,11 +67,20 @@ fn two(answer: Result<(u32, u32), Refused>) -> u64 {
     answer.map_or_else(refused, |(first, second)| u64::from(first) << 32 | u64::from(second))
 }
 
-/// Puts what read gives into an area, and gives its answer.
+/// Puts what read gives into an area, and gives its answer. A refused read leaves the area as it is.
 fn put_value(answer: Result<([u8; 32], bool), Refused>, area: &mut [u8]) -> u64 {
-    let (value, valid) = answer.unwrap_or_default();
-    area.iter_mut().zip(value).for_each(|(byte, new)| *byte = new);
-    answer.map_or_else(refused, |_| u64::from(valid))
+    one(answer.map(|(value, valid)| {
+        area.iter_mut().zip(value).for_each(|(byte, new)| *byte = new);
+        u32::from(valid)
+    }))
+}
+
+/// Makes a call that is lent entries of a manager's own type.
+fn with_entries<E>(lent: &mut [Listed], entry: fn(Listed) -> E, words: fn(&E) -> Listed, call: impl FnOnce(&mut [E]) -> u64) -> u64 {
+    let mut entries: Vec<E> = lent.iter().map(|words| entry(*words)).collect();
+    let answer = call(&mut entries);
+    lent.iter_mut().zip(&entries).for_each(|(old, new)| *old = words(new));
+    answer
 }
 
 fn holder_answer(answer: Result<u32, Refused>) -> u32 {
@@ -120,14 +132,12 @@ impl Manager for Model {
         put_value(model::entries::read(&t.words, &t.slots, client, lock).map_err(|refused| refused.0), value)
     }
 
-    fn list(&self, t: &Tables, client: u32, lock: u32, entries: &mut [u32]) -> u64 {
-        let (lent, _) = entries.as_chunks_mut::<5>();
-        let entry = |[number, client, state, held, asked]: [u32; 5]| model::Entry { number, client, state, held, asked };
-        let mut list: Vec<model::Entry> = lent.iter().map(|words| entry(*words)).collect();
-        let answer = model::entries::list(&t.words, &t.slots, client, lock, &mut list);
-        let words = list.iter().map(|e| [e.number, e.client, e.state, e.held, e.asked]);
-        lent.iter_mut().zip(words).for_each(|(old, new)| *old = new);
-        one(answer.map_err(|refused| refused.0))
+    fn list(&self, t: &Tables, client: u32, lock: u32, entries: &mut [Listed]) -> u64 {
+        let entry = |[number, client, state, held, asked]: Listed| model::Entry { number, client, state, held, asked };
+        let words = |e: &model::Entry| [e.number, e.client, e.state, e.held, e.asked];
+        with_entries(entries, entry, words, |list| {
+            one(model::entries::list(&t.words, &t.slots, client, lock, list).map_err(|refused| refused.0))
+        })
     }
 
     fn image(&self, t: &Tables, area: &mut [u8]) -> u64 {
@@ -188,7 +198,7 @@ impl Manager for Flat {
         put_value(flat::read(&t.words, &t.slots, client, lock), value)
     }
 
-    fn list(&self, t: &Tables, client: u32, lock: u32, entries: &mut [u32]) -> u64 {
+    fn list(&self, t: &Tables, client: u32, lock: u32, entries: &mut [Listed]) -> u64 {
         one(flat::list(&t.words, &t.slots, client, lock, entries))
     }
 
@@ -251,8 +261,10 @@ impl Manager for Library {
         zamgyorud::raw::read(&t.words, &t.slots, client, lock, value)
     }
 
-    fn list(&self, t: &Tables, client: u32, lock: u32, entries: &mut [u32]) -> u64 {
-        zamgyorud::raw::list(&t.words, &t.slots, client, lock, entries)
+    fn list(&self, t: &Tables, client: u32, lock: u32, entries: &mut [Listed]) -> u64 {
+        let entry = |[number, client, state, held, asked]: Listed| zamgyorud::raw::Entry { number, client, state, held, asked };
+        let words = |e: &zamgyorud::raw::Entry| [e.number, e.client, e.state, e.held, e.asked];
+        with_entries(entries, entry, words, |list| zamgyorud::raw::list(&t.words, &t.slots, client, lock, list))
     }
 
     fn image(&self, t: &Tables, area: &mut [u8]) -> u64 {

@@ -1,7 +1,7 @@
 //! Two managers side by side: each call is made on both, and all that they give back or hold is compared.
 
 use crate::call::{Call, damage};
-use crate::manager::{Manager, Tables, refusal};
+use crate::manager::{Listed, Manager, Tables, refusal};
 use std::fmt;
 
 /// What a call gave back, besides what it did to the tables.
@@ -12,7 +12,7 @@ pub struct Outcome {
     /// The area lent to read.
     pub value: Vec<u8>,
     /// The list lent to list.
-    pub entries: Vec<u32>,
+    pub entries: Vec<Listed>,
     /// The area lent to image.
     pub area: Vec<u8>,
     /// The tables lent to start or load.
@@ -29,7 +29,7 @@ pub enum Difference {
     Words { at: usize, first: u32, second: u32 },
     Slots { at: usize, first: u8, second: u8 },
     Value(Vec<u8>, Vec<u8>),
-    Entries(Vec<u32>, Vec<u32>),
+    Entries(Vec<Listed>, Vec<Listed>),
     Area { at: usize, first: u8, second: u8 },
 }
 
@@ -119,7 +119,7 @@ impl Side<'_> {
                 manager.read(tables, *client, *lock, &mut outcome.value)
             }
             Call::List { client, lock, room } => {
-                outcome.entries = vec![0xa5a5_a5a5; *room];
+                outcome.entries = vec![[0xa5a5_a5a5; 5]; *room];
                 manager.list(tables, *client, *lock, &mut outcome.entries)
             }
             Call::Image { room } => {
@@ -176,8 +176,8 @@ impl<'m> Board<'m> {
     pub fn play(&mut self, call: &Call) -> Result<Outcome, Difference> {
         if let Call::Damaged { changes, call, stays } = call {
             let before = self.first.tables.clone();
-            damage(&mut self.first.tables, changes);
-            damage(&mut self.second.tables, changes);
+            damage(&mut self.first.tables, &changes.list);
+            damage(&mut self.second.tables, &changes.list);
             let sound = self.agreed_soundness()?;
             let outcome = self.play(call)?;
             if !(sound && *stays) {
@@ -208,10 +208,10 @@ pub fn play_list(first: &dyn Manager, second: &dyn Manager, calls: &[Call]) -> O
     calls.iter().enumerate().find_map(|(at, call)| board.play(call).err().map(|difference| (at, difference)))
 }
 
-/// Drops calls from a list whose last one shows a difference, as long as some difference still shows. It tries larger pieces first, and
-/// gives up after so many plays.
-pub fn shrink(first: &dyn Manager, second: &dyn Manager, calls: &[Call], plays: usize) -> Vec<Call> {
-    let mut list = calls.to_vec();
+/// Drops things from a list that fails, as long as it still does. `fails` tells the place of the last thing that is needed for it. Larger
+/// pieces are tried first, and it gives up after so many plays.
+pub fn shrink<T: Clone>(list: &[T], plays: usize, fails: impl Fn(&[T]) -> Option<usize>) -> Vec<T> {
+    let mut list = list.to_vec();
     let mut left = plays;
     let mut piece = list.len() / 2;
     while piece > 0 {
@@ -220,8 +220,8 @@ pub fn shrink(first: &dyn Manager, second: &dyn Manager, calls: &[Call], plays: 
             left -= 1;
             let mut shorter = list.clone();
             shorter.drain(at..(at + piece).min(list.len()));
-            match play_list(first, second, &shorter) {
-                Some((end, _)) => {
+            match fails(&shorter) {
+                Some(end) => {
                     shorter.truncate(end + 1);
                     list = shorter;
                 }
@@ -231,4 +231,9 @@ pub fn shrink(first: &dyn Manager, second: &dyn Manager, calls: &[Call], plays: 
         piece /= 2;
     }
     list
+}
+
+/// The same for calls on two managers that differ.
+pub fn shrink_calls(first: &dyn Manager, second: &dyn Manager, calls: &[Call], plays: usize) -> Vec<Call> {
+    shrink(calls, plays, |calls| play_list(first, second, calls).map(|(end, _)| end))
 }

@@ -11,6 +11,8 @@ pub struct Filling<'a> {
     pub locks: u32,
     pub clients: &'a [u32],
     pub names: &'a [Vec<u8>],
+    /// How many resources are to be in use, as far as names and locks go; then all locks are, if these are all resources.
+    pub used: Option<u32>,
 }
 
 /// How the locks of a random state stand, as weights: granted, converting, waiting, denied.
@@ -27,7 +29,11 @@ pub fn random(rng: &mut Rng, filling: &Filling) -> State {
     let mut state = started(filling.resources, filling.locks);
     rng.shuffle(state.free_resources.make_contiguous());
     rng.shuffle(state.free_locks.make_contiguous());
-    let in_use = how_many(rng, filling.locks as usize);
+    let in_use = match filling.used {
+        Some(used) if used == filling.resources => filling.locks as usize,
+        Some(used) => rng.between(used.min(filling.locks) as usize, filling.locks as usize),
+        None => how_many(rng, filling.locks as usize),
+    };
     let used = take_resources(rng, &mut state, filling, in_use);
     for at in 0..in_use {
         // The first locks see to it that no resource is left without one.
@@ -38,10 +44,79 @@ pub fn random(rng: &mut Rng, filling: &Filling) -> State {
     for resource in used {
         state.sweep(resource);
     }
-    if rng.percent(30) {
+    if filling.used.is_none() && rng.percent(30) {
         add_exclusive_conversion(rng, &mut state, filling);
     }
     state
+}
+
+/// A state in which every damage has a place: locks of every state on several resources, and at least two records on every chain.
+pub fn varied() -> State {
+    use Mode::{Cr, Ex, Nl, Pr, Pw};
+    let mut state = started(8, 32);
+    let names: [&[u8]; 5] = [b"vip-7", b"vip-8", b"a", b"a\0", &[b'n'; 64]];
+    for name in names {
+        let number = state.free_resources.pop_front().expect("eight, and five names");
+        let empty = VecDeque::new;
+        let valid = number % 2 == 1;
+        let queues =
+            Resource { name: name.to_vec(), value: [number as u8; 32], valid, granted: empty(), converting: empty(), waiting: empty() };
+        state.resources.insert(number, queues);
+    }
+    let granted = |resource, held, unread| Standing::Granted { resource, held, unread };
+    let converting = |resource, held, asked| Standing::Converting { resource, held, asked };
+    let waiting = |resource, asked| Standing::Waiting { resource, asked };
+    let standings = [
+        granted(1, Cr, None),
+        granted(1, Cr, Some(Unread::Granted)),
+        Standing::Denied,
+        granted(1, Nl, Some(Unread::ConversionDenied)),
+        converting(1, Nl, Ex),
+        converting(1, Cr, Pw),
+        converting(1, Pr, Pr),
+        waiting(1, Cr),
+        waiting(1, Pr),
+        waiting(1, Ex),
+        Standing::Denied,
+        granted(2, Ex, None),
+        granted(2, Nl, None),
+        waiting(2, Ex),
+        waiting(2, Cr),
+        waiting(2, Pr),
+        granted(3, Cr, None),
+        converting(3, Nl, Ex),
+        waiting(3, Cr),
+        granted(4, Pr, None),
+        granted(4, Pr, Some(Unread::Granted)),
+        granted(4, Pr, None),
+        waiting(4, Ex),
+        Standing::Denied,
+        granted(5, Nl, None),
+    ];
+    for (at, standing) in standings.into_iter().enumerate() {
+        put(&mut state, 1 + at as u8 % 4, standing);
+    }
+    state
+}
+
+/// The first free lock stands so, at the ends of its chains.
+fn put(state: &mut State, client: u8, standing: Standing) {
+    let number = state.free_locks.pop_front().expect("a free lock");
+    let lock = Lock { client, standing };
+    let queues = lock.resource().and_then(|resource| state.resources.get_mut(&resource));
+    match (standing, queues) {
+        (Standing::Granted { .. }, Some(queues)) => queues.granted.push_back(number),
+        (Standing::Converting { .. }, Some(queues)) => queues.converting.push_back(number),
+        (Standing::Waiting { .. }, Some(queues)) => queues.waiting.push_back(number),
+        _ => state.denied.push_back(number),
+    }
+    if lock.blocked() {
+        state.blocked.push_back(number);
+    }
+    if lock.completion() != 0 {
+        state.notices.push_back(number);
+    }
+    state.locks.insert(number, lock);
 }
 
 /// A resource on which a converting lock holds EX, behind a conversion that it holds up. No calls lead there, since all from EX is down.
@@ -89,7 +164,7 @@ fn take_resources(rng: &mut Rng, state: &mut State, filling: &Filling, in_use: u
     if most == 0 {
         return Vec::new();
     }
-    let count = rng.between(1, most);
+    let count = filling.used.map_or_else(|| rng.between(1, most), |used| most.min(used as usize));
     let mut names: Vec<&Vec<u8>> = filling.names.iter().collect();
     rng.shuffle(&mut names);
     let mut used = Vec::new();
@@ -164,9 +239,15 @@ mod tests {
         let names: Vec<Vec<u8>> = (0..9_u8).map(|at| vec![at; 1 + at as usize]).collect();
         for _ in 0..2000 {
             let (resources, locks) = (rng.between(1, 8) as u32, rng.between(1, 24) as u32);
-            let state = random(&mut rng, &Filling { resources, locks, clients: &[1, 2, 255], names: &names });
+            let state = random(&mut rng, &Filling { resources, locks, clients: &[1, 2, 255], names: &names, used: None });
             let (words, slots) = state.to_tables();
             assert_eq!(State::read_tables(&words, &slots), Ok(state));
         }
+    }
+
+    #[test]
+    fn the_varied_state_is_sound() {
+        let (words, slots) = varied().to_tables();
+        assert_eq!(State::read_tables(&words, &slots), Ok(varied()));
     }
 }

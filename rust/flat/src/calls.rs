@@ -309,11 +309,11 @@ pub fn read(words: &[u32], slots: &[u8], client: u32, k: u32) -> Result<([u8; 32
     Ok((value, records.resources[at][resource::VALID] == 1))
 }
 
-/// The locks of a lock's resource, five words each, as many as fit whole, and how many there are.
-pub fn list(words: &[u32], slots: &[u8], client: u32, k: u32, entries: &mut [u32]) -> Result<u32, Refused> {
+/// The locks of a lock's resource, five words each (number, client, state, held, asked), as many as fit, and how many there are.
+pub fn list(words: &[u32], slots: &[u8], client: u32, k: u32, entries: &mut [[u32; 5]]) -> Result<u32, Refused> {
     let records = Records::cut(words, slots).filter(Records::sound).ok_or(1_u32)?;
     let number = own_held(&records, client, k)?[lock::RESOURCE] as usize;
-    let mut lent = entries.as_chunks_mut::<5>().0.iter_mut();
+    let mut lent = entries.iter_mut();
     let mut count = 0;
     for chain in resource::GRANT..=resource::WAIT {
         let mut at = records.resources[number - 1][chain];

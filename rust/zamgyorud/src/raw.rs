@@ -3,7 +3,25 @@
 //! These functions are safe: a slice is a pointer and a length that belong together, which is all that the library asks for. Every content of
 //! tables, names and values is allowed; what isn't right is refused. For typed answers see [`Tables`](crate::Tables).
 
+/// A lock, as [`list`] gives it: C's `struct zamgyorud_entry`.
+#[repr(C)]
+#[derive(Clone, Copy, Debug, Default, PartialEq, Eq)]
+pub struct Entry {
+    /// The lock.
+    pub number: u32,
+    /// Its client.
+    pub client: u32,
+    /// 1 granted, 2 converting, 3 waiting.
+    pub state: u32,
+    /// The mode that it holds, or 0.
+    pub held: u32,
+    /// The mode that it asks for, or 0.
+    pub asked: u32,
+}
+
 mod c {
+    use super::Entry;
+
     unsafe extern "C" {
         pub fn zamgyorud_start(words: *mut u32, words_len: usize, slots: *mut u8, slots_len: usize, resources: u32, locks: u32) -> u64;
         pub fn zamgyorud_request(
@@ -61,7 +79,7 @@ mod c {
             slots_len: usize,
             client: u32,
             lock: u32,
-            entries: *mut u32,
+            entries: *mut Entry,
             entries_len: usize,
         ) -> u64;
         pub fn zamgyorud_image(
@@ -143,13 +161,13 @@ pub fn poll(words: &mut [u32], slots: &[u8], client: u32) -> u64 {
     call!(zamgyorud_poll(mut [words], [slots], client))
 }
 
-/// The value block of a lock's resource.
+/// The value block of a lock's resource; where it is refused, `value` stays as it is.
 pub fn read(words: &[u32], slots: &[u8], client: u32, lock: u32, value: &mut [u8]) -> u64 {
     call!(zamgyorud_read([words], [slots], client, lock, mut [value]))
 }
 
-/// The locks of a lock's resource, five words each.
-pub fn list(words: &[u32], slots: &[u8], client: u32, lock: u32, entries: &mut [u32]) -> u64 {
+/// The locks of a lock's resource, as many as fit. Entries past these stay as they are.
+pub fn list(words: &[u32], slots: &[u8], client: u32, lock: u32, entries: &mut [Entry]) -> u64 {
     call!(zamgyorud_list([words], [slots], client, lock, mut [entries]))
 }
 

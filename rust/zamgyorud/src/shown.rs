@@ -1,6 +1,6 @@
 //! Resources and their queues, shown as the guide's figures draw them (2.2 and 2.3.9).
 
-use crate::answers::{Entry, Mode, Queue, Value};
+use crate::answers::{Entry, Mode, Queue, Refusal, Value};
 use crate::tables::Tables;
 use std::fmt;
 
@@ -16,13 +16,24 @@ pub struct Resource {
 }
 
 impl Tables {
-    /// The resources in use, by number; none if the tables aren't sound.
-    pub fn resources(&self) -> Vec<Resource> {
+    /// The resources in use, by number. Unsound tables are refused; idle ones have none.
+    ///
+    /// ```
+    /// # use zamgyorud::{Flags, Mode, Refusal, Tables};
+    /// # fn main() -> Result<(), Refusal> {
+    /// let mut tables = Tables::start(4, 8)?;
+    /// assert_eq!(tables.resources()?, []);
+    /// tables.request(1, Mode::Ex, Flags::NONE, b"vip-7")?;
+    /// assert_eq!(tables.resources()?[0].name, b"vip-7");
+    /// # Ok(())
+    /// # }
+    /// ```
+    pub fn resources(&self) -> Result<Vec<Resource>, Refusal> {
         if !self.is_sound() {
-            return Vec::new();
+            return Err(Refusal::Unsound);
         }
         let most = self.words()[0] as usize;
-        (0..most).filter(|at| self.words()[8 + 8 * at + 4] != 0).map(|at| self.resource(at)).collect()
+        Ok((0..most).filter(|at| self.words()[8 + 8 * at + 4] != 0).map(|at| self.resource(at)).collect())
     }
 
     /// The resource of a record, counted from 0, that is in use in sound tables.
@@ -75,14 +86,11 @@ impl Tables {
 /// ```
 impl fmt::Display for Tables {
     fn fmt(&self, f: &mut fmt::Formatter) -> fmt::Result {
-        if !self.is_sound() {
-            return writeln!(f, "the tables aren't sound");
+        match self.resources() {
+            Err(_) => writeln!(f, "the tables aren't sound"),
+            Ok(resources) if resources.is_empty() => writeln!(f, "no resource is in use"),
+            Ok(resources) => resources.iter().try_for_each(|resource| write!(f, "{resource}")),
         }
-        let resources = self.resources();
-        if resources.is_empty() {
-            return writeln!(f, "no resource is in use");
-        }
-        resources.iter().try_for_each(|resource| write!(f, "{resource}"))
     }
 }
 

@@ -48,8 +48,8 @@ fn mode(number: u32) -> Mode {
     Mode::from_number(number).unwrap_or_else(|| impossible(number))
 }
 
-/// A lock from the five words of a list's entry.
-fn entry([lock, client, state, held, asked]: [u32; 5]) -> Entry {
+/// A lock from the numbers of a list's entry.
+fn entry(raw::Entry { number, client, state, held, asked }: raw::Entry) -> Entry {
     let queue = match state {
         1 => Queue::Granted,
         2 => Queue::Converting,
@@ -57,7 +57,7 @@ fn entry([lock, client, state, held, asked]: [u32; 5]) -> Entry {
         _ => impossible(state),
     };
     Entry {
-        lock,
+        lock: number,
         client,
         queue,
         held: (queue != Queue::Waiting).then(|| mode(held)),
@@ -84,9 +84,32 @@ impl Tables {
         Tables { words: vec![0; words], slots: vec![0; slots] }
     }
 
-    /// Tables of given words and slots, which may be anything: calls on unsound tables are refused.
-    pub fn from_parts(words: Vec<u32>, slots: Vec<u8>) -> Tables {
+    /// Tables of given words and slots, as [`Tables::into_parts`] gives them. Words and slots that aren't sound tables are refused.
+    ///
+    /// ```
+    /// # use zamgyorud::{Refusal, Tables};
+    /// # fn main() -> Result<(), Refusal> {
+    /// let (mut words, slots) = Tables::start(4, 8)?.into_parts();
+    /// assert_eq!(Tables::from_parts(words.clone(), slots.clone()), Tables::start(4, 8));
+    /// words[7] = 1;
+    /// assert_eq!(Tables::from_parts(words, slots), Err(Refusal::Unsound));
+    /// # Ok(())
+    /// # }
+    /// ```
+    pub fn from_parts(words: Vec<u32>, slots: Vec<u8>) -> Result<Tables, Refusal> {
+        let tables = Tables::from_parts_unchecked(words, slots);
+        if tables.is_sound() { Ok(tables) } else { Err(Refusal::Unsound) }
+    }
+
+    /// Tables of words and slots of any content, for instance to try how a program takes [`Refusal::Unsound`]. No call on unsound tables does
+    /// harm: each is refused.
+    pub fn from_parts_unchecked(words: Vec<u32>, slots: Vec<u8>) -> Tables {
         Tables { words, slots }
+    }
+
+    /// The words and the slots, to be kept elsewhere or lent to [`raw`].
+    pub fn into_parts(self) -> (Vec<u32>, Vec<u8>) {
+        (self.words, self.slots)
     }
 
     /// The words.
@@ -214,9 +237,9 @@ impl Tables {
     pub fn list(&self, client: u32, lock: u32) -> Result<Vec<Entry>, Refusal> {
         // No resource has more locks than there are; unsound tables are refused, whatever they say.
         let most = self.words.get(1).map_or(0, |locks| (*locks).min(1024)) as usize;
-        let mut words = vec![0; 5 * most];
-        let count = number(raw::list(&self.words, &self.slots, client, lock, &mut words))?;
-        Ok(words.as_chunks().0.iter().take(count as usize).map(|words| entry(*words)).collect())
+        let mut entries = vec![raw::Entry::default(); most];
+        let count = number(raw::list(&self.words, &self.slots, client, lock, &mut entries))?;
+        Ok(entries.into_iter().take(count as usize).map(entry).collect())
     }
 
     /// The tables as bytes, to be kept or sent.

@@ -100,7 +100,7 @@ fn lists() {
     let mut t = requested(&[Mode::Ex, Mode::Nl, Mode::Cr]);
     t.convert(2, 2, Mode::Pr, Flags::NONE, b"").expect("accepted");
     let list = t.list(1, 1).expect("accepted");
-    assert_eq!(list, t.resources()[0].locks);
+    assert_eq!(list, t.resources().expect("sound")[0].locks);
     assert_eq!(list.iter().map(|entry| entry.lock).collect::<Vec<_>>(), [1, 2, 3]);
     assert_eq!((list[0].held, list[0].asked, list[0].queue), (Some(Mode::Ex), None, Queue::Granted));
     assert_eq!((list[1].held, list[1].asked, list[1].queue), (Some(Mode::Nl), Some(Mode::Pr), Queue::Converting));
@@ -143,11 +143,17 @@ fn sizes_and_refusals() {
     assert_eq!(one.request(1, Mode::Nl, Flags::NONE, b"a"), Err(Refusal::NoLock));
 }
 
+/// The words and slots of fresh tables with one word changed, which no sound tables have.
+fn damaged_parts() -> (Vec<u32>, Vec<u8>) {
+    let (mut words, slots) = tables().into_parts();
+    words[7] = 1;
+    (words, slots)
+}
+
 #[test]
 fn unsound_tables_are_refused_and_shown_as_such() {
-    let mut words = tables().words().to_vec();
-    words[7] = 1;
-    let mut t = Tables::from_parts(words, tables().slots().to_vec());
+    let (words, slots) = damaged_parts();
+    let mut t = Tables::from_parts_unchecked(words, slots);
     let before = t.clone();
     assert!(!t.is_sound());
     assert_eq!(t.request(1, Mode::Nl, Flags::NONE, b"a"), Err(Refusal::Unsound));
@@ -156,6 +162,45 @@ fn unsound_tables_are_refused_and_shown_as_such() {
     assert_eq!(t.list(1, 1), Err(Refusal::Unsound));
     assert_eq!(t.to_string(), "the tables aren't sound\n");
     assert_eq!(t, before);
-    assert_eq!(Tables::from_parts(Vec::new(), Vec::new()).read(1, 1), Err(Refusal::Unsound));
+    assert_eq!(Tables::from_parts_unchecked(Vec::new(), Vec::new()).read(1, 1), Err(Refusal::Unsound));
     assert_eq!(tables().to_string(), "no resource is in use\n");
+}
+
+#[test]
+fn resources_of_unsound_and_of_idle_tables_differ() {
+    let (words, slots) = damaged_parts();
+    assert_eq!(Tables::from_parts_unchecked(words, slots).resources(), Err(Refusal::Unsound));
+    assert_eq!(tables().resources(), Ok(Vec::new()));
+    let mut t = requested(&[Mode::Ex]);
+    assert_eq!(t.resources().expect("sound").len(), 1);
+    assert_eq!(t.release(1, 1, Flags::NONE, b""), Ok(()));
+    assert_eq!(t.resources(), Ok(Vec::new()));
+}
+
+#[test]
+fn parts_go_both_ways() {
+    let mut t = requested(&[Mode::Ex, Mode::Pr]);
+    let (words, slots) = t.clone().into_parts();
+    assert_eq!((&words[..], &slots[..]), (t.words(), t.slots()));
+    let mut again = Tables::from_parts(words, slots).expect("sound");
+    assert_eq!(again, t);
+    // What comes back is the whole state: the same call does the same to both.
+    assert_eq!((again.purge(1), t.purge(1)), (Ok(1), Ok(1)));
+    assert_eq!(again, t);
+    assert_eq!(again.poll(2), Ok(notice(Completion::Granted, 2)));
+}
+
+#[test]
+fn unsound_parts_are_refused() {
+    let (words, slots) = damaged_parts();
+    assert_eq!(Tables::from_parts(words, slots), Err(Refusal::Unsound));
+    assert_eq!(Tables::from_parts(Vec::new(), Vec::new()), Err(Refusal::Unsound));
+    let (words, slots) = requested(&[Mode::Ex]).into_parts();
+    assert_eq!(Tables::from_parts(words[1..].to_vec(), slots.clone()), Err(Refusal::Unsound));
+    assert_eq!(Tables::from_parts(words.clone(), slots[1..].to_vec()), Err(Refusal::Unsound));
+    // Two locks held in modes that exclude each other.
+    let (mut held, slots) = requested(&[Mode::Ex, Mode::Nl]).into_parts();
+    let second_lock = 8 + 8 * 4 + 9;
+    held[second_lock + 6] = Mode::Cr.number();
+    assert_eq!(Tables::from_parts(held, slots), Err(Refusal::Unsound));
 }

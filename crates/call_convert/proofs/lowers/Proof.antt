@@ -3,10 +3,7 @@ use Rattle.rules.specs.Calls.{strong}
 use Rattle.call_convert.specs.Contracts.{lowers}
 use Rattle.call_convert.proofs.lowers.Statement.{statement}
 use Rattle.call_convert.proofs.lowers.Tie as tie
-use Rattle.call_convert.proofs.lowers.Reads as reads
-use Rattle.call_convert.proofs.lowers.Lts as lts
 
--- src/lib.rt:16:1
 returns : tie.Need-returns
 unfolding lowers strong
 returns c = search needs

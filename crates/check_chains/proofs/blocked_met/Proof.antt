@@ -3,7 +3,7 @@ use Prim.Native.Nat.{_≤_, _-_}
 use mathlib.Core.Path.{_≡_}
 use Rattle.tables.specs.State.{blocked-lock}
 use Rattle.tables.specs.Layout.{of-lock, word-in, read-lock}
-use Rattle.check_chains.specs.Walks.{left, blocked-met}
+use Rattle.check_chains.specs.Walks.{steps-left, blocked-met}
 use Rattle.check_chains.proofs.ChainWalk.{walk-other, walk-loop}
 use Rattle.check_chains.proofs.WalkStarts.{starts}
 use native.Mathlib.Omega.{arith}
@@ -11,7 +11,7 @@ use Rattle.check_chains.proofs.blocked_met.Statement.{statement}
 use Rattle.check_chains.proofs.blocked_met.Tie as tie
 
 abbrev Inv-loop : tie.InvT-loop
-Inv-loop words n k₀ met₀ k met = (met ≤ n) × (blocked-met words ≡ left (λ j. word-in words (of-lock j 1)) (λ j. blocked-lock (read-lock words j)) n met k)
+Inv-loop words n k₀ met₀ k met = (met ≤ n) × (blocked-met words ≡ steps-left (λ j. word-in words (of-lock j 1)) (λ j. blocked-lock (read-lock words j)) n met k)
 
 abbrev μ-loop : tie.MeasureT-loop
 μ-loop words n k₀ met₀ k met = n - met
@@ -21,12 +21,6 @@ Inv-loop2 words n k₀ met₀ k met = (met₀ ≤ met) × (k ≡ 0 → ⊥) × I
 
 abbrev μ-loop2 : tie.MeasureT-loop2
 μ-loop2 words n k₀ met₀ k met = n - met
-
-loop-holds : tie.Need-loop-holds Inv-loop2 μ-loop2 Inv-loop μ-loop
-loop-holds c = search starts
-
-returns-3 : tie.Need-returns-3 Inv-loop2 μ-loop2 Inv-loop μ-loop
-returns-3 c = search walk-other
 
 loop2-again : tie.Need-loop2-again Inv-loop2 μ-loop2 Inv-loop μ-loop
 loop2-again c = (omega arith, (λ e. omega arith), (omega arith, rw (← c .if4 .left) (search walk-loop)))
@@ -41,7 +35,7 @@ blocked-met-spec =
     μ-loop
     (λ c. search walk-loop)
     (λ c. search walk-loop)
-    loop-holds
+    (λ c. search starts)
     (λ c. search walk-loop)
     (λ c. search walk-loop)
     (λ c. search walk-loop)
@@ -49,7 +43,7 @@ blocked-met-spec =
     (λ c. search walk-loop)
     (λ c κs. search walk-loop)
     (λ c. search walk-loop)
-    returns-3
+    (λ c. search walk-other)
     (λ c. search walk-loop)
     (λ c κs. search walk-loop)
     (λ c. search walk-loop)

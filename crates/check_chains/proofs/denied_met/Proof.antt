@@ -3,7 +3,7 @@ use Prim.Native.Nat.{_≤_, _-_}
 use mathlib.Core.Path.{_≡_}
 use Rattle.tables.specs.Layout.{of-header, of-lock, word-in}
 use Rattle.check_laws.specs.Check.{stands, home-steps}
-use Rattle.check_chains.specs.Walks.{left}
+use Rattle.check_chains.specs.Walks.{steps-left}
 use Rattle.check_chains.proofs.ChainWalk.{walk-loop}
 use Rattle.check_chains.proofs.WalkStarts.{starts}
 use native.Mathlib.Omega.{arith}
@@ -11,25 +11,10 @@ use Rattle.check_chains.proofs.denied_met.Statement.{statement}
 use Rattle.check_chains.proofs.denied_met.Tie as tie
 
 abbrev Inv-loop : tie.InvT-loop
-Inv-loop words n k₀ met₀ k met = (met ≤ n) × (home-steps words 4 0 (word-in words (of-header 4)) ≡ left (λ j. word-in words (of-lock j 0)) (stands words 4 0) n met k)
+Inv-loop words n k₀ met₀ k met = (met ≤ n) × (home-steps words 4 0 (word-in words (of-header 4)) ≡ steps-left (λ j. word-in words (of-lock j 0)) (stands words 4 0) n met k)
 
 abbrev μ-loop : tie.MeasureT-loop
 μ-loop words n k₀ met₀ k met = n - met
-
-loop-holds : tie.Need-loop-holds Inv-loop μ-loop
-loop-holds c = search starts
-
-returns : tie.Need-returns Inv-loop μ-loop
-returns c = (search walk-loop, omega arith)
-
-returns-2 : tie.Need-returns-2 Inv-loop μ-loop
-returns-2 c = (search walk-loop, omega arith)
-
-returns-3 : tie.Need-returns-3 Inv-loop μ-loop
-returns-3 c = (search walk-loop, omega arith)
-
-returns-4 : tie.Need-returns-4 Inv-loop μ-loop
-returns-4 c = (search walk-loop, omega arith)
 
 pub denied-met-spec : {M : Type 1} → statement M
 denied-met-spec =
@@ -39,16 +24,16 @@ denied-met-spec =
     μ-loop
     (λ c. search walk-loop)
     (λ c. search walk-loop)
-    loop-holds
+    (λ c. search starts)
     (λ c. search walk-loop)
-    returns
+    (λ c. (search walk-loop, omega arith))
     (λ c. search walk-loop)
-    returns-2
+    (λ c. (search walk-loop, omega arith))
     (λ c κs. search walk-loop)
     (λ c. search walk-loop)
-    returns-3
+    (λ c. (search walk-loop, omega arith))
     (λ c κs. search walk-loop)
     (λ c. search walk-loop)
     (λ c. search walk-loop)
     (λ c. search walk-loop)
-    returns-4)
+    (λ c. (search walk-loop, omega arith)))

@@ -4,7 +4,7 @@ use mathlib.Core.Path.{_≡_}
 use mathlib.Core.Bool.{not}
 use Rattle.tables.specs.Layout.{of-resource, word-in}
 use Rattle.table_names.specs.Names.{named}
-use Rattle.check_chains.specs.Walks.{left, free-met}
+use Rattle.check_chains.specs.Walks.{steps-left, free-met}
 use Rattle.check_chains.proofs.ChainWalk.{walk-other, walk-loop}
 use Rattle.check_chains.proofs.WalkStarts.{starts}
 use native.Mathlib.Omega.{arith}
@@ -12,7 +12,7 @@ use Rattle.check_chains.proofs.free_met.Statement.{statement}
 use Rattle.check_chains.proofs.free_met.Tie as tie
 
 abbrev Inv-loop : tie.InvT-loop
-Inv-loop words n r₀ met₀ r met = (met ≤ n) × (free-met words ≡ left (λ j. word-in words (of-resource j 0)) (λ j. not (named words j)) n met r)
+Inv-loop words n r₀ met₀ r met = (met ≤ n) × (free-met words ≡ steps-left (λ j. word-in words (of-resource j 0)) (λ j. not (named words j)) n met r)
 
 abbrev μ-loop : tie.MeasureT-loop
 μ-loop words n r₀ met₀ r met = n - met
@@ -22,12 +22,6 @@ Inv-loop2 words n r₀ met₀ r met = (met₀ ≤ met) × (r ≡ 0 → ⊥) × I
 
 abbrev μ-loop2 : tie.MeasureT-loop2
 μ-loop2 words n r₀ met₀ r met = n - met
-
-loop-holds : tie.Need-loop-holds Inv-loop2 μ-loop2 Inv-loop μ-loop
-loop-holds c = search starts
-
-returns-3 : tie.Need-returns-3 Inv-loop2 μ-loop2 Inv-loop μ-loop
-returns-3 c = search walk-other
 
 loop2-again : tie.Need-loop2-again Inv-loop2 μ-loop2 Inv-loop μ-loop
 loop2-again c = (omega arith, (λ e. omega arith), (omega arith, rw (← c .if4 .left) (search walk-loop)))
@@ -42,7 +36,7 @@ free-met-spec =
     μ-loop
     (λ c. search walk-loop)
     (λ c. search walk-loop)
-    loop-holds
+    (λ c. search starts)
     (λ c. search walk-loop)
     (λ c. search walk-loop)
     (λ c. search walk-loop)
@@ -50,7 +44,7 @@ free-met-spec =
     (λ c. search walk-loop)
     (λ c κs. search walk-loop)
     (λ c. search walk-loop)
-    returns-3
+    (λ c. search walk-other)
     (λ c. search walk-loop)
     (λ c κs. search walk-loop)
     (λ c. search walk-loop)

@@ -30,14 +30,8 @@ returns c = granting-over _ _ _ (c .grants-over .ensures) (search modes-long)
 returns-2 : tie.Need-returns-2 Inv-loop μ-loop
 returns-2 c = granting-over _ _ _ (c .grants-over2 .ensures) (search modes-off)
 
-stands-granted-requires : tie.Need-stands-granted-requires Inv-loop μ-loop
-stands-granted-requires c κs = (search needs, (search needs, (search needs, search needs)))
-
 returns-3 : tie.Need-returns-3 Inv-loop μ-loop
 returns-3 c = granting-over _ _ _ (c .grants-over3 .ensures) (search modes-other)
-
-fits-requires : tie.Need-fits-requires Inv-loop μ-loop
-fits-requires c κs = (search needs, search stands-held)
 
 returns-4 : tie.Need-returns-4 Inv-loop μ-loop
 returns-4 c =
@@ -47,10 +41,7 @@ returns-4 c =
     let loop = head .before .before .before .loop in
     granting-over _ _ _ (c .grants-over4 .ensures)
     (modes-clash _ 1 _ fits-set (loop .inv .1 .1 .1 .0) (head .before .before .loop-test .taken) (loop .inv .1 .0) (head .before .if1 .left) (head .if2 .left)
-    (stands .before .stands-granted .ensures) (stands .if3 .left) (fits .before .lock-word .ensures) (fits .fits2 .ensures) (c .before .if4 .taken) refl)
-
-with-mode-requires : tie.Need-with-mode-requires Inv-loop μ-loop
-with-mode-requires c κs = (search needs, search stands-held)
+    (stands .before .stands-granted .ensures) (stands .if3 .left) (fits .before .lock-word .ensures) (fits .fits-by-masks .ensures) (c .before .if4 .taken) refl)
 
 loop-again : tie.Need-loop-again Inv-loop μ-loop
 loop-again c =
@@ -60,12 +51,9 @@ loop-again c =
     let loop = head .before .before .before .loop in
     let on =
     modes-on _ 1 _ fits-set (loop .inv .1 .1 .1 .0) (head .before .before .loop-test .taken) (loop .inv .1 .0) (head .before .if1 .left) (head .if2 .left)
-    (stands .before .stands-granted .ensures) (stands .if3 .left) (fits .before .lock-word .ensures) (fits .fits2 .ensures) (c .before .before .before .if4 .left)
+    (stands .before .stands-granted .ensures) (stands .if3 .left) (fits .before .lock-word .ensures) (fits .fits-by-masks .ensures) (c .before .before .before .if4 .left)
     (c .before .before .with-mode .ensures .0) (c .lock-word2 .ensures) in
     (omega arith, (omega arith, (omega arith, (on, search noticed-on))))
-
-returns-5 : tie.Need-returns-5 Inv-loop μ-loop
-returns-5 c = search granting-end
 
 pub grant-walk-spec : {M : Type 1} → statement M
 grant-walk-spec =
@@ -80,18 +68,18 @@ grant-walk-spec =
     returns
     (λ c κs. search needs)
     returns-2
-    stands-granted-requires
+    (λ c κs. (search needs, (search needs, (search needs, search needs))))
     (λ c κs. search needs)
     returns-3
     (λ c κs. search needs)
-    fits-requires
+    (λ c κs. (search needs, search stands-held))
     (λ c κs. search needs)
     returns-4
-    with-mode-requires
+    (λ c κs. (search needs, search stands-held))
     (λ c κs. search needs)
     (λ c. search needs)
     (λ c κs. search needs)
     (λ c. search needs)
     (λ c. search needs)
     loop-again
-    returns-5)
+    (λ c. search granting-end))

@@ -15,36 +15,6 @@ Inv-loop words r head first granted last n k₀ met₀ set₀ k met set = (met �
 abbrev μ-loop : tie.MeasureT-loop
 μ-loop words r head first granted last n k₀ met₀ set₀ k met set = n - met
 
-loop-holds : tie.Need-loop-holds Inv-loop μ-loop
-loop-holds c = (omega arith, (omega arith, search tail-start))
-
-returns : tie.Need-returns Inv-loop μ-loop
-returns c = search modes-long
-
-returns-2 : tie.Need-returns-2 Inv-loop μ-loop
-returns-2 c = search modes-off
-
-stands-converting-requires : tie.Need-stands-converting-requires Inv-loop μ-loop
-stands-converting-requires c κs = (search needs, (search needs, (search needs, search needs)))
-
-returns-3 : tie.Need-returns-3 Inv-loop μ-loop
-returns-3 c = search modes-other
-
-fits-beside-requires : tie.Need-fits-beside-requires Inv-loop μ-loop
-fits-beside-requires c κs = (search needs, (search needs, search stands-held))
-
-returns-4 : tie.Need-returns-4 Inv-loop μ-loop
-returns-4 c = search modes-clash
-
-with-mode-requires : tie.Need-with-mode-requires Inv-loop μ-loop
-with-mode-requires c κs = (search needs, search stands-held)
-
-loop-again : tie.Need-loop-again Inv-loop μ-loop
-loop-again c = (omega arith, (omega arith, search modes-on))
-
-returns-5 : tie.Need-returns-5 Inv-loop μ-loop
-returns-5 c = search modes-end
-
 pub tail-walk-spec : {M : Type 1} → statement M
 tail-walk-spec =
     tie.close
@@ -53,21 +23,21 @@ tail-walk-spec =
     μ-loop
     (λ c. search needs)
     (λ c. search needs)
-    loop-holds
+    (λ c. (omega arith, (omega arith, search tail-start)))
     (λ c κs. search needs)
-    returns
+    (λ c. search modes-long)
     (λ c κs. search needs)
-    returns-2
-    stands-converting-requires
+    (λ c. search modes-off)
+    (λ c κs. (search needs, (search needs, (search needs, search needs))))
     (λ c κs. search needs)
-    returns-3
+    (λ c. search modes-other)
     (λ c κs. search needs)
-    fits-beside-requires
+    (λ c κs. (search needs, (search needs, search stands-held)))
     (λ c κs. search needs)
-    returns-4
-    with-mode-requires
+    (λ c. search modes-clash)
+    (λ c κs. (search needs, search stands-held))
     (λ c κs. search needs)
     (λ c. search needs)
     (λ c. search needs)
-    loop-again
-    returns-5)
+    (λ c. (omega arith, (omega arith, search modes-on)))
+    (λ c. search modes-end))

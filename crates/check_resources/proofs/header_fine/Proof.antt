@@ -2,12 +2,5 @@ use borrow.Author.Needs.{needs}
 use Rattle.check_resources.proofs.header_fine.Statement.{statement}
 use Rattle.check_resources.proofs.header_fine.Tie as tie
 
-returns : tie.Need-returns
-returns c = cc
-
 pub header-fine-spec : {M : Type 1} → statement M
-header-fine-spec =
-    tie.close
-    (tie.spec
-    (λ c. search needs)
-    returns)
+header-fine-spec = tie.close (tie.spec (λ c. search needs) (λ c. cc))

@@ -4,9 +4,6 @@ use borrow.Author.Needs.{needs}
 use Rattle.check_resources.proofs.sizes_right.Statement.{statement}
 use Rattle.check_resources.proofs.sizes_right.Tie as tie
 
-returns : tie.Need-returns
-returns c = search records
-
 returns-2 : tie.Need-returns-2
 unfolding sizes-right
 returns-2 c = cc
@@ -15,7 +12,7 @@ pub sizes-right-spec : {M : Type 1} → statement M
 sizes-right-spec =
     tie.close
     (tie.spec
-    returns
+    (λ c. search records)
     (λ c. search needs)
     (λ c κs. search needs)
     (λ c. search needs)

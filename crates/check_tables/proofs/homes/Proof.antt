@@ -3,9 +3,6 @@ use borrow.Author.Needs.{needs}
 use Rattle.check_tables.proofs.homes.Statement.{statement}
 use Rattle.check_tables.proofs.homes.Tie as tie
 
-returns : tie.Need-returns
-returns c = search housed
-
 pub homes-spec : {M : Type 1} → statement M
 homes-spec =
     tie.close
@@ -14,4 +11,4 @@ homes-spec =
     (λ c κs. search needs)
     (λ c. search needs)
     (λ c κs. search needs)
-    returns)
+    (λ c. search housed))

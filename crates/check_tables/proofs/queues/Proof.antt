@@ -9,10 +9,10 @@ use Rattle.check_tables.proofs.queues.Statement.{statement}
 use Rattle.check_tables.proofs.queues.Tie as tie
 
 abbrev Inv-loop : tie.InvT-loop
-Inv-loop words slots others unread n last met₀ blocked₀ noticed₀ free₀ r₀ met blocked noticed free r = Left words slots others unread met blocked noticed free r
+Inv-loop words slots others denied n last met₀ blocked₀ noticed₀ free₀ r₀ met blocked noticed free r = Left words slots others denied met blocked noticed free r
 
 abbrev μ-loop : tie.MeasureT-loop
-μ-loop words slots others unread n last met₀ blocked₀ noticed₀ free₀ r₀ met blocked noticed free r = last + 1 - r
+μ-loop words slots others denied n last met₀ blocked₀ noticed₀ free₀ r₀ met blocked noticed free r = last + 1 - r
 
 resource-walk-requires : tie.Need-resource-walk-requires Inv-loop μ-loop
 resource-walk-requires c κs = (search needs, ((omega arith, omega arith), in-use _ _ (c .before .before .before .before .before .row-at .ensures) (c .if3 .left)))

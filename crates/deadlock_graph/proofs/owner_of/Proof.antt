@@ -3,14 +3,10 @@ use borrow.Author.Needs.{needs}
 use Rattle.deadlock_graph.proofs.owner_of.Statement.{statement}
 use Rattle.deadlock_graph.proofs.owner_of.Tie as tie
 
-lock-word-requires : tie.Need-lock-word-requires
-lock-word-requires c κs = search read-laws
-
-wide-requires : tie.Need-wide-requires
-wide-requires c κs = search needs
-
-returns : tie.Need-returns
-returns c = search read-laws
-
 pub owner-of-spec : {M : Type 1} → statement M
-owner-of-spec = tie.close (tie.spec lock-word-requires wide-requires returns)
+owner-of-spec =
+    tie.close
+    (tie.spec
+    (λ c κs. search read-laws)
+    (λ c κs. search needs)
+    (λ c. search read-laws))

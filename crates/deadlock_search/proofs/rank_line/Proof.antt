@@ -5,25 +5,16 @@ use borrow.Author.Needs.{needs}
 use Rattle.deadlock_search.proofs.rank_line.Statement.{statement}
 use Rattle.deadlock_search.proofs.rank_line.Tie as tie
 
-resource-word-requires : tie.Need-resource-word-requires
-resource-word-requires c κs = search line-laws
-
 rank-chain-requires : tie.Need-rank-chain-requires
 rank-chain-requires c κs =
     let p = c .before .before .before .before .pre in
     (line-converts (p .0) (p .1 .0) (c .before .resource-word .ensures), (search needs, search needs))
-
-resource-word-requires-2 : tie.Need-resource-word-requires-2
-resource-word-requires-2 c κs = search line-laws
 
 rank-chain-requires-2 : tie.Need-rank-chain-requires-2
 rank-chain-requires-2 c κs =
     let p = c .before .before .before .before .before .before .before .before .before .pre in
     let done = c .before .before .before .before .rank-chain .ensures in
     (line-waits (p .0) (p .1 .0) (c .before .resource-word2 .ensures), (omega (arith, line-last (p .0) (p .1 .0) (c .before .before .before .before .before .before .resource-word .ensures) done), search needs))
-
-same-length : tie.Need-same-length
-same-length c = search needs
 
 returns : tie.Need-returns
 returns c =
@@ -34,9 +25,9 @@ pub rank-line-spec : {M : Type 1} → statement M
 rank-line-spec =
     tie.close
     (tie.spec
-    resource-word-requires
+    (λ c κs. search line-laws)
     rank-chain-requires
-    resource-word-requires-2
+    (λ c κs. search line-laws)
     rank-chain-requires-2
-    same-length
+    (λ c. search needs)
     returns)

@@ -44,11 +44,13 @@ use Rattle.tables.proofs.LockEntry as T
 use Rattle.rules.specs.Entries.{list-entry}
 use Rattle.table_chains.specs.Contracts.{Some, Tells, Resourced}
 use Rattle.list_walker.specs.Order.{Queued}
-use Rattle.entry_list.specs.declared.Listed.{Listed}
-use Rattle.entry_list.specs.declared.Listed.the-variants.{Count, Refused}
-use Rattle.entry_list.specs.Listings.{listed-numbers, counted, listing, list-refusal as refusal-of, resource-of as resource-in, listing-of}
-use Rattle.entry_list.proofs.Listed as S
-use Rattle.entry_list.proofs.Listed.Laws as S′
+use Rattle.answers.specs.declared.Listed.{Listed}
+use Rattle.answers.specs.declared.Listed.the-variants.{Count, Refused}
+use Rattle.rules.specs.Calls.{accepted}
+use Rattle.answers.specs.Answers.{list-said}
+use Rattle.answers.proofs.Listed as S
+use Rattle.answers.proofs.Listed.Laws as S′
+use Rattle.entry_list.specs.Listings.{listing, list-refusal as refusal-of, resource-of as resource-in, listing-of}
 use Rattle.entry_list.proofs.ListReturns.{answer-refused, answer-queued, answer-resourced, answer-listed}
 use Rattle.entry_list.proofs.list_refusal as list-refusal
 use Rattle.entry_list.proofs.list_refusal.Symbol as list-refusal-def
@@ -161,7 +163,7 @@ module _ {M : Type 1} (𝓤 : URA M) (H : Heap 𝓤) (A : Atoms 𝓤) (W : Given
       use1 W (‵ (fres γ (codedHoleys T.the-row .code (heres T.the-row ys)))) (W .names .obs-res γ (codedHoleys T.the-row .code (heres T.the-row ys))) $
       use1 W (‵ (finally T.the-row γ ys)) (res-finally 𝓤 H A W (named 2) κ″ T.the-row γ ys) $ keep ! (0 ∷ []) $ done !
 
-  exits : (y : Listed) (zs : List LockEntry) → Is S.the-row y (val y ∷ []) → listing (listed-numbers y) zs ≡ list-entry ws ss c k ys → length zs ≡ length ys
+  exits : (y : Listed) (zs : List LockEntry) → Is S.the-row y (val y ∷ []) → listing (list-said y) zs ≡ list-entry ws ss c k ys → length zs ≡ length ys
       → ent 𝓤 (⋆ 𝓤 H A (‵ (flft κ q) ∷ ‵ (flft κ′ q′) ∷ ‵ (flft κ″ q″) ∷ ‵ Own ∷ ‵ Own′ ∷ ‵ (finally T.the-row γ zs) ∷ [])) (Post (val y))
   exits y zs is e len =
       qed W (‵ (flft κ q) ∷ ‵ (flft κ′ q′) ∷ ‵ (flft κ″ q″) ∷ ‵ Own ∷ ‵ Own′ ∷ ‵ (finally T.the-row γ zs) ∷ []) ∵
@@ -214,7 +216,7 @@ module _ {M : Type 1} (𝓤 : URA M) (H : Heap 𝓤) (A : Atoms 𝓤) (W : Given
       nothing ! $ owned ! u32 (Is u32) (uint-makes 𝓤 H A W w32) r _ (refl, fits) $ fjoin ! $ move ! (2 ∷ 0 ∷ []) $ fjoin ! $ move ! (1 ∷ 0 ∷ []) $ fjoin ! $ done !
 
   abbrev Lists : ℕ → ℕ → List LockEntry → Type 0
-  Lists r n zs = Tells (Resourced r) (listing-of r ys) ws (listing (counted n) zs)
+  Lists r n zs = Tells (Resourced r) (listing-of r ys) ws (listing (accepted n 0) zs)
 
   abbrev Lasts : Type 0
   Lasts = List LockEntry × (Unit {0} × (Unit {0} × Unit {0}))

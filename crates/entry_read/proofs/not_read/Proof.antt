@@ -2,10 +2,7 @@ use borrow.Author.Needs.{needs}
 use Rattle.tables.specs.State.{no-value}
 use Rattle.entry_read.proofs.not_read.Statement.{statement}
 use Rattle.entry_read.proofs.not_read.Tie as tie
-use Rattle.entry_read.proofs.not_read.Reads as reads
-use Rattle.entry_read.proofs.not_read.Lts as lts
 
--- src/lib.rt:67:1
 returns : tie.Need-returns
 unfolding no-value
 returns c = search needs

@@ -2,10 +2,7 @@ use borrow.Author.Needs.{needs}
 use Rattle.rules.specs.Calls.{spoils}
 use Rattle.flags.proofs.spoils.Statement.{statement}
 use Rattle.flags.proofs.spoils.Tie as tie
-use Rattle.flags.proofs.spoils.Reads as reads
-use Rattle.flags.proofs.spoils.Lts as lts
 
--- src/lib.rt:173:1
 returns : tie.Need-returns
 unfolding spoils
 returns c = search needs

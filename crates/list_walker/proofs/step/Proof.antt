@@ -44,7 +44,7 @@ use denote.Triple.Walked.{says, needs, Stays, stay-none, walkOf, goes-none, Walk
 use denote.Exit.{yes}
 use denote.Triple.Clauses.{ensured, lasts}
 use Rattle.table_chains.specs.Contracts.{Some, Tells}
-use Rattle.list_walker.specs.Order.{Queued, following as follows}
+use Rattle.list_walker.specs.Order.{Queued, next-on as follows}
 use Rattle.list_walker.specs.declared.Walker.{Walker}
 use Rattle.list_walker.proofs.Walker as T
 use Rattle.list_walker.proofs.Walker.Laws as T′

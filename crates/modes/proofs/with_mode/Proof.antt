@@ -4,9 +4,6 @@ use Rattle.modes.proofs.Laws.{or-mode, with-mode-small}
 use Rattle.modes.proofs.with_mode.Statement.{statement}
 use Rattle.modes.proofs.with_mode.Tie as tie
 
-shl-result : tie.Need-shl-result
-shl-result c = search needs
-
 returns : tie.Need-returns
 returns c =
     let set = c .args .set in
@@ -15,4 +12,4 @@ returns c =
     (is, rw is (with-mode-small set mode (search needs) (search needs)))
 
 pub with-mode-spec : {M : Type 1} → statement M
-with-mode-spec = tie.close (tie.spec shl-result returns)
+with-mode-spec = tie.close (tie.spec (λ c. search needs) returns)

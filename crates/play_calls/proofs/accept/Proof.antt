@@ -3,8 +3,5 @@ use Rattle.play_calls.proofs.AnswerNumbers.{number-rules}
 use Rattle.play_calls.proofs.accept.Statement.{statement}
 use Rattle.play_calls.proofs.accept.Tie as tie
 
-returns : tie.Need-returns
-returns c = search number-rules
-
 pub accept-spec : {M : Type 1} → statement M
-accept-spec = tie.close (tie.spec returns)
+accept-spec = tie.close (tie.spec (λ c. search number-rules))

@@ -4,27 +4,12 @@ use borrow.Author.Needs.{needs}
 use Rattle.play_calls.proofs.break_line.Statement.{statement}
 use Rattle.play_calls.proofs.break_line.Tie as tie
 
-break-deadlock-requires : tie.Need-break-deadlock-requires
-break-deadlock-requires c κs = search needs
-
-broken-numbers-requires : tie.Need-broken-numbers-requires
-broken-numbers-requires c κs = search needs
-
-answered-requires : tie.Need-answered-requires
-answered-requires c κs = search needs
-
-same-length : tie.Need-same-length
-same-length c = search needs
-
-returns : tie.Need-returns
-returns c = search line-rules
-
 pub break-line-spec : {M : Type 1} → statement M
 break-line-spec =
     tie.close
     (tie.spec
-    break-deadlock-requires
-    broken-numbers-requires
-    answered-requires
-    same-length
-    returns)
+    (λ c κs. search needs)
+    (λ c κs. search needs)
+    (λ c κs. search needs)
+    (λ c. search needs)
+    (λ c. search line-rules))

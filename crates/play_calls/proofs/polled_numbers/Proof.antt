@@ -4,67 +4,22 @@ use borrow.Author.Needs.{needs}
 use Rattle.play_calls.proofs.polled_numbers.Statement.{statement}
 use Rattle.play_calls.proofs.polled_numbers.Tie as tie
 
-enum-known-r : tie.Need-enum-known-r
-enum-known-r c = search needs
-
-accept-requires : tie.Need-accept-requires
-accept-requires c κs = search needs
-
-enum-known-r-2 : tie.Need-enum-known-r-2
-enum-known-r-2 c = search needs
-
-accept-requires-2 : tie.Need-accept-requires-2
-accept-requires-2 c κs = search needs
-
-enum-known-r-3 : tie.Need-enum-known-r-3
-enum-known-r-3 c = search needs
-
-accept-requires-3 : tie.Need-accept-requires-3
-accept-requires-3 c κs = search needs
-
-enum-told : tie.Need-enum-told
-enum-told c = search needs
-
-accept-requires-4 : tie.Need-accept-requires-4
-accept-requires-4 c κs = search needs
-
-enum-known-r-4 : tie.Need-enum-known-r-4
-enum-known-r-4 c = search needs
-
-refuse-requires : tie.Need-refuse-requires
-refuse-requires c κs = search needs
-
-returns : tie.Need-returns
-returns c = search number-rules
-
-returns-2 : tie.Need-returns-2
-returns-2 c = search number-rules
-
-returns-3 : tie.Need-returns-3
-returns-3 c = search number-rules
-
-returns-4 : tie.Need-returns-4
-returns-4 c = search number-rules
-
-returns-5 : tie.Need-returns-5
-returns-5 c = search number-rules
-
 pub polled-numbers-spec : {M : Type 1} → statement M
 polled-numbers-spec =
     tie.close
     (tie.spec
-    enum-known-r
-    accept-requires
-    enum-known-r-2
-    accept-requires-2
-    enum-known-r-3
-    accept-requires-3
-    enum-told
-    accept-requires-4
-    enum-known-r-4
-    refuse-requires
-    returns
-    returns-2
-    returns-3
-    returns-4
-    returns-5)
+    (λ c. search needs)
+    (λ c κs. search needs)
+    (λ c. search needs)
+    (λ c κs. search needs)
+    (λ c. search needs)
+    (λ c κs. search needs)
+    (λ c. search needs)
+    (λ c κs. search needs)
+    (λ c. search needs)
+    (λ c κs. search needs)
+    (λ c. search number-rules)
+    (λ c. search number-rules)
+    (λ c. search number-rules)
+    (λ c. search number-rules)
+    (λ c. search number-rules))

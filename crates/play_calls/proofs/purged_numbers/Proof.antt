@@ -4,25 +4,13 @@ use borrow.Author.Needs.{needs}
 use Rattle.play_calls.proofs.purged_numbers.Statement.{statement}
 use Rattle.play_calls.proofs.purged_numbers.Tie as tie
 
-enum-known-r : tie.Need-enum-known-r
-enum-known-r c = search needs
-
-accept-requires : tie.Need-accept-requires
-accept-requires c κs = search needs
-
-enum-known-r-2 : tie.Need-enum-known-r-2
-enum-known-r-2 c = search needs
-
-refuse-requires : tie.Need-refuse-requires
-refuse-requires c κs = search needs
-
-returns : tie.Need-returns
-returns c = search number-rules
-
-returns-2 : tie.Need-returns-2
-returns-2 c = search number-rules
-
 pub purged-numbers-spec : {M : Type 1} → statement M
 purged-numbers-spec =
     tie.close
-    (tie.spec enum-known-r accept-requires enum-known-r-2 refuse-requires returns returns-2)
+    (tie.spec
+    (λ c. search needs)
+    (λ c κs. search needs)
+    (λ c. search needs)
+    (λ c κs. search needs)
+    (λ c. search number-rules)
+    (λ c. search number-rules))

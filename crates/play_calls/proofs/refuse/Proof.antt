@@ -3,8 +3,5 @@ use Rattle.play_calls.proofs.AnswerNumbers.{number-rules}
 use Rattle.play_calls.proofs.refuse.Statement.{statement}
 use Rattle.play_calls.proofs.refuse.Tie as tie
 
-returns : tie.Need-returns
-returns c = search number-rules
-
 pub refuse-spec : {M : Type 1} → statement M
-refuse-spec = tie.close (tie.spec returns)
+refuse-spec = tie.close (tie.spec (λ c. search number-rules))

@@ -4,43 +4,16 @@ use borrow.Author.Needs.{needs}
 use Rattle.play_commands.proofs.cancel.Statement.{statement}
 use Rattle.play_commands.proofs.cancel.Tie as tie
 
-next-number-requires : tie.Need-next-number-requires
-next-number-requires c κs = search needs
-
-enum-known-client : tie.Need-enum-known-client
-enum-known-client c = search needs
-
-enum-told : tie.Need-enum-told
-enum-told c = search needs
-
-returns : tie.Need-returns
-returns c = search form-rules
-
-last-number-requires : tie.Need-last-number-requires
-last-number-requires c κs = search form-rules
-
-enum-known-lock : tie.Need-enum-known-lock
-enum-known-lock c = search needs
-
-enum-told-2 : tie.Need-enum-told-2
-enum-told-2 c = search needs
-
-returns-2 : tie.Need-returns-2
-returns-2 c = search form-rules
-
-returns-3 : tie.Need-returns-3
-returns-3 c = search form-rules
-
 pub cancel-spec : {M : Type 1} → statement M
 cancel-spec =
     tie.close
     (tie.spec
-    next-number-requires
-    enum-known-client
-    enum-told
-    returns
-    last-number-requires
-    enum-known-lock
-    enum-told-2
-    returns-2
-    returns-3)
+    (λ c κs. search needs)
+    (λ c. search needs)
+    (λ c. search needs)
+    (λ c. search form-rules)
+    (λ c κs. search form-rules)
+    (λ c. search needs)
+    (λ c. search needs)
+    (λ c. search form-rules)
+    (λ c. search form-rules))

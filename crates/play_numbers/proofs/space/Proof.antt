@@ -13,37 +13,16 @@ Inv-loop line at i₀ i = (i ≤ length line) × (at + length (until (drop at li
 abbrev μ-loop : tie.MeasureT-loop
 μ-loop line at i₀ i = length line - i
 
-loop-holds : tie.Need-loop-holds Inv-loop μ-loop
-loop-holds c = search space-loop
-
-shared-slice-read-if1 : tie.Need-shared-slice-read-if1 Inv-loop μ-loop
-shared-slice-read-if1 c = search space-loop
-
-returns : tie.Need-returns Inv-loop μ-loop
-returns c = search space-loop
-
-add-i : tie.Need-add-i Inv-loop μ-loop
-add-i c = search space-loop
-
-loop-less : tie.Need-loop-less Inv-loop μ-loop
-loop-less c = search space-loop
-
-loop-again : tie.Need-loop-again Inv-loop μ-loop
-loop-again c = search space-loop
-
-returns-2 : tie.Need-returns-2 Inv-loop μ-loop
-returns-2 c = search space-loop
-
 pub space-spec : {M : Type 1} → statement M
 space-spec =
     tie.close
     (tie.spec
     Inv-loop
     μ-loop
-    loop-holds
-    shared-slice-read-if1
-    returns
-    add-i
-    loop-less
-    loop-again
-    returns-2)
+    (λ c. search space-loop)
+    (λ c. search space-loop)
+    (λ c. search space-loop)
+    (λ c. search space-loop)
+    (λ c. search space-loop)
+    (λ c. search space-loop)
+    (λ c. search space-loop))

@@ -12,17 +12,8 @@ Inv-loop out₀ at n end m₀ k₀ out m k = Writes out₀ at n out m k
 abbrev μ-loop : tie.MeasureT-loop
 μ-loop out₀ at n end m₀ k₀ out m k = m
 
-digit-count-requires : tie.Need-digit-count-requires Inv-loop μ-loop
-digit-count-requires c κs = search needs
-
-add-end : tie.Need-add-end Inv-loop μ-loop
-add-end c = search needs
-
 loop-holds : tie.Need-loop-holds Inv-loop μ-loop
 loop-holds c = let a = c .before .before .args in writes-start (a .out .now) (a .at) (a .n) (c .digit-count .result) (c .before .before .pre) (c .digit-count .ensures .0) (c .digit-count .ensures .1)
-
-last-digit-requires : tie.Need-last-digit-requires Inv-loop μ-loop
-last-digit-requires c κs = search needs
 
 sub-k : tie.Need-sub-k Inv-loop μ-loop
 sub-k c = writes-some _ _ _ _ _ _ (c .before .before .loop .inv)
@@ -30,14 +21,8 @@ sub-k c = writes-some _ _ _ _ _ _ (c .before .before .loop .inv)
 slice-write-out : tie.Need-slice-write-out Inv-loop μ-loop
 slice-write-out c = omega (arith, writes-some _ _ _ _ _ _ (c .before .before .loop .inv))
 
-loop-less : tie.Need-loop-less Inv-loop μ-loop
-loop-less c = search needs
-
 loop-again : tie.Need-loop-again Inv-loop μ-loop
 loop-again c = writes-next _ _ _ _ _ _ (c .before .before .loop .inv) (c .last-digit .result) (c .before .loop-test .taken) (c .last-digit .ensures)
-
-last-digit-requires-2 : tie.Need-last-digit-requires-2 Inv-loop μ-loop
-last-digit-requires-2 c κs = search needs
 
 slice-write-out-2 : tie.Need-slice-write-out-2 Inv-loop μ-loop
 slice-write-out-2 c = omega (arith, writes-some _ _ _ _ _ _ (c .before .before .loop .inv))
@@ -54,15 +39,15 @@ put-number-spec =
     (tie.spec
     Inv-loop
     μ-loop
-    digit-count-requires
-    add-end
+    (λ c κs. search needs)
+    (λ c. search needs)
     loop-holds
-    last-digit-requires
+    (λ c κs. search needs)
     sub-k
     slice-write-out
-    loop-less
+    (λ c. search needs)
     loop-again
-    last-digit-requires-2
+    (λ c κs. search needs)
     slice-write-out-2
     same-length
     returns)

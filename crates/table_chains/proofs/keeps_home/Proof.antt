@@ -1,8 +1,6 @@
-use Rattle.tables.proofs.MoveSteps.{stays}
+use Rattle.tables.specs.Stores.{stays}
 use Rattle.table_chains.proofs.keeps_home.Statement.{statement}
 use Rattle.table_chains.proofs.keeps_home.Tie as tie
-use Rattle.table_chains.proofs.keeps_home.Reads as reads
-use Rattle.table_chains.proofs.keeps_home.Lts as lts
 
 returns : tie.Need-returns
 unfolding stays

@@ -1,2 +1,0 @@
-pub mod EntryWords
-pub mod ListLoop

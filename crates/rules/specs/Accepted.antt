@@ -1,0 +1,46 @@
+-- What a call that is not refused has passed: what its change stands on.
+use mathlib.Core.Path.{_≡_}
+use mathlib.Core.Bool.{true, false, _||_, not}
+use mathlib.Core.List.{List}
+use Prim.Native.Nat.{ℕ, _≤_}
+use lib.ListN.{length}
+use lib.Dec.{eqb}
+use Rattle.tables.specs.Lists.{null}
+use Rattle.tables.specs.State.{Tables, lock, granted, blocked-lock}
+use Rattle.tables.specs.Validity.{Valid}
+use Rattle.rules.specs.Queues.{find}
+use Rattle.rules.specs.Calls.{stores}
+
+-- the client c may request the mode m on the name n: a resource and a lock are left for it
+pub record Requestable (c m : ℕ) (n : List ℕ) (t : Tables) : Type 0 where
+  pub valid : Valid t
+  pub client-low : 1 ≤ c
+  pub client-high : c ≤ 255
+  pub mode : m ≤ 5
+  pub some : null n ≡ false
+  pub short : length n ≤ 64
+  pub room : (not (eqb (find n t) 0) || not (null (t .free-resources))) ≡ true
+  pub lock-left : null (t .free-locks) ≡ false
+
+-- the lock k is granted, and where the flags f store a value, v is one
+pub record Releasable (k f : ℕ) (v : List ℕ) (t : Tables) : Type 0 where
+  pub valid : Valid t
+  pub is-granted : granted (lock t k) ≡ true
+  pub right : stores f ≡ true → length v ≡ 32
+
+-- .. and m is a mode
+pub record Convertible (k m f : ℕ) (v : List ℕ) (t : Tables) : Type 0 where
+  pub valid : Valid t
+  pub is-granted : granted (lock t k) ≡ true
+  pub mode : m ≤ 5
+  pub right : stores f ≡ true → length v ≡ 32
+
+-- the lock k is blocked
+pub record Cancellable (k : ℕ) (t : Tables) : Type 0 where
+  pub valid : Valid t
+  pub is-blocked : blocked-lock (lock t k) ≡ true
+
+-- no free lock is the client's
+pub record Purgeable (c : ℕ) (t : Tables) : Type 0 where
+  pub valid : Valid t
+  pub client-low : 1 ≤ c
