@@ -13,7 +13,7 @@ use Rattle.tables.proofs.Cases.{by-cases, by-equal, clash}
 use Rattle.tables.proofs.Counts.{count-same, count-other, count-nil, count-step, first-in, first-passes, first-none}
 use Rattle.tables.specs.Validity.{Core}
 use Rattle.rules.specs.Walks.{Walk}
-use Rattle.rules.specs.Deadlock.{before, leads, deadlocked, victim, Victim, NoCycle}
+use Rattle.rules.specs.Deadlock.{before, leads, deadlocked, victim, Victim, NoCycle, VictimFound}
 use Rattle.rules.proofs.WalkSearch.{search-complete}
 
 -- the bounded search finds the cycles of whatever length
@@ -56,7 +56,7 @@ count-before j k (x ∷ xs) =
     (λ e. rw (e, count-same x (before k xs), count-same x xs) (omega (arith, rw e at (count-before j k xs))))
     (λ n. rw (count-other j x (before k xs) n, count-other j x xs n) (count-before j k xs))))
 
-pub victim-is : (t : Tables) (k : ℕ) → victim t ≡ suc k → Victim t (suc k)
+victim-is : (t : Tables) (k : ℕ) → victim t ≡ suc k → Victim t (suc k)
 unfolding victim
 victim-is t k e =
     let m = first-in (deadlocked t) (t .blocked) k e in
@@ -66,7 +66,7 @@ victim-is t k e =
       first = λ j i w. clash (deadlocked t j) (deadlocked-walk t j (omega (arith, i, count-before j (suc k) (t .blocked))) .1 w) (first-before (deadlocked t) (t .blocked) k e j i);
     }
 
-pub is-victim : (t : Tables) (k : ℕ) → Victim t k → victim t ≡ k
+is-victim : (t : Tables) (k : ℕ) → Victim t k → victim t ≡ k
 unfolding victim
 is-victim t k v =
     first-is (deadlocked t) (t .blocked) k (deadlocked-walk t k (v .stands) .1 (v .cycle)) (v .stands)
@@ -75,7 +75,7 @@ is-victim t k v =
     (λ h. h))
 
 -- there is no victim exactly then
-pub victim-none : (t : Tables) → Core t → (victim t ≡ 0) ↔ NoCycle t
+victim-none : (t : Tables) → Core t → (victim t ≡ 0) ↔ NoCycle t
 unfolding victim
 victim-none t c = (none-then, then-none)
   where
@@ -90,3 +90,6 @@ victim-none t c = (none-then, then-none)
         go : (n : ℕ) → victim t ≡ n → victim t ≡ 0
         go zero e = e
         go (suc k) e = let v = victim-is t k e in absurd (h .none (suc k) (v .stands) (v .cycle))
+
+pub victim-found : VictimFound
+victim-found t c = (λ k. (victim-is t k, is-victim t (suc k)), victim-none t c)

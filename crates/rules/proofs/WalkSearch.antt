@@ -10,7 +10,7 @@ use lib.Dec.{eqb}
 use Rattle.tables.specs.Lists.{any, count, remove}
 use Rattle.tables.proofs.Cases.{by-cases, by-equal, clash, or-left, or-right}
 use Rattle.tables.proofs.Counts.{count-same, count-step, count-remove, count-remove-other, any-intro}
-use Rattle.rules.specs.Walks.{reaches, Walk, step, through}
+use Rattle.rules.specs.Walks.{reaches, Walk, step, through, SearchComplete}
 
 -- the search looks no further where the first test fails
 abbrev gate : Bool → Bool → Bool
@@ -105,5 +105,5 @@ module _ (leads : ℕ → ℕ → Bool) where
         go zero e = absurd (omega arith)
         go (suc n) e = within-steps nodes n (remove a nodes) a b (λ j. count-remove-le j a nodes) (omega arith) (cut-at nodes a b w)
 
-    pub search-complete : (reaches leads nodes (length nodes) a b ≡ true) ↔ Walk leads nodes a b
-    search-complete = (reaches-walk nodes (length nodes) a b, walk-reaches)
+pub search-complete : SearchComplete
+search-complete leads nodes a b m = (reaches-walk leads nodes (length nodes) a b, walk-reaches leads nodes a b m)

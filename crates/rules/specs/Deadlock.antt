@@ -1,7 +1,9 @@
 -- Deadlock: a blocked lock that leads back to itself.
+use mathlib.Core.Path.{_≡_}
+use mathlib.Core.Logic.{_↔_}
 use mathlib.Core.Bool.{Bool, true, false, _&&_, _||_, not, cond}
 use mathlib.Core.List.{List, [], _∷_, _++_}
-use Prim.Native.Nat.{ℕ, _≤_}
+use Prim.Native.Nat.{ℕ, suc, _≤_}
 use lib.ListN.{length}
 use lib.Dec.{eqb}
 use Rattle.modes.specs.Modes.{compatible}
@@ -9,6 +11,7 @@ use Rattle.tables.specs.Lists.{count, any, keep, first-that}
 use Rattle.tables.specs.declared.Lock.{Lock}
 use Rattle.tables.specs.State.{Tables, lock, resource, waiting, blocked-lock}
 use Rattle.tables.specs.Grants.{holders}
+use Rattle.tables.specs.Validity.{Core}
 use Rattle.rules.specs.Walks.{reaches, Walk}
 
 -- those before k
@@ -44,7 +47,7 @@ deadlocked t a = reaches (leads t) (t .blocked) (length (t .blocked)) a a
 unfoldable pub victim : Tables → ℕ
 victim t = first-that (deadlocked t) (t .blocked)
 
--- WHAT THE SEARCH FINDS, of whatever length a cycle is. k is the first lock on the blocked chain that leads back to itself in one or more steps
+-- WHAT BREAK FINDS, of whatever length a cycle is. k is the first lock on the blocked chain that leads back to itself in one or more steps
 pub record Victim (t : Tables) (k : ℕ) : Type 0 where
   pub stands : 1 ≤ count k (t .blocked)
   pub cycle : Walk (leads t) (t .blocked) k k
@@ -53,3 +56,7 @@ pub record Victim (t : Tables) (k : ℕ) : Type 0 where
 -- no blocked lock leads back to itself
 pub record NoCycle (t : Tables) : Type 0 where
   pub none : (a : ℕ) → 1 ≤ count a (t .blocked) → Walk (leads t) (t .blocked) a a → ⊥
+
+-- a lock is the victim exactly then, and there is none exactly if there is no cycle. Proved as `victim-found`.
+abbrev pub VictimFound : Type 0
+VictimFound = (t : Tables) → Core t → ((k : ℕ) → (victim t ≡ suc k) ↔ Victim t (suc k)) × ((victim t ≡ 0) ↔ NoCycle t)

@@ -1,8 +1,10 @@
 -- Reachability: what leads to what, in one or more steps.
 use mathlib.Core.Path.{_≡_}
+use mathlib.Core.Logic.{_↔_}
 use mathlib.Core.Bool.{Bool, true, false, _||_}
 use mathlib.Core.List.{List}
 use Prim.Native.Nat.{ℕ, zero, suc, _≤_}
+use lib.ListN.{length}
 use Rattle.tables.specs.Lists.{any, count}
 
 -- from a to b in at most n steps, and at least one; on the way only such nodes
@@ -15,3 +17,8 @@ reaches leads nodes (suc n) a b =
 pub data Walk (leads : ℕ → ℕ → Bool) (nodes : List ℕ) : ℕ → ℕ → Type 0 where
   step : (a b : ℕ) → leads a b ≡ true → Walk leads nodes a b
   through : (a c b : ℕ) → 1 ≤ count c nodes → leads a c ≡ true → Walk leads nodes c b → Walk leads nodes a b
+
+-- THE SEARCH IS COMPLETE: as many steps as there are nodes find a walk of any length. Proved as `search-complete`.
+abbrev pub SearchComplete : Type 0
+SearchComplete =
+    (leads : ℕ → ℕ → Bool) (nodes : List ℕ) (a b : ℕ) → 1 ≤ count a nodes → (reaches leads nodes (length nodes) a b ≡ true) ↔ Walk leads nodes a b
