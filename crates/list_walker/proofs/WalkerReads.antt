@@ -8,7 +8,7 @@ use native.Mathlib.Numerals.{add-one}
 use lib.ListN.{getD, length}
 use lib.Dec.{eqb, ltb}
 use borrow.Author.Needs.{needs}
-use borrow.Author.Tests.{eqb-true, eqb-false, ltb-true, not-true, not-false}
+use borrow.Author.Tests.{eqb-true, eqb-false, ltb-true, not-true, not-false, ne-eqb}
 use Rattle.tables.specs.declared.Lock.{Lock}
 use Rattle.tables.specs.Lists.{count, first, next}
 use Rattle.tables.specs.State.{Resource, Tables, lock, resource, Queue, grants, converts, waits, queue-of}
@@ -65,10 +65,7 @@ module _ (x : Resource) (g c w : ℕ) (eg : g ≡ first (x .grant)) (ec : c ≡ 
   past-wait (suc (suc (suc s))) n h l = absurd (omega arith)
 
 past-end : (x : Resource) (s : ℕ) → 3 ≤ s → 0 ≡ first (queues-past s x)
-past-end x zero h = absurd (omega arith)
-past-end x (suc zero) h = absurd (omega arith)
-past-end x (suc (suc zero)) h = absurd (omega arith)
-past-end x (suc (suc (suc s))) h = refl
+past-end x s h = rw (ne-eqb s 0 (omega arith), ne-eqb s 1 (omega arith), ne-eqb s 2 (omega arith))
 
 module _ (ws : List ℕ) (r s : ℕ) where
   heads : (t : Tables) → Resourced r t → ws ≡ words t → (q : Queue) → word-in ws (of-resource r (queue-head q)) ≡ first (queue-of q (resource t r))

@@ -1,10 +1,12 @@
 -- The locks on a resource in grant, convert, wait order, and what follows one there.
 use mathlib.Core.Path.{_≡_}
+use mathlib.Core.Bool.{cond}
 use mathlib.Core.List.{List, [], _++_}
-use Prim.Native.Nat.{ℕ, zero, suc, _≤_}
+use Prim.Native.Nat.{ℕ, _≤_}
 use lib.ListN.{getD, length}
+use lib.Dec.{eqb}
 use Rattle.tables.specs.Lists.{count, first, next}
-use Rattle.tables.specs.State.{Resource, Tables, lock, resource}
+use Rattle.tables.specs.State.{Resource, Tables, lock, resource, state-free, state-granted, state-converting}
 use Rattle.tables.specs.Layout.{words}
 use Rattle.tables.specs.Grants.{holders}
 use Rattle.tables.specs.Validity.{Core}
@@ -17,12 +19,12 @@ locks-on r t = holders t r ++ resource t r .wait
 unfoldable pub first-on : ℕ → Tables → ℕ
 first-on r t = first (locks-on r t)
 
--- those on the queues past the one where locks in a state stand (0: all of them), and the first of these, or 0
+-- those on the queues past the one where locks in a state stand (free: all of them), and the first of these, or 0
 abbrev pub queues-past : ℕ → Resource → List ℕ
-queues-past zero x = x .grant ++ (x .convert ++ x .wait)
-queues-past (suc zero) x = x .convert ++ x .wait
-queues-past (suc (suc zero)) x = x .wait
-queues-past (suc (suc (suc s))) x = []
+queues-past s x =
+    cond (eqb s state-free) (x .grant ++ (x .convert ++ x .wait))
+    (cond (eqb s state-granted) (x .convert ++ x .wait)
+    (cond (eqb s state-converting) (x .wait) []))
 
 unfoldable pub first-past : ℕ → ℕ → Tables → ℕ
 first-past r s t = first (queues-past s (resource t r))
