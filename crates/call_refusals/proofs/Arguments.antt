@@ -1,18 +1,18 @@
 -- The refusals of a call's arguments, and of a conversion that would block.
-use mathlib.Core.Path.{_≡_, refl, sym, _∙_, ap}
+use mathlib.Core.Path.{_≡_, refl, sym, _∙_}
 use mathlib.Core.Bool.{Bool, true, false, not}
 use mathlib.Core.List.{List}
 use Prim.Native.Nat.{ℕ, _<_}
 use native.Mathlib.Omega.{arith}
 use lib.Dec.{leb}
 use borrow.Author.Needs.{needs}
-use borrow.Author.Tests.{leb-true, not-true, not-false}
+use borrow.Author.Tests.{le-leb, lt-leb, not-true, not-false}
 use Rattle.modes.specs.declared.Mode.{Mode}
 use Rattle.modes.specs.declared.Made.{Made}
 use Rattle.modes.specs.declared.Made.the-variants.{Refused}
 use Rattle.modes.specs.declared.Made.the-variants as made-cases
-use Rattle.modes.specs.Made.{MadeNumbers, made-numbers, made}
-use Rattle.tables.proofs.Cases.{by-cases}
+use Rattle.modes.specs.Made.{made-numbers, made}
+use Rattle.modes.proofs.Laws.{mode-small, mode-number, refused-above}
 use Rattle.tables.specs.State.{Tables, lock, granted, unread}
 use Rattle.tables.specs.Layout.{words}
 use Rattle.tables.specs.Sound.{client-right}
@@ -35,20 +35,20 @@ module _ (c : ℕ) (p : Bool) (ep : p ≡ client-right c) where
 -- what was made of the number m: none above 5, or the mode m
 module _ (m : ℕ) (x : Made) (made-is : made-numbers x ≡ made m) where
   mode-not : x ≡ Refused → leb m 5 ≡ false
-  unfolding made-numbers made
-  mode-not e = by-cases (leb m 5) (λ h. absurd (omega (arith, ap (λ (n : MadeNumbers). n .refusal) (rw (e, h) at made-is)))) (λ h. h)
+  mode-not e = lt-leb m 5 (refused-above m x e made-is)
 
   module _ (q : Mode) (e : x ≡ made-cases.Mode q) where
+    low : m < 6
+    low = mode-small m x q e made-is
+
     mode-is : leb m 5 ≡ true
-    unfolding made-numbers made
-    mode-is = by-cases (leb m 5) (λ h. h) (λ h. absurd (omega (arith, ap (λ (n : MadeNumbers). n .refusal) (rw (e, h) at made-is))))
+    mode-is = le-leb m 5 (omega (arith, low))
 
     number-is : q .0 ≡ m
-    unfolding made-numbers made
-    number-is = ap (λ (n : MadeNumbers). n .mode) (rw (e, mode-is) at made-is)
+    number-is = mode-number m x q e made-is
 
     pub mode-low : q .0 < 6
-    mode-low = rw number-is (omega (arith, leb-true m 5 mode-is))
+    mode-low = rw number-is low
 
 -- release
 module _ (ws : List ℕ) (c k f : ℕ) (v : List ℕ) (p : Bool) (ep : p ≡ client-right c) where
