@@ -5,11 +5,11 @@ use mathlib.Core.Bool.{Bool, true, false, not}
 use mathlib.Core.List.{List, [], _∷_, _++_, append-assoc, append-nil}
 use Prim.Native.Nat.{ℕ, _+_, _≤_, _<_, _^_}
 use native.Mathlib.Omega.{arith}
-use lib.ListN.{set, length, length-set}
+use lib.ListN.{getD, set, length, length-set}
 use lib.Dec.{eqb}
 use borrow.Author.Tests.{eqb-true, not-false}
 use borrow.Author.Needs.{needs}
-use Rattle.modes.specs.Sets.{fits-set}
+use Rattle.modes.specs.Sets.{fits-set, FitsRow}
 use Rattle.tables.specs.Lists.{count, any}
 use Rattle.tables.specs.State.{Tables, lock, resource, converting, blocked-lock, converts, waits}
 use Rattle.tables.specs.Layout.{of-resource, of-lock, resources-in, word-in}
@@ -230,11 +230,12 @@ module _ {ws : List ℕ} {b m₀ m : List Bool} {k : ℕ} (r : ℕ) (i : Passing
         let on : 1 ≤ count k (line (s .state) r) = rw (line-alike (s .state) (seen ws) (some-alike ws s) r) at (member i n) in
         rw (some-alike ws s .locks k) (line-here (s .state) (s .good) r k on)
 
-    pub waits-again : {held q x : ℕ} {g : Bool} → held ≡ busy-modes (seen ws) b r → q ≡ word-in ws (of-lock k 7) → g ≡ fits-set held q → not g ≡ false →
+    pub waits-again : {held q x : ℕ} {row : List Bool} → held ≡ busy-modes (seen ws) b r → FitsRow held row → q ≡ word-in ws (of-lock k 7) → not (getD row q false) ≡ false →
         x ≡ word-in ws (of-lock k 0) → Passing ws (line (seen ws) r) b m₀ (set m k true) x
-    waits-again {held} {q} {x} {g} eh eq eg h =
+    waits-again {held} {q} {x} {row} eh f eq h =
         let asks : q ≡ lock (seen ws) k .asked = eq ∙ asked-told ws k (blocked-at ws k (passing-blocked i n)) in
-        passing-again i n (fits-unhindered ws b k r (i .clearing .some) waits-here (rw (eh, asks) at (sym eg ∙ not-false g h)))
+        let fit : fits-set held q ≡ true = sym (f .entry q (waits-asked q eq)) ∙ not-false (getD row q false) h in
+        passing-again i n (fits-unhindered ws b k r (i .clearing .some) waits-here (rw (eh, asks) at fit))
 
 pub held-small : {ws : List ℕ} {b m : List Bool} {held : ℕ} (r : ℕ) → Clearing ws b m → held ≡ busy-modes (seen ws) b r → held < 64
 held-small {ws} {b} r i e = rw e (modes-few b r (i .some))

@@ -2,7 +2,7 @@
 use deadlock_graph::OWNER_PLACES;
 use deadlock_graph::in_way;
 use deadlock_graph::owner_of;
-use modes::fits;
+use modes::fits_row;
 use modes::with_mode;
 use table_fields::BLOCKED;
 use table_fields::LOCK_ASKED;
@@ -164,7 +164,7 @@ fn busy_modes(words: &[u32], busy: &[bool], r: u32) -> u32
 }
 
 // The waiting locks on resource r are cleared, up to the first one with a busy owner in its way. A waiting lock holds
-// nothing, so one set of modes serves for all of them.
+// nothing, so one row of the table of modes serves for all of them.
 fn clear_waits(words: &[u32], busy: &[bool], r: u32, cleared: &mut [bool])
     requires { ⌜ Clearing (now words) (now busy) (now cleared) ⌝ }
     requires { ⌜ (1 ≤ r) × (r ≤ resources-in (now words)) ⌝ }
@@ -175,10 +175,11 @@ fn clear_waits(words: &[u32], busy: &[bool], r: u32, cleared: &mut [bool])
     if first == 0 {
         return;
     }
-    let held = busy_modes(words, busy, r);
+    let row = fits_row(busy_modes(words, busy, r));
     let mut k = first;
     while k != 0 {
-        if !fits(held, lock_word(words, k, LOCK_ASKED)) {
+        let asked = lock_word(words, k, LOCK_ASKED);
+        if !row[asked as usize] {
             return;
         }
         cleared[k as usize] = true;

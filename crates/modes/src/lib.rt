@@ -3,7 +3,7 @@
 ghost use mathlib.Core.Path.{_≡_};
 ghost use Prim.Native.Nat.{_<_};
 ghost use Rattle.modes.specs.Modes.{compatible, down};
-ghost use Rattle.modes.specs.Sets.{«fits-set», «with-mode»};
+ghost use Rattle.modes.specs.Sets.{«fits-set», FitsRow, «with-mode»};
 ghost use Rattle.modes.specs.Made.{«made-numbers», made};
 
 // A lock mode.
@@ -165,17 +165,25 @@ const FITS: [[bool; 6]; 64] = [
     [true, false, false, false, false, false], // 63: NL CR CW PR PW EX
 ];
 
-// Whether the asked mode is compatible with every mode of the set. Where nobody holds a mode the table is not read: the
-// compiler builds it on the stack at each use.
+// The row of a set. Where nobody holds a mode the table is not read: the compiler builds it on the stack at each use.
+pub fn fits_row(set: u32) -> [bool; 6]
+    requires { ⌜ set < 64 ⌝ }
+    ensures { λ row. ⌜ FitsRow set row ⌝ }
+{
+    if set == 0 {
+        return [true; 6];
+    }
+    FITS[set as usize]
+}
+
+// Whether the asked mode is compatible with every mode of the set.
 pub fn fits(set: u32, asked: u32) -> bool
     requires { ⌜ set < 64 ⌝ }
     requires { ⌜ asked < 6 ⌝ }
     ensures { λ r. ⌜ r ≡ fits-set set asked ⌝ }
 {
-    if set == 0 {
-        return true;
-    }
-    FITS[set as usize][asked as usize]
+    let row = fits_row(set);
+    row[asked as usize]
 }
 
 // For each asked mode the set of those that are not compatible with it. The digits, from the left, are EX PW PR CW CR NL.

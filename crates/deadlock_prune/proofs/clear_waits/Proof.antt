@@ -9,26 +9,26 @@ use Rattle.deadlock_prune.proofs.clear_waits.Statement.{statement}
 use Rattle.deadlock_prune.proofs.clear_waits.Tie as tie
 
 abbrev Inv-loop : tie.InvT-loop
-Inv-loop words busy r cleared₀ first held k₀ cleared k = Passing words (line (seen words) r) busy cleared₀ cleared k
+Inv-loop words busy r cleared₀ first row k₀ cleared k = Passing words (line (seen words) r) busy cleared₀ cleared k
 
 abbrev μ-loop : tie.MeasureT-loop
-μ-loop words busy r cleared₀ first held k₀ cleared k = length (onward words 0 k)
+μ-loop words busy r cleared₀ first row k₀ cleared k = length (onward words 0 k)
 
 lock-word-requires-2 : tie.Need-lock-word-requires-2 Inv-loop μ-loop
 lock-word-requires-2 c κs =
-    let i = c .before .before .before .before .loop .inv in
-    let on = c .before .before .before .loop-test .taken in
+    let i = c .before .before .before .loop .inv in
+    let on = c .before .before .loop-test .taken in
     (walk-sized (i .walks), ((walk-low (i .walks) on, walk-high (i .walks) on), search needs))
 
 loop-again : tie.Need-loop-again Inv-loop μ-loop
 loop-again c =
     waits-again
     _
-    (c .before .before .before .before .before .loop .inv)
-    (c .before .before .before .before .loop-test .taken)
+    (c .before .before .before .before .loop .inv)
+    (c .before .before .before .loop-test .taken)
     (c .before .before .before .before .before .before .busy-modes .ensures)
-    (c .before .before .before .lock-word .ensures)
-    (c .before .before .fits2 .ensures)
+    (c .before .before .before .before .before .fits-row .ensures)
+    (c .before .before .lock-word .ensures)
     (c .before .if2 .left)
     (c .lock-word2 .ensures)
 
@@ -41,9 +41,11 @@ clear-waits-spec =
     (λ c κs. search waits-laws)
     (λ c. search waits-laws)
     (λ c κs. search waits-laws)
+    (λ c κs. search waits-laws)
     (λ c. search waits-laws)
     (λ c κs. search waits-laws)
-    (λ c κs. search waits-laws)
+    (λ c. search waits-laws)
+    (λ c. search waits-laws)
     (λ c. search waits-laws)
     (λ c. search waits-laws)
     (λ c. search waits-laws)
