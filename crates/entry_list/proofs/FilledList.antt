@@ -19,7 +19,7 @@ use Rattle.tables.proofs.ReadBack.{chain-read, lock-read}
 use Rattle.tables.proofs.ThreadedChains.{core-threaded}
 use Rattle.rules.specs.Entries.{lock-entry, listed, fill}
 use Rattle.table_chains.specs.Contracts.{Some, Tells, Resourced}
-use Rattle.list_walker.specs.Order.{locks-on, first-on, Queued, next-on, Place, SomePlace, Counted}
+use Rattle.list_walker.specs.Order.{locks-on, first-on, Queued, next-on, PlaceOn, SomePlaceOn, Counted}
 use Rattle.list_walker.proofs.ListsInARow.{first-at, at-on, at-next}
 use Rattle.list_walker.proofs.ResourceLocks.{resource-on, range-on, once-on, few-on, queued-at}
 use Rattle.rules.specs.Calls.{accepted}
@@ -157,10 +157,10 @@ module _ (r : ℕ) (t : Tables) (p : Resourced r t) (ws : List ℕ) (is : ws ≡
       (λ h. rw (h, le-ltb room room (omega arith)))
 
   -- the rest is counted from there
-  place-at : (i : ℕ) → i ≤ length (locks-on r t) → Place r i (getD (locks-on r t) i 0) t
+  place-at : (i : ℕ) → i ≤ length (locks-on r t) → PlaceOn r i (getD (locks-on r t) i 0) t
   place-at i h = record { there = p; near = h; here = refl }
 
-  pub fill-place : (i : ℕ) → i ≤ length (locks-on r t) → SomePlace i (getD (locks-on r t) i 0) ws
+  pub fill-place : (i : ℕ) → i ≤ length (locks-on r t) → SomePlaceOn i (getD (locks-on r t) i 0) ws
   fill-place i h = record { state = t; resource = r; good = place-at i h; is = is }
 
   pub fill-count : (i n : ℕ) → i ≤ length (locks-on r t) → Counted i (getD (locks-on r t) i 0) ws n → n ≡ length (locks-on r t)

@@ -1,3 +1,4 @@
+pub mod LocalTypes
 pub mod ListCore
 pub mod FilledList
 pub mod ListReturns

@@ -21,7 +21,7 @@ use Rattle.tables.specs.Validity.{Core}
 use Rattle.table_fields.specs.Sizes.{Sized}
 use Rattle.table_chains.specs.Contracts.{Some, Tells, Resourced}
 use Rattle.table_chains.proofs.ChainCells.{resources-is, locks-is}
-use Rattle.list_walker.specs.Order.{locks-on, first-on, queues-past, first-past, Queued, next-on, Place, SomePlace, Counted}
+use Rattle.list_walker.specs.Order.{locks-on, first-on, queues-past, first-past, Queued, next-on, PlaceOn, SomePlaceOn, Counted}
 use Rattle.list_walker.proofs.ListsInARow.{first-of, first-after, at-on, at-inside, at-end, at-next}
 use Rattle.list_walker.proofs.ResourceLocks.{Split, split-next, split-past, none-zero, no-lock-zero, resource-on, once-on, few-on, queued-at, queued-range, queued-resourced, core-sized, head-here, split-here}
 
@@ -151,7 +151,7 @@ module _ (ws : List ℕ) (k : ℕ) where
 pub ruleset follow-laws = (needs, queued-sized, queued-low, queued-high, follows-link, follows-resourced, follows-past)
 
 -- count_from
-module _ (r n k : ℕ) (t : Tables) (p : Place r n k t) (m : k ≡ 0 → ⊥) where
+module _ (r n k : ℕ) (t : Tables) (p : PlaceOn r n k t) (m : k ≡ 0 → ⊥) where
   core : Core t
   core = p .there .core
 
@@ -167,22 +167,22 @@ module _ (r n k : ℕ) (t : Tables) (p : Place r n k t) (m : k ≡ 0 → ⊥) wh
       ap (λ (s : ℕ). next k (locks-on s t)) (resource-on t core r k (rw (p .here) (at-on (locks-on r t) n place-inside)))
       ∙ ap (λ (j : ℕ). next j (locks-on r t)) (p .here) ∙ at-next (locks-on r t) n (once-on t core r) place-inside
 
-  place-next : Place r (n + 1) (next-on k t) t
+  place-next : PlaceOn r (n + 1) (next-on k t) t
   place-next = rw (add-one n) (record { there = p .there; near = place-inside; here = place-follows })
 
 -- from the lock k at the place n on, the walk came to j at the place i
 pub record Reached (ws : List ℕ) (n k i j : ℕ) : Type 0 where
-  pub some : SomePlace i j ws
-  pub then : (r : ℕ) (t : Tables) → Place r n k t → ws ≡ words t → Place r i j t
+  pub some : SomePlaceOn i j ws
+  pub then : (r : ℕ) (t : Tables) → PlaceOn r n k t → ws ≡ words t → PlaceOn r i j t
 
 module _ (ws : List ℕ) (n k : ℕ) where
-  pub count-fits : SomePlace n k ws → n < 2 ^ 32
+  pub count-fits : SomePlaceOn n k ws → n < 2 ^ 32
   count-fits s =
       let core = s .good .there .core in
       let few = few-on (s .state) core (s .resource) in
       omega (arith, s .good .near, core .locks-high)
 
-  pub count-starts : SomePlace n k ws → Reached ws n k n k
+  pub count-starts : SomePlaceOn n k ws → Reached ws n k n k
   count-starts s = record { some = s; then = λ r t p is. p }
 
   module _ (i j : ℕ) (g : Reached ws n k i j) where
@@ -214,9 +214,9 @@ module _ (ws : List ℕ) (n k : ℕ) where
       count-less = omega (arith, inside .0)
 
       module _ (y : ℕ) (told : Tells (Queued j) (next-on j) ws y) where
-        next-place : (r : ℕ) (t : Tables) → Place r i j t → ws ≡ words t → Place r (i + 1) y t
+        next-place : (r : ℕ) (t : Tables) → PlaceOn r i j t → ws ≡ words t → PlaceOn r (i + 1) y t
         next-place r t p is =
-            subst (λ (x : ℕ). Place r (i + 1) x t) (sym (told .then t (place-queued r i j t p m) is)) (place-next r i j t p m)
+            subst (λ (x : ℕ). PlaceOn r (i + 1) x t) (sym (told .then t (place-queued r i j t p m) is)) (place-next r i j t p m)
 
         pub count-next : Reached ws n k (i + 1) y
         count-next =

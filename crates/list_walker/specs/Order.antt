@@ -39,18 +39,18 @@ unfoldable pub next-on : ℕ → Tables → ℕ
 next-on k t = next k (locks-on (lock t k .resource) t)
 
 -- n locks stand on r before k, which is the next there, or 0 past the last
-pub record Place (r n k : ℕ) (t : Tables) : Type 0 where
+pub record PlaceOn (r n k : ℕ) (t : Tables) : Type 0 where
   pub there : Resourced r t
   pub near : n ≤ length (locks-on r t)
   pub here : k ≡ getD (locks-on r t) n 0
 
 -- these are the words of a state in which k stands there, on some resource
-pub record SomePlace (n k : ℕ) (ws : List ℕ) : Type 0 where
+pub record SomePlaceOn (n k : ℕ) (ws : List ℕ) : Type 0 where
   pub state : Tables
   pub resource : ℕ
-  pub good : Place resource n k state
+  pub good : PlaceOn resource n k state
   pub is : ws ≡ words state
 
 -- x is how many locks stand on that resource
 pub record Counted (n k : ℕ) (ws : List ℕ) (x : ℕ) : Type 0 where
-  pub then : (r : ℕ) (t : Tables) → Place r n k t → ws ≡ words t → x ≡ length (locks-on r t)
+  pub then : (r : ℕ) (t : Tables) → PlaceOn r n k t → ws ≡ words t → x ≡ length (locks-on r t)
