@@ -19,7 +19,7 @@ use Rattle.tables.proofs.ReadBack.{chain-read, lock-read}
 use Rattle.tables.proofs.ThreadedChains.{core-threaded}
 use Rattle.rules.specs.Entries.{lock-entry, listed, fill}
 use Rattle.table_chains.specs.Contracts.{Some, Tells, Resourced}
-use Rattle.list_walker.specs.Order.{locks-on, first-on, Queued, next-on, PlaceOn, SomePlaceOn, Counted}
+use Rattle.list_walker.specs.Order.{locks-on, first-on, Queued, next-on, PlaceOn, SomePlaceOn, CountedOn}
 use Rattle.list_walker.proofs.ListsInARow.{first-at, at-on, at-next}
 use Rattle.list_walker.proofs.ResourceLocks.{resource-on, range-on, once-on, few-on, queued-at}
 use Rattle.rules.specs.Calls.{accepted}
@@ -163,7 +163,7 @@ module _ (r : ℕ) (t : Tables) (p : Resourced r t) (ws : List ℕ) (is : ws ≡
   pub fill-place : (i : ℕ) → i ≤ length (locks-on r t) → SomePlaceOn i (getD (locks-on r t) i 0) ws
   fill-place i h = record { state = t; resource = r; good = place-at i h; is = is }
 
-  pub fill-count : (i n : ℕ) → i ≤ length (locks-on r t) → Counted i (getD (locks-on r t) i 0) ws n → n ≡ length (locks-on r t)
+  pub fill-count : (i n : ℕ) → i ≤ length (locks-on r t) → CountedOn i (getD (locks-on r t) i 0) ws n → n ≡ length (locks-on r t)
   fill-count i n h told = told .then r t (place-at i h) is
 
   module _ (i : ℕ) (h : i < length (locks-on r t)) where

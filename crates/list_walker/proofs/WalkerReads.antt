@@ -21,7 +21,7 @@ use Rattle.tables.specs.Validity.{Core}
 use Rattle.table_fields.specs.Sizes.{Sized}
 use Rattle.table_chains.specs.Contracts.{Some, Tells, Resourced}
 use Rattle.table_chains.proofs.ChainCells.{resources-is, locks-is}
-use Rattle.list_walker.specs.Order.{locks-on, first-on, queues-past, first-past, Queued, next-on, PlaceOn, SomePlaceOn, Counted}
+use Rattle.list_walker.specs.Order.{locks-on, first-on, queues-past, first-past, Queued, next-on, PlaceOn, SomePlaceOn, CountedOn}
 use Rattle.list_walker.proofs.ListsInARow.{first-of, first-after, at-on, at-inside, at-end, at-next}
 use Rattle.list_walker.proofs.ResourceLocks.{Split, split-next, split-past, none-zero, no-lock-zero, resource-on, once-on, few-on, queued-at, queued-range, queued-resourced, core-sized, head-here, split-here}
 
@@ -186,7 +186,7 @@ module _ (ws : List ℕ) (n k : ℕ) where
   count-starts s = record { some = s; then = λ r t p is. p }
 
   module _ (i j : ℕ) (g : Reached ws n k i j) where
-    pub count-ends : j ≡ 0 → Counted n k ws i
+    pub count-ends : j ≡ 0 → CountedOn n k ws i
     count-ends e = record {
       then = λ r t p is.
           let q = g .then r t p is in

@@ -52,5 +52,5 @@ pub record SomePlaceOn (n k : ℕ) (ws : List ℕ) : Type 0 where
   pub is : ws ≡ words state
 
 -- x is how many locks stand on that resource
-pub record Counted (n k : ℕ) (ws : List ℕ) (x : ℕ) : Type 0 where
+pub record CountedOn (n k : ℕ) (ws : List ℕ) (x : ℕ) : Type 0 where
   pub then : (r : ℕ) (t : Tables) → PlaceOn r n k t → ws ≡ words t → x ≡ length (locks-on r t)

@@ -4,7 +4,7 @@ use table_fields::lock_word;
 use table_fields::resource_word;
 ghost use mathlib.Core.Path.{_≡_};
 ghost use Rattle.table_chains.specs.Contracts.{Some, Tells, Resourced};
-ghost use Rattle.list_walker.specs.Order.{«first-on», «first-past», Queued, «next-on», SomePlaceOn, Counted};
+ghost use Rattle.list_walker.specs.Order.{«first-on», «first-past», Queued, «next-on», SomePlaceOn, CountedOn};
 
 // The first lock on the queues of r past the one where locks in a state stand, or 0. No queue stands before that of the
 // granted: from STATE_FREE it is the first lock on r.
@@ -50,7 +50,7 @@ fn following(words: &[u32], k: u32) -> u32
 // How many locks stand on a resource, of which `before` stand before k: k is the next one, or 0 past the last.
 pub fn count_from(words: &[u32], k: u32, before: usize) -> u32
     requires { ⌜ SomePlaceOn before k (now words) ⌝ }
-    ensures { λ x. ⌜ Counted before k (now (words .entry)) x ⌝ }
+    ensures { λ x. ⌜ CountedOn before k (now (words .entry)) x ⌝ }
 {
     let mut count = before as u32;
     let mut next = k;

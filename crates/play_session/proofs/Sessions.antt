@@ -19,7 +19,7 @@ use Rattle.play_lines.proofs.FedBytes.{keeps-none, room-more, room-whole, room-
 use Rattle.play_session.specs.declared.Progress.{Progress}
 use Rattle.rules.specs.Entries.{lent}
 use Rattle.play_calls.specs.Plays.{played, played-with}
-use Rattle.play_session.specs.Sessions.{Session, taken, fed, fed-all, ended, standing, Ready, Spacious, Within, Ends}
+use Rattle.play_session.specs.Sessions.{Session, taken, fed, fed-all, ended, standing, Ready, Spacious, WroteWithin, Ends}
 
 -- what stands in front after a write
 wrote-front : (out : List ℕ) (at : ℕ) (ys zs : List ℕ) (r : ℕ) → Wrote out at ys zs r → take r zs ≡ take at out ++ ys
@@ -44,7 +44,7 @@ module _ (xs out : List ℕ) (p : Progress) where
       unfolding fed taken
       byte-more ws ss o = ap (taken (standing xs ws ss (p .line) o)) (ap (came ys) (sym e) ∙ feeds .right)
 
-      pub within-more : Within ys out out (p .at) 1 (record { line = l; at = p .at })
+      pub within-more : WroteWithin ys out out (p .at) 1 (record { line = l; at = p .at })
       within-more = record { room = room-more ys e (feeds .room); most = omega arith; long = refl }
 
     -- byte 10 ended it
@@ -69,7 +69,7 @@ module _ (xs out : List ℕ) (p : Progress) where
             in
             s ∙ ap (taken (standing xs ws ss (p .line) (take (p .at) out))) (ap (came ys) (sym e) ∙ feeds .right)
 
-        pub within-whole : Within ys out zs (p .at) 1 (record { line = n; at = end })
+        pub within-whole : WroteWithin ys out zs (p .at) 1 (record { line = n; at = end })
         within-whole =
             record {
               room = room-start ys n (whole-room .buffer) (new .0);
@@ -111,7 +111,7 @@ module _ (ws₀ ss₀ xs₀ out₀ : List ℕ) (s : Line) (chunk : List ℕ) whe
     along-ready h = record { room = a .room; space = omega arith }
 
     pub along-next : i < length chunk → (ds es ys zs : List ℕ) (q : Progress)
-        → (standing ys ds es (q .line) (take (q .at) zs) ≡ fed (standing xs ws ss (p .line) (take (p .at) out)) (getD chunk i 0)) × Within ys out zs (p .at) 1 q
+        → (standing ys ds es (q .line) (take (q .at) zs) ≡ fed (standing xs ws ss (p .line) (take (p .at) out)) (getD chunk i 0)) × WroteWithin ys out zs (p .at) 1 q
         → length ds ≡ length ws → length es ≡ length ss → length ys ≡ length xs
         → Along ws₀ ss₀ xs₀ out₀ s chunk ds es ys zs q (i + 1)
     unfolding fed-all
@@ -137,7 +137,7 @@ module _ (ws₀ ss₀ xs₀ out₀ : List ℕ) (s : Line) (chunk : List ℕ) whe
     unfolding fed-all
     along-ends h = ap (fed-all (standing xs ws ss (p .line) (take (p .at) out))) (sym (drop-of-length-le chunk h)) ∙ a .same
 
-    pub along-within : length chunk ≤ i → Within xs out₀ out 0 (length chunk) p
+    pub along-within : length chunk ≤ i → WroteWithin xs out₀ out 0 (length chunk) p
     along-within h = record { room = a .room; most = omega arith; long = a .out-long }
 
 pub ruleset chunk-rules = (needs, along-starts, along-ready, along-next, along-ends, along-within)

@@ -80,7 +80,7 @@ pub record Spacious (buffer out : List ℕ) (s : Line) (n : ℕ) : Type 0 where
   pub space : 24 * n ≤ length out
 
 -- after n bytes: the line is in the buffer, at most 24 bytes have been printed for each, and out is as long as before
-pub record Within (buffer before after : List ℕ) (at n : ℕ) (p : Progress) : Type 0 where
+pub record WroteWithin (buffer before after : List ℕ) (at n : ℕ) (p : Progress) : Type 0 where
   pub room : Room buffer (p .line)
   pub most : p .at ≤ at + 24 * n
   pub long : length after ≡ length before

@@ -14,7 +14,7 @@ ghost use lib.ListN.{length, take};
 ghost use Rattle.play_lines.specs.InputLines.{keeps, Room, «meant-kept»};
 ghost use Rattle.rules.specs.Entries.{lent};
 ghost use Rattle.play_calls.specs.Plays.{played, «played-with»};
-ghost use Rattle.play_session.specs.Sessions.{«fresh-tables», Lengths, fed, «fed-all», ended, standing, Ready, Spacious, Within, Ends};
+ghost use Rattle.play_session.specs.Sessions.{«fresh-tables», Lengths, fed, «fed-all», ended, standing, Ready, Spacious, WroteWithin, Ends};
 
 // Lockplay's tables: R 4, L 8.
 const RESOURCES: u32 = 4;
@@ -84,7 +84,7 @@ pub fn play_byte(
 ) -> Progress
     requires { ⌜ Ready (now buffer) (now out) p ⌝ }
     ensures { λ r. ⌜ standing (now (buffer .exit)) (now (words .exit)) (now (slots .exit)) (r .line) (take (r .at) (now (out .exit))) ≡ fed (standing (now (buffer .entry)) (now (words .entry)) (now (slots .entry)) (p .line) (take (p .at) (now (out .entry)))) b ⌝ }
-    ensures { λ r. ⌜ Within (now (buffer .exit)) (now (out .entry)) (now (out .exit)) (p .at) 1 r ⌝ }
+    ensures { λ r. ⌜ WroteWithin (now (buffer .exit)) (now (out .entry)) (now (out .exit)) (p .at) 1 r ⌝ }
 {
     let at = p.at;
     match feed(buffer, p.line, b) {
@@ -111,7 +111,7 @@ pub fn play_bytes(
 ) -> Progress
     requires { ⌜ Spacious (now buffer) (now out) s (length (now chunk)) ⌝ }
     ensures { λ r. ⌜ standing (now (buffer .exit)) (now (words .exit)) (now (slots .exit)) (r .line) (take (r .at) (now (out .exit))) ≡ fed-all (standing (now (buffer .entry)) (now (words .entry)) (now (slots .entry)) s []) (now (chunk .entry)) ⌝ }
-    ensures { λ r. ⌜ Within (now (buffer .exit)) (now (out .entry)) (now (out .exit)) 0 (length (now (chunk .entry))) r ⌝ }
+    ensures { λ r. ⌜ WroteWithin (now (buffer .exit)) (now (out .entry)) (now (out .exit)) 0 (length (now (chunk .entry))) r ⌝ }
 {
     let mut p = Progress { line: s, at: 0 };
     let mut i = 0;

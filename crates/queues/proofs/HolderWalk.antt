@@ -9,7 +9,7 @@ use borrow.Author.Tests.{eq-eqb, ne-eqb}
 use Rattle.modes.specs.Sets.{with-mode}
 use Rattle.tables.specs.Layout.{of-lock, locks-in, word-in, follow}
 use Rattle.table_fields.specs.Sizes.{Sized}
-use Rattle.queues.specs.Holders.{with-holder, with-holders, held-in, locks-from, Linked, Joined, HolderChain}
+use Rattle.queues.specs.Holders.{with-holder, with-holders, held-in, locks-from, HoldersLinked, Joined, HolderChain}
 use Rattle.queues.proofs.HeldSets.{holder-small}
 
 -- with_holder
@@ -26,7 +26,7 @@ pub ruleset joined-laws = (needs, joined-own, joined-other)
 
 -- with_holders
 module _ (ws : List ℕ) where
-  follow-linked : (n j : ℕ) (xs : List ℕ) → Linked ws j xs → length xs ≤ n → follow (λ k. word-in ws (of-lock k 0)) n j ≡ xs
+  follow-linked : (n j : ℕ) (xs : List ℕ) → HoldersLinked ws j xs → length xs ≤ n → follow (λ k. word-in ws (of-lock k 0)) n j ≡ xs
   unfolding follow
   follow-linked zero j [] h p = refl
   follow-linked zero j (x ∷ xs) h p = absurd (omega arith)
@@ -36,7 +36,7 @@ module _ (ws : List ℕ) where
   follow-linked (suc n) (suc j) (x ∷ xs) h p =
       rw (h .0) (ap (λ (ys : List ℕ). x ∷ ys) (follow-linked n (word-in ws (of-lock x 0)) xs (h .1 .1) (omega arith)))
 
-  pub from-linked : (j : ℕ) (xs : List ℕ) → Linked ws j xs → length xs ≤ locks-in ws → locks-from ws j ≡ xs
+  pub from-linked : (j : ℕ) (xs : List ℕ) → HoldersLinked ws j xs → length xs ≤ locks-in ws → locks-from ws j ≡ xs
   unfolding locks-from
   from-linked j xs h p = follow-linked (locks-in ws) j xs h p
 
@@ -54,13 +54,13 @@ module _ (ws : List ℕ) where
     pub joined : Joined ws set j
     pub split : locks-from ws j ≡ j ∷ locks-from ws (word-in ws (of-lock j 0))
     pub rest : List ℕ
-    pub linked : Linked ws (word-in ws (of-lock j 0)) rest
+    pub linked : HoldersLinked ws (word-in ws (of-lock j 0)) rest
     pub few : length rest ≤ locks-in ws
 
   ahead : (set j : ℕ) → HolderChain ws set j → (j ≡ 0 → ⊥) → Ahead set j
   ahead set j h n = go (h .locks) (h .linked) (h .few)
     where
-      go : (xs : List ℕ) → Linked ws j xs → length xs ≤ locks-in ws → Ahead set j
+      go : (xs : List ℕ) → HoldersLinked ws j xs → length xs ≤ locks-in ws → Ahead set j
       go [] l p = absurd (n l)
       go (x ∷ xs) l p =
           record {

@@ -29,11 +29,11 @@ use Rattle.tables.proofs.ChainMembers.{on-chain, in-holder}
 use Rattle.table_fields.specs.Sizes.{Sized}
 use Rattle.table_chains.specs.Contracts.{Some, Tells, Resourced}
 use Rattle.table_chains.proofs.ChainCells.{resources-is, locks-is, sized-is}
-use Rattle.queues.specs.Holders.{with-holders, others, held-in, locks-from, Holder, Linked, HolderChain}
+use Rattle.queues.specs.Holders.{with-holders, others, held-in, locks-from, Holder, HoldersLinked, HolderChain}
 use Rattle.queues.proofs.HeldSets.{holders-append, holders-small, fits-holders, holders-same}
 use Rattle.queues.proofs.HolderWalk.{from-linked}
 
-linked-leads : (ws : List ℕ) (f : ℕ → ℕ) → ((j : ℕ) → 1 ≤ j → f j ≡ word-in ws (of-lock j 0)) → (y : ℕ) (xs : List ℕ) → Leads f y xs → Each (Holder ws) xs → (z : ℕ) → z ≡ f y → Linked ws z xs
+linked-leads : (ws : List ℕ) (f : ℕ → ℕ) → ((j : ℕ) → 1 ≤ j → f j ≡ word-in ws (of-lock j 0)) → (y : ℕ) (xs : List ℕ) → Leads f y xs → Each (Holder ws) xs → (z : ℕ) → z ≡ f y → HoldersLinked ws z xs
 linked-leads ws f l y [] h e z q = q ∙ h
 linked-leads ws f l y (x ∷ xs) h e z q = (q ∙ h .0, (e .0, linked-leads ws f l x xs (h .1) (e .1) (word-in ws (of-lock x 0)) (sym (l x (e .0 .low)))))
 
@@ -111,7 +111,7 @@ module _ (r : ℕ) (t : Tables) (p : Resourced r t) (ws : List ℕ) (is : ws ≡
     links zero a = absurd (omega arith)
     links (suc j) a = ap₂ (λ (w : List ℕ) (n : ℕ). getD w (place n (of-lock (suc j) 0)) 0) (sym is) (sym (resources-is t ws is))
 
-    chain-linked : Linked ws z (queue-of q (resource t r))
+    chain-linked : HoldersLinked ws z (queue-of q (resource t r))
     chain-linked =
         linked-leads ws (λ j. getD (words t) (spot t (cell (of-locks (queue r q)) j)) 0) links 0 (queue-of q (resource t r))
         (words-lead t (of-locks (queue r q)) (threaded q)) each z

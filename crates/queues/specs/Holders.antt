@@ -38,9 +38,9 @@ pub record Holder (ws : List ℕ) (j : ℕ) : Type 0 where
   pub mode : held-in ws j < 6
 
 -- the locks js stand one after the other from j on
-abbrev pub Linked : List ℕ → ℕ → List ℕ → Type 0
-Linked ws j [] = j ≡ 0
-Linked ws j (x ∷ xs) = (j ≡ x) × (Holder ws x × Linked ws (word-in ws (of-lock x 0)) xs)
+abbrev pub HoldersLinked : List ℕ → ℕ → List ℕ → Type 0
+HoldersLinked ws j [] = j ≡ 0
+HoldersLinked ws j (x ∷ xs) = (j ≡ x) × (Holder ws x × HoldersLinked ws (word-in ws (of-lock x 0)) xs)
 
 -- a set of modes to which the mode of the lock j can be added; one to which the modes of the locks from j on can be added
 pub record Joined (ws : List ℕ) (set j : ℕ) : Type 0 where
@@ -52,5 +52,5 @@ pub record HolderChain (ws : List ℕ) (set j : ℕ) : Type 0 where
   pub sized : Sized ws
   pub small : set < 64
   pub locks : List ℕ
-  pub linked : Linked ws j locks
+  pub linked : HoldersLinked ws j locks
   pub few : length locks ≤ locks-in ws

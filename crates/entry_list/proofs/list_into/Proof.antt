@@ -56,7 +56,7 @@ use Rattle.tables.proofs.LockEntry as T
 use Rattle.tables.proofs.LockEntry.Laws as T′
 use Rattle.rules.specs.Entries.{listed, fill}
 use Rattle.table_chains.specs.Contracts.{Some, Tells, Resourced}
-use Rattle.list_walker.specs.Order.{locks-on, first-on, Queued, next-on, Counted}
+use Rattle.list_walker.specs.Order.{locks-on, first-on, Queued, next-on, CountedOn}
 use Rattle.list_walker.specs.declared.Walker.{Walker}
 use Rattle.list_walker.proofs.Walker as Wᵗ
 use Rattle.list_walker.proofs.Walker.Laws as Wᵗ′
@@ -198,7 +198,7 @@ module _ {M : Type 1} (𝓤 : URA M) (H : Heap 𝓤) (A : Atoms 𝓤) (W : Given
   asks-count i h fits small = qed W (tok ∷ ‵ Own ∷ []) ∵ says ! (fill-place r t p ws is-words i h) $ frame ! $ nothing ! $ owned ! usize (Is usize) (uint-makes 𝓤 H A W w64) i _ (refl, small) $ fjoin ! $ owned ! u32 (Is u32) (uint-makes 𝓤 H A W w32) (key i) _ (refl, fits) $ fjoin ! $ move ! (1 ∷ 0 ∷ []) $ fjoin ! $ done !
 
   abbrev Counts : ℕ → ℕ → Type 0
-  Counts i m = Counted i (key i) ws m
+  Counts i m = CountedOn i (key i) ws m
 
   count-said : (i m : ℕ) → ent 𝓤 (ensured 𝓤 H A count-from.ended (count-from.clauses 𝓤 H A mem run) (κ′, tt) (w, (key i, (i, tt))) tt m) (fact 𝓤 (Counts i m))
   count-said i m = exE 𝓤 _ (λ us. snd∗ 𝓤 (sem 𝓤 H A (lasts count-from.ended (κ′, tt) (w, (key i, (i, tt))) us)) (fact 𝓤 (Counts i m)))
