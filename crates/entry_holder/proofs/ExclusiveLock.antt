@@ -27,7 +27,7 @@ use Rattle.table_names.specs.Contracts.{Named}
 use Rattle.table_names.proofs.StateNames.{core-named, find-is}
 use Rattle.table_chains.specs.Contracts.{Some, Tells, Resourced}
 use Rattle.table_chains.proofs.ChainCells.{locks-is, sized-is}
-use Rattle.queues.specs.Holders.{locks-from, Linked}
+use Rattle.queues.specs.Holders.{locks-from, HoldersLinked}
 use Rattle.queues.proofs.HolderWalk.{from-linked}
 use Rattle.queues.proofs.QueueReads.{threaded, here-sized, here-low, here-high, others-granted, others-converting}
 use Rattle.entry_holder.specs.Contracts.{Chained, holds-ex, ex-lock}
@@ -78,10 +78,10 @@ module _ (ws : List ℕ) (j : ℕ) (h : Chained ws j) where
   ahead : (j ≡ 0 → ⊥) → Ahead ws j
   ahead n = go (h .locks) (h .linked) (h .few)
     where
-      go : (xs : List ℕ) → Linked ws j xs → length xs ≤ locks-in ws → Ahead ws j
+      go : (xs : List ℕ) → HoldersLinked ws j xs → length xs ≤ locks-in ws → Ahead ws j
       go [] l p = absurd (n l)
       go (x ∷ xs) l p =
-          let next : Linked ws (word-in ws (of-lock j 0)) xs = rw (l .0) (l .1 .1) in
+          let next : HoldersLinked ws (word-in ws (of-lock j 0)) xs = rw (l .0) (l .1 .1) in
           let few : length xs ≤ locks-in ws = omega arith in
           record {
             low = rw (l .0) (l .1 .0 .low);

@@ -10,7 +10,7 @@ use Rattle.tables.specs.Layout.{locks-in}
 use Rattle.tables.specs.Grants.{holders}
 use Rattle.rules.specs.Images.{image-size, image-words, ex}
 use Rattle.table_fields.specs.Sizes.{Sized}
-use Rattle.queues.specs.Holders.{held-in, Linked}
+use Rattle.queues.specs.Holders.{held-in, HoldersLinked}
 
 -- the bytes have all the words that their first two say
 pub record HasAllWords (bs : List ℕ) : Type 0 where
@@ -21,7 +21,7 @@ pub record HasAllWords (bs : List ℕ) : Type 0 where
 pub record Chained (ws : List ℕ) (j : ℕ) : Type 0 where
   pub sized : Sized ws
   pub locks : List ℕ
-  pub linked : Linked ws j locks
+  pub linked : HoldersLinked ws j locks
   pub few : length locks ≤ locks-in ws
 
 -- whether a lock holds EX, by the words; and on a state the first lock on the resource r that does, or 0
