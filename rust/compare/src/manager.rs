@@ -1,6 +1,7 @@
 //! What is compared: lock managers over lent tables, with the answers of the C interface.
 
 use flat::Refused;
+use model::layout::Value;
 
 /// The lent tables of one manager.
 #[derive(Clone, Debug, PartialEq, Eq)]
@@ -68,7 +69,7 @@ fn two(answer: Result<(u32, u32), Refused>) -> u64 {
 }
 
 /// Puts what read gives into an area, and gives its answer. A refused read leaves the area as it is.
-fn put_value(answer: Result<([u8; 32], bool), Refused>, area: &mut [u8]) -> u64 {
+fn put_value(answer: Result<(Value, bool), Refused>, area: &mut [u8]) -> u64 {
     one(answer.map(|(value, valid)| {
         area.iter_mut().zip(value).for_each(|(byte, new)| *byte = new);
         u32::from(valid)
