@@ -61,16 +61,7 @@ pub fn varied() -> State {
     let names: [&[u8]; 5] = [b"vip-7", b"vip-8", b"a", b"a\0", &[b'n'; NAME_BYTES]];
     for name in names {
         let number = state.free_resources.pop_front().expect("more than there are names");
-        let empty = VecDeque::new;
-        let valid = number % 2 == 1;
-        let queues = Resource {
-            name: name.to_vec(),
-            value: [number as u8; VALUE_BYTES],
-            valid,
-            granted: empty(),
-            converting: empty(),
-            waiting: empty(),
-        };
+        let queues = Resource { value: [number as u8; VALUE_BYTES], valid: number % 2 == 1, ..Resource::new(name) };
         state.resources.insert(number, queues);
     }
     let granted = |resource, held, unread| Standing::Granted { resource, held, unread };
@@ -112,7 +103,7 @@ pub fn varied() -> State {
 /// The first free lock stands so, at the ends of its chains.
 fn put(state: &mut State, client: u8, standing: Standing) {
     let number = state.free_locks.pop_front().expect("a free lock");
-    let lock = Lock { client, standing };
+    let lock = Lock::new(client, standing);
     let queues = lock.resource().and_then(|resource| state.resources.get_mut(&resource));
     match (standing, queues) {
         (Standing::Granted { .. }, Some(queues)) => queues.granted.push_back(number),
@@ -142,7 +133,7 @@ fn add_exclusive_conversion(rng: &mut Rng, state: &mut State, filling: &Filling)
         queues.converting.push_back(number);
         insert_somewhere(rng, &mut state.blocked, number);
         let standing = Standing::Converting { resource, held, asked };
-        state.locks.insert(number, Lock { client: *rng.pick(filling.clients) as u8, standing });
+        state.locks.insert(number, Lock::new(*rng.pick(filling.clients) as u8, standing));
     }
     state.resources.insert(resource, queues);
 }
@@ -150,8 +141,7 @@ fn add_exclusive_conversion(rng: &mut Rng, state: &mut State, filling: &Filling)
 /// A resource of a name with no locks yet and any value.
 fn new_resource(rng: &mut Rng, name: &[u8]) -> Resource {
     let value = if rng.percent(50) { [0; VALUE_BYTES] } else { rng.bytes(VALUE_BYTES).try_into().expect("as many as asked for") };
-    let empty = VecDeque::new;
-    Resource { name: name.to_vec(), value, valid: rng.percent(60), granted: empty(), converting: empty(), waiting: empty() }
+    Resource { value, valid: rng.percent(60), ..Resource::new(name) }
 }
 
 /// How many of some locks are in use: often all or few.
@@ -205,7 +195,7 @@ fn add_lock(rng: &mut Rng, state: &mut State, filling: &Filling, resource: Optio
             Standing::Denied
         }
     };
-    state.locks.insert(number, Lock { client, standing });
+    state.locks.insert(number, Lock::new(client, standing));
 }
 
 /// A lock that stands on a resource, put on its chains.

@@ -118,7 +118,7 @@ impl State {
         let number = self.free_locks.pop_front().expect("a free lock, as seen above");
         let standing =
             if granted { Standing::Granted { resource, held: mode, unread: None } } else { Standing::Waiting { resource, asked: mode } };
-        self.locks.insert(number, Lock { client, standing });
+        self.locks.insert(number, Lock::new(client, standing));
         if granted {
             self.at(resource).granted.push_back(number);
             Ok((Answer::Granted, number))

@@ -80,6 +80,11 @@ pub enum Unread {
 }
 
 impl Lock {
+    /// A lock as a call makes it.
+    pub fn new(client: u8, standing: Standing) -> Lock {
+        Lock { client, standing }
+    }
+
     /// The resource that the lock stands on; a denied one stands on none.
     pub fn resource(&self) -> Option<u32> {
         match self.standing {
@@ -134,7 +139,7 @@ impl Lock {
 
 impl Resource {
     /// A resource as the first request for its name makes it.
-    pub(crate) fn new(name: &[u8]) -> Resource {
+    pub fn new(name: &[u8]) -> Resource {
         let empty = VecDeque::new;
         Resource { name: name.to_vec(), value: [0; VALUE_BYTES], valid: true, granted: empty(), converting: empty(), waiting: empty() }
     }
