@@ -1,5 +1,7 @@
 //! A call as a value, and the two managers that it can be made on.
 
+use zamgyorud::layout::{self, MOST_LOCKS, VALUE_BYTES};
+
 /// Lent tables.
 #[derive(Clone, PartialEq, Eq)]
 pub struct Tables {
@@ -41,7 +43,7 @@ pub enum Call {
 
 /// Areas that calls write to, made once so that no timing has their making in it.
 pub struct Areas {
-    pub value: [u8; 32],
+    pub value: [u8; VALUE_BYTES],
     pub entries: Vec<zamgyorud::raw::Entry>,
     pub flat_entries: Vec<[u32; 5]>,
     pub image: Vec<u8>,
@@ -50,10 +52,10 @@ pub struct Areas {
 impl Areas {
     pub fn new(tables: &Tables) -> Areas {
         Areas {
-            value: [0; 32],
-            entries: vec![Default::default(); 1024],
-            flat_entries: vec![[0; 5]; 1024],
-            image: vec![0; 4 * tables.words.len() + tables.slots.len()],
+            value: [0; VALUE_BYTES],
+            entries: vec![Default::default(); MOST_LOCKS as usize],
+            flat_entries: vec![Default::default(); MOST_LOCKS as usize],
+            image: vec![0; layout::image(tables.words.len(), tables.slots.len())],
         }
     }
 }

@@ -1,6 +1,7 @@
 //! The tables that calls are timed on.
 
 use crate::call::{Areas, Call, Flat, Manager, Tables, refused};
+use zamgyorud::layout::{self, MOST_LOCKS, MOST_RESOURCES};
 
 /// Numbers of records.
 #[derive(Clone, Copy, PartialEq, Eq)]
@@ -10,7 +11,8 @@ pub struct Size {
 }
 
 /// The sizes that are timed.
-pub const SIZES: [Size; 3] = [Size { resources: 4, locks: 8 }, Size { resources: 64, locks: 256 }, Size { resources: 256, locks: 1024 }];
+pub const SIZES: [Size; 3] =
+    [Size { resources: 4, locks: 8 }, Size { resources: 64, locks: 256 }, Size { resources: MOST_RESOURCES, locks: MOST_LOCKS }];
 
 /// How full tables are.
 #[derive(Clone, Copy, PartialEq, Eq)]
@@ -55,8 +57,8 @@ pub fn name(number: u32) -> Vec<u8> {
 }
 
 pub fn started(size: Size) -> Tables {
-    let words = 8 + 8 * size.resources as usize + 9 * size.locks as usize;
-    let mut tables = Tables { words: vec![0; words], slots: vec![0; 96 * size.resources as usize] };
+    let words = vec![0; layout::words(size.resources, size.locks)];
+    let mut tables = Tables { words, slots: vec![0; layout::slots(size.resources)] };
     flat::start(&mut tables.words, &mut tables.slots, size.resources, size.locks).expect("sizes in range");
     tables
 }
