@@ -1,6 +1,6 @@
 #!/bin/sh
-# The header alone: it compiles as C99, C11 and C++ without a warning; an answer that is taken for something else doesn't compile; and no constant's
-# name is the beginning of another's.
+# The header alone: it compiles as C99, C11 and C++ without a warning, and so do the functions that the manual shows; an answer that is taken for
+# something else doesn't compile; and no constant's name is the beginning of another's.
 #
 # usage: header.sh   Other compilers may be given in CC and CXX.
 set -eu
@@ -45,6 +45,15 @@ tried "${CC:-cc}" c99 c
 tried "${CC:-cc}" c11 c
 tried "${CXX:-c++}" c++11 c++
 tried "${CXX:-c++}" c++17 c++
+
+# The functions that the manual shows. One of them calls a function of the program's own.
+sh "$here/blocks.sh" "$here/../docs/MANUAL.md" "$work/blocks"
+{
+    printf '#include <zamgyorud.h>\nvoid ended(uint32_t client, uint32_t lock, uint32_t completion);\n'
+    cat "$work/blocks"/*.c
+} > "$work/manual.c"
+"${CC:-cc}" -std=c99 -pedantic -Wall -Wextra -Wno-unused-function -Werror -fsyntax-only -I"$(dirname "$header")" "$work/manual.c" ||
+    fail 'what the manual shows'
 
 # The parts of the version begin as the version does, and mean it.
 sed -n 's/^#define \(ZAMGYORUD_[A-Z_]*\).*/\1/p' "$header" | grep -v '^ZAMGYORUD_VERSION_' | sort > "$work/names"
