@@ -1,6 +1,6 @@
 //! The tables that calls are timed on.
 
-use crate::call::{Areas, Call, Flat, Manager, Tables, refused};
+use crate::call::{Areas, Call, Flat, Manager, Tables, lock, refused};
 use zamgyorud::layout::{self, MOST_LOCKS, MOST_RESOURCES};
 
 /// Numbers of records.
@@ -92,7 +92,7 @@ pub fn filled(size: Size, fill: Fill) -> Tables {
 }
 
 fn request(tables: &mut Tables, client: u32, mode: u32, at: u32) -> u32 {
-    accepted(tables, &Call::Request { client, mode, name: name(at) }) as u32
+    lock(accepted(tables, &Call::Request { client, mode, name: name(at) }))
 }
 
 fn holder(number: u32) -> u32 {
@@ -116,7 +116,8 @@ fn add_spread(tables: &mut Tables, at: u32, layer: u32, number: u32) {
         (2, 0) => request(tables, holder(number), PW, at),
         (2, 1) => {
             let lock = request(tables, converter(number), NL, at);
-            accepted(tables, &Call::Convert { client: converter(number), lock, mode: EX }) as u32
+            accepted(tables, &Call::Convert { client: converter(number), lock, mode: EX });
+            lock
         }
         (2, _) => request(tables, waiter(number), CR, at),
         (_, layer) => request(tables, holder(number), [CR, CW, NL][layer as usize % 3], at),

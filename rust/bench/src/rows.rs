@@ -1,6 +1,6 @@
 //! What is timed: calls of each entry with a given outcome, found on the tables by trying.
 
-use crate::call::{Areas, Call, Flat, Manager, Tables, refused};
+use crate::call::{Areas, Call, Flat, Manager, Tables, refused, result};
 use crate::fill::{accepted, name};
 use flat::layout::state::{CONVERTING, GRANTED, WAITING};
 use flat::layout::{LockRecord, Records, completion, head, lock, resource};
@@ -132,9 +132,14 @@ pub const ROWS: &[Row] = &[
         title: "request, granted",
         prepare: &[Step::Request(251, PR, 0)],
         propose: request_known,
-        fits: |_, answer, _| answer >> 32 == 1,
+        fits: |_, answer, _| result(answer) == 1,
     },
-    Row { title: "request, waits", prepare: &[Step::Request(251, EX, 0)], propose: request_known, fits: |_, answer, _| answer >> 32 == 2 },
+    Row {
+        title: "request, waits",
+        prepare: &[Step::Request(251, EX, 0)],
+        propose: request_known,
+        fits: |_, answer, _| result(answer) == 2,
+    },
     Row {
         title: "convert, in place",
         prepare: &[Step::Request(251, PR, 0)],

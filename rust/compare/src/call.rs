@@ -1,6 +1,6 @@
 //! A call as a value: what it is given, so that a list of calls can be played again.
 
-use crate::manager::Tables;
+use crate::manager::{Tables, result};
 use crate::sizes::lengths;
 use std::fmt;
 use std::rc::Rc;
@@ -184,11 +184,7 @@ impl Entry {
 
     /// Which of these an answer is.
     pub fn answer_kind(self, answer: u64) -> &'static str {
-        let number = match self {
-            Entry::Request | Entry::Poll => answer >> 32,
-            _ => answer,
-        };
-        let plain = match number {
+        let plain = match result(answer) {
             0 => "0",
             1 => "1",
             2 => "2",

@@ -1,6 +1,7 @@
 //! Noteworthy branches: what a call met and did, told from the states before and after it.
 
 use crate::call::{Call, Image};
+use crate::manager::{lock, result};
 use crate::sizes::{LARGEST, MIDDLE, SMALL, SMALLEST, Sizes};
 use model::layout::{MOST_CLIENT, NAME_BYTES, VALUE_BYTES};
 use model::{Lock, Mode, Resource, Standing, State, Unread};
@@ -163,7 +164,7 @@ events! {
 /// What was noteworthy about a call.
 pub fn events(before: &State, call: &Call, answer: u64, refused: Option<u32>, after: &State) -> Vec<Event> {
     let mut found = Vec::new();
-    let notes = Notes { before, after, answer };
+    let notes = Notes { before, after, result: result(answer), lock: lock(answer) };
     match (call, refused) {
         (Call::Convert { client, lock, .. } | Call::Release { client, lock, .. }, Some(7)) => notes.value(*client, *lock, &mut found),
         (_, Some(_)) => {}
@@ -252,7 +253,8 @@ fn sound_names(state: &State, found: &mut Vec<Event>) {
 struct Notes<'a> {
     before: &'a State,
     after: &'a State,
-    answer: u64,
+    result: u32,
+    lock: u32,
 }
 
 /// Adds an event if something is so.
@@ -298,7 +300,7 @@ impl Notes<'_> {
     fn request(&self, mode: u32, flags: u32, name: &[u8], found: &mut Vec<Event>) {
         note(found, name.len() == NAME_BYTES, Event::LongestName);
         note(found, name.last() == Some(&0), Event::NameEndsInZero);
-        let granted = self.answer >> 32 == 1;
+        let granted = self.result == 1;
         note(found, granted && flags == 4, Event::DontQueueGranted);
         let Some(resource) = self.before.named(name) else {
             let mut used = self.before.resources.values().map(|resource| &resource.name);
@@ -324,7 +326,7 @@ impl Notes<'_> {
             return;
         };
         let down = old.down_to(new);
-        let granted = self.answer == 1;
+        let granted = self.result == 1;
         let between_pr_and_cw = matches!((old, new), (Mode::Pr, Mode::Cw) | (Mode::Cw, Mode::Pr));
         note(found, old == new, Event::ConvertSame);
         note(found, down && old != new && !queues.converting.is_empty(), Event::ConvertDownPastQueue);
@@ -356,7 +358,7 @@ impl Notes<'_> {
         note(found, acts && flags & 2 != 0 && queues.valid, Event::ConvertInvalidates);
         note(found, set && !old.writes_value(), Event::ConvertFlagLowMode);
         note(found, set && old.writes_value() && !acts, Event::ConvertFlagNotSmaller);
-        note(found, set && self.answer == 2, Event::ConvertFlagQueued);
+        note(found, set && self.result == 2, Event::ConvertFlagQueued);
     }
 
     fn release(&self, lock: u32, flags: u32, found: &mut Vec<Event>) {
@@ -396,7 +398,7 @@ impl Notes<'_> {
 
     fn purge(&self, client: u32, found: &mut Vec<Event>) {
         let its: Vec<&Lock> = self.before.locks.values().filter(|lock| u32::from(lock.client) == client).collect();
-        note(found, self.answer >= 5, Event::PurgeMany);
+        note(found, self.result >= 5, Event::PurgeMany);
         note(found, its.iter().any(|lock| lock.standing == Standing::Denied), Event::PurgeDenied);
         note(found, its.iter().any(|lock| lock.held().is_some() && lock.completion() != 0), Event::PurgeUnread);
         note(found, its.iter().any(|lock| lock.blocked()), Event::PurgeBlocked);
@@ -415,7 +417,7 @@ impl Notes<'_> {
     }
 
     fn break_deadlock(&self, found: &mut Vec<Event>) {
-        let denied = self.answer as u32;
+        let denied = self.result;
         if denied == 0 {
             let none = self.before.blocked.is_empty();
             return found.push(if none { Event::BreakNoneBlocked } else { Event::BreakNoDeadlock });
@@ -473,7 +475,7 @@ impl Notes<'_> {
     }
 
     fn poll(&self, found: &mut Vec<Event>) {
-        let lock = self.answer as u32;
+        let lock = self.lock;
         note(found, lock == 0 && !self.before.notices.is_empty(), Event::PollOthers);
         note(found, lock != 0 && self.before.notices.front() != Some(&lock), Event::PollNotFirst);
         let client = self.before.locks.get(&lock).map(|lock| lock.client);
@@ -508,7 +510,7 @@ impl Notes<'_> {
             return found.push(Event::HolderUnknown);
         };
         let mut converting = self.before.resources[&resource].converting.iter();
-        note(found, self.answer == 0, Event::HolderNobody);
+        note(found, self.result == 0, Event::HolderNobody);
         note(found, converting.any(|lock| self.was(*lock).held() == Some(Mode::Ex)), Event::HolderConverting);
     }
 }

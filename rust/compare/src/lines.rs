@@ -3,7 +3,7 @@
 use crate::call::{Call, Entry};
 use crate::counts::CallCounts;
 use crate::events::{Event, events};
-use crate::manager::{REFUSED, Tables};
+use crate::manager::{Tables, accepted, refused};
 use crate::refusals::Given;
 use crate::tally::Tally;
 use model::layout::NAME_BYTES;
@@ -279,8 +279,8 @@ impl LineCounts {
 
     fn add_call(&mut self, call: &Call, before: &model::State, reply: &Reply, run: &Run) {
         let (answer, refused) = match reply {
-            Reply::Answer(numbers) => (numbers.iter().fold(0, |answer, number| answer << 32 | u64::from(*number)), None),
-            Reply::Refused(refused) => (REFUSED | u64::from(refused.0), Some(refused.0)),
+            Reply::Answer(numbers) => (accepted(numbers[0], numbers.get(1).copied().unwrap_or(0)), None),
+            Reply::Refused(refusal) => (refused(refusal.0), Some(refusal.0)),
             Reply::AnotherForm => return,
         };
         let (words, slots) = (Vec::new(), Vec::new());

@@ -19,21 +19,26 @@ fn lengths(resources: u32, locks: u32) -> Option<(usize, usize)> {
 }
 
 /// What can't be, by the library's contract.
-fn impossible(answer: impl Into<u64>) -> ! {
-    panic!("the library answered {:#x}, which its contract excludes", answer.into())
+fn impossible(answer: u32) -> ! {
+    panic!("the library answered {answer}, which its contract excludes")
 }
 
-/// An answer of one number.
-fn number(answer: u64) -> Result<u32, Refusal> {
-    if answer >> 63 != 0 {
-        return Err(Refusal::from_number(answer as u32).unwrap_or_else(|| impossible(answer)));
+/// An accepted call's answer, or the refusal of a number other than 0.
+fn unless_refused<T>(refusal: u32, answer: T) -> Result<T, Refusal> {
+    match refusal {
+        0 => Ok(answer),
+        number => Err(Refusal::from_number(number).unwrap_or_else(|| impossible(number))),
     }
-    u32::try_from(answer).map_err(|_| impossible(answer))
 }
 
-/// An answer of two numbers.
-fn pair(answer: u64) -> Result<(u32, u32), Refusal> {
-    if answer >> 63 != 0 { number(answer).map(|_| impossible(answer)) } else { Ok(((answer >> 32) as u32, answer as u32)) }
+/// A call's result.
+fn number(answer: raw::Answer) -> Result<u32, Refusal> {
+    unless_refused(answer.refusal(), answer.result())
+}
+
+/// A call's result and its lock.
+fn pair(answer: raw::Answer) -> Result<(u32, u32), Refusal> {
+    unless_refused(answer.refusal(), (answer.result(), answer.lock()))
 }
 
 fn outcome(number: u32) -> Outcome {
@@ -283,9 +288,6 @@ fn lengths_of_image(image: &[u8]) -> Option<(usize, usize)> {
 
 /// The client that holds EX on a name in an image, if one does.
 pub fn holder(image: &[u8], name: &[u8]) -> Result<Option<u32>, Refusal> {
-    match raw::holder(image, name) {
-        0 => Ok(None),
-        client @ 1..=255 => Ok(Some(client)),
-        other => Err(other.checked_sub(256).and_then(Refusal::from_number).unwrap_or_else(|| impossible(other))),
-    }
+    let held = raw::holder(image, name);
+    unless_refused(held.refusal(), held.client()).map(|client| (client != 0).then_some(client))
 }
