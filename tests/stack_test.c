@@ -25,6 +25,7 @@ static uint32_t locks;
 
 static uint8_t *stack;
 static size_t used;
+static int first;
 static unsigned measured;
 static unsigned failed;
 
@@ -58,7 +59,8 @@ static void measure(const char *name, void (*call)(void), size_t most)
         fail("no thread");
     pthread_attr_destroy(&attributes);
     measured++;
-    printf(" %s %lu", name, (unsigned long)used);
+    printf("%s %s %lu", first ? ":" : ",", name, (unsigned long)used);
+    first = 0;
     if (used > most) {
         printf(" (FAILED: the header says %lu)", (unsigned long)most);
         failed++;
@@ -71,7 +73,8 @@ static void resize(uint32_t r, uint32_t l)
     resources = r;
     locks = l;
     tables = zamgyorud_tables_in(memory, sizeof memory / sizeof *memory, r, l);
-    printf("stack, R %lu, L %lu:", (unsigned long)r, (unsigned long)l);
+    printf("stack, R %lu, L %lu", (unsigned long)r, (unsigned long)l);
+    first = 1;
 }
 
 /* The answer of a call that is to be accepted. */
