@@ -17,7 +17,7 @@
  *      PW   yes  yes  no   no   no   no
  *      EX   yes  no   no   no   no   no
  *
- * Modes are not compared by number: PR and CW exclude each other in both directions.
+ * So modes can't be compared by their numbers: PR has a larger one than CW, and the two exclude each other.
  *
  * Waiting. A request or conversion that has to wait says so and returns. Convert, release, cancel, purge and break can grant it later, whoever
  * makes them, and break can deny it because of a deadlock. Poll tells how the wait has ended: its completion. A completion is polled before its
@@ -43,7 +43,8 @@
  *      convert, release, cancel, purge   quadratic in L: linear for each lock that is freed or granted
  *      break                             cubic in L: a search from each blocked lock over all blocked locks, and their holders
  *
- * docs/MANUAL.md has measured times.
+ * Measured with R 256 and L 1,024 on one machine: most calls take 5 to 10 us. At worst, names that look alike add 30 us, a release that grants 1,023
+ * locks takes 4 ms, and a break takes 1 s.
  */
 #ifndef ZAMGYORUD_H
 #define ZAMGYORUD_H
