@@ -24,27 +24,22 @@ fn lowers(held: u32, mode: u32) -> bool
 fn held_at(l: Lock, mode: u32) -> Lock
     ensures { λ m. ⌜ m ≡ held-at mode l ⌝ }
 {
-    Lock {
-        resource: l.resource,
-        client: l.client,
-        state: table_fields::STATE_GRANTED,
-        held: mode,
-        asked: 0,
-        completion: table_fields::COMPLETION_NONE,
-    }
+    let mut m = l;
+    m.state = table_fields::STATE_GRANTED;
+    m.held = mode;
+    m.asked = 0;
+    m.completion = table_fields::COMPLETION_NONE;
+    m
 }
 
 fn asking(l: Lock, mode: u32) -> Lock
     ensures { λ m. ⌜ m ≡ asking mode l ⌝ }
 {
-    Lock {
-        resource: l.resource,
-        client: l.client,
-        state: table_fields::STATE_CONVERTING,
-        held: l.held,
-        asked: mode,
-        completion: table_fields::COMPLETION_NONE,
-    }
+    let mut m = l;
+    m.state = table_fields::STATE_CONVERTING;
+    m.asked = mode;
+    m.completion = table_fields::COMPLETION_NONE;
+    m
 }
 
 // The lock k takes the mode where it stands, and leaves the value as the flags say. What it held may have kept others

@@ -8,7 +8,7 @@ use native.Mathlib.Omega.{arith}
 use borrow.Author.Needs.{needs}
 use borrow.Author.Tests.{ne-eqb}
 use Rattle.tables.specs.declared.Lock.{Lock}
-use Rattle.tables.specs.State.{Tables, lock, converting, blocked-lock, blocked, move}
+use Rattle.tables.specs.State.{Tables, denied-lock, lock, converting, blocked-lock, blocked, move}
 use Rattle.tables.specs.Layout.{words, slots, read-lock}
 use Rattle.tables.proofs.Cases.{by-cases, clash}
 use Rattle.tables.proofs.Counts.{first-in}
@@ -18,7 +18,7 @@ use Rattle.tables.proofs.Valid.{resources-length, core-move}
 use Rattle.tables.proofs.ChainMembers.{on-chain}
 use Rattle.rules.specs.Queues.{sweep}
 use Rattle.rules.specs.Deadlock.{victim}
-use Rattle.rules.specs.Calls.{accepted, accepted-step, denied-lock, deny, deny-victim, break}
+use Rattle.rules.specs.Calls.{accepted, accepted-step, deny, deny-victim, break}
 use Rattle.rules.specs.Accepted.{Cancellable}
 use Rattle.table_chains.specs.Contracts.{Some, Turns, Tells, Movable, Moving, Moved, Resourced}
 use Rattle.queues.proofs.ResourceRecord.{slots-sweep}

@@ -1,6 +1,7 @@
 // A request's change, in place. It takes a lock, and if its name is new also a resource. Then it is granted or waits.
 use answers::Requested;
 use table_fields::header_word;
+use table_fields::new_lock;
 use tables::Lock;
 ghost use mathlib.Core.Path.{_≡_};
 ghost use Rattle.rules.specs.Calls.{holding, queued, «request-on», «request-change»};
@@ -30,27 +31,13 @@ fn resource_for(words: &mut [u32], slots: &mut [u8], found: u32, name: &[u8]) ->
 fn holding(r: u32, client: u32, mode: u32) -> Lock
     ensures { λ l. ⌜ l ≡ holding r client mode ⌝ }
 {
-    Lock {
-        resource: r,
-        client: client,
-        state: table_fields::STATE_GRANTED,
-        held: mode,
-        asked: 0,
-        completion: table_fields::COMPLETION_NONE,
-    }
+    new_lock(r, client, table_fields::STATE_GRANTED, mode, 0)
 }
 
 fn queued(r: u32, client: u32, mode: u32) -> Lock
     ensures { λ l. ⌜ l ≡ queued r client mode ⌝ }
 {
-    Lock {
-        resource: r,
-        client: client,
-        state: table_fields::STATE_WAITING,
-        held: 0,
-        asked: mode,
-        completion: table_fields::COMPLETION_NONE,
-    }
+    new_lock(r, client, table_fields::STATE_WAITING, 0, mode)
 }
 
 // The lock k, which is free, becomes the client's on r: granted if the mode is admitted there, else waiting.

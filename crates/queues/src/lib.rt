@@ -105,14 +105,12 @@ fn next_up(words: &[u32], r: u32) -> u32
 fn granted(l: Lock) -> Lock
     ensures { λ m. ⌜ m ≡ granted-lock l ⌝ }
 {
-    Lock {
-        resource: l.resource,
-        client: l.client,
-        state: table_fields::STATE_GRANTED,
-        held: l.asked,
-        asked: 0,
-        completion: 1,
-    }
+    let mut m = l;
+    m.state = table_fields::STATE_GRANTED;
+    m.held = l.asked;
+    m.asked = 0;
+    m.completion = table_fields::COMPLETION_GRANTED;
+    m
 }
 
 // Grants the next lock of r if that is possible. Answers whether it did.
@@ -149,18 +147,7 @@ pub fn free_lock(words: &mut [u32], k: u32)
     requires { ⌜ Some (Locked k) (now words) ⌝ }
     ensures { λ _. ⌜ Turns (Locked k) (free-lock k) (now (words .entry)) (now (words .exit)) ⌝ }
 {
-    table_chains::move_lock(
-        words,
-        k,
-        Lock {
-            resource: 0,
-            client: 0,
-            state: table_fields::STATE_FREE,
-            held: 0,
-            asked: 0,
-            completion: 0,
-        },
-    );
+    table_chains::move_lock(words, k, table_fields::NO_LOCK);
 }
 
 // The resource r, on which no lock stands, becomes free.

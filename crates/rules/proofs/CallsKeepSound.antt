@@ -12,7 +12,7 @@ use Rattle.modes.specs.Modes.{down}
 use Rattle.modes.proofs.Laws.{compatible-sym, down-use}
 use Rattle.tables.specs.declared.Lock.{Lock}
 use Rattle.tables.specs.Lists.{within, count, remove, all, first-that, null}
-use Rattle.tables.specs.State.{Resource, Tables, no-lock, no-resource, lock, resource, granted, converting, waiting, blocked-lock, holds, noticed, shift, shift-front, relist, move, move-resource, grants, converts, waits, blocked, notices, queue}
+use Rattle.tables.specs.State.{Resource, Tables, no-lock, denied-lock, no-resource, lock, resource, granted, converting, waiting, blocked-lock, holds, noticed, shift, shift-front, relist, move, move-resource, grants, converts, waits, blocked, notices, queue}
 use Rattle.tables.specs.Grants.{holders, fits, convert-grantable, empty}
 use Rattle.tables.proofs.Cases.{by-cases, by-equal, clash, eqb-same, and-left, and-right, or-left, or-right, nor-left, nor-right}
 use Rattle.tables.proofs.Counts.{count-same, count-nil, by-append, first-in}
@@ -21,7 +21,7 @@ use Rattle.tables.proofs.Valid.{ok-at, holder-place, used-within, lock-same, lo
 use Rattle.tables.proofs.ChainMembers.{state-within, on-chain, chain-has, on-converts, on-waits, fits-true, true-fits, settled-other}
 use Rattle.rules.specs.Queues.{sweep, free-lock, settle}
 use Rattle.rules.specs.Deadlock.{victim}
-use Rattle.rules.specs.Calls.{stores, strong, leave-value, held-at, asking, in-place, convert-change, release-change, restored, cancel-change, denied-lock, deny, deny-victim, break, notice-read, take-notice, poll-notice, poll-change}
+use Rattle.rules.specs.Calls.{stores, strong, leave-value, held-at, asking, in-place, convert-change, release-change, restored, cancel-change, deny, deny-victim, break, notice-read, take-notice, poll-notice, poll-change}
 use Rattle.rules.proofs.SweepLaws.{Swept, free-kept, sweep-swept}
 use Rattle.rules.proofs.ResourceChanges.{null-nil, empty-chains, used-changed, free-empty, Quiet, leave-quiet}
 

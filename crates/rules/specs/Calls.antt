@@ -7,7 +7,7 @@ use lib.Dec.{eqb, leb, ltb}
 use Rattle.modes.specs.Modes.{down}
 use Rattle.tables.specs.Lists.{within, any, keep, first, first-that, null, from}
 use Rattle.tables.specs.declared.Lock.{Lock}
-use Rattle.tables.specs.State.{Resource, Tables, name-width, value-width, no-value, lock, resource, granted, converting, blocked-lock, unread, move, move-resource, state-free, state-granted, state-converting, state-waiting, state-denied, completion-none, completion-denied, completion-conversion-denied}
+use Rattle.tables.specs.State.{Resource, Tables, name-width, value-width, no-value, new-lock, denied-lock, changed-lock, lock, resource, granted, converting, blocked-lock, unread, move, move-resource, state-free, state-granted, state-converting, state-waiting, completion-none, completion-denied, completion-conversion-denied}
 use Rattle.tables.specs.Grants.{holders, fits, admits}
 use Rattle.tables.specs.Sound.{client-right}
 use Rattle.rules.specs.Queues.{sweep, free-lock, settle, find}
@@ -108,10 +108,10 @@ with-resource zero n t = move-resource (first (t .free-resources)) (new-resource
 with-resource (suc r) n t = t
 
 abbrev pub holding : ℕ → ℕ → ℕ → Lock
-holding r c m = record { resource = r; client = c; state = state-granted; held = m; asked = 0; completion = completion-none }
+holding r c m = new-lock r c state-granted m 0
 
 abbrev pub queued : ℕ → ℕ → ℕ → Lock
-queued r c m = record { resource = r; client = c; state = state-waiting; held = 0; asked = m; completion = completion-none }
+queued r c m = new-lock r c state-waiting 0 m
 
 -- the lock k is granted (answer 1) if the convert chain is empty and the mode is compatible with every held mode; else it waits (2)
 unfoldable pub request-on : ℕ → ℕ → ℕ → ℕ → Tables → Step
@@ -137,10 +137,10 @@ request c m f n t = refused-or (request-refusal c m f n t) (request-change c m n
 
 -- CONVERT
 abbrev pub held-at : ℕ → Lock → Lock
-held-at m l = record { resource = l .resource; client = l .client; state = state-granted; held = m; asked = 0; completion = completion-none }
+held-at m l = changed-lock state-granted m 0 completion-none l
 
 abbrev pub asking : ℕ → Lock → Lock
-asking m l = record { resource = l .resource; client = l .client; state = state-converting; held = l .held; asked = m; completion = completion-none }
+asking m l = changed-lock state-converting (l .held) m completion-none l
 
 -- "Down: in place. Else, if the convert chain is empty and the mode is compatible with every other held mode, in place."
 unfoldable pub in-place : ℕ → ℕ → Tables → Bool
@@ -179,7 +179,7 @@ release c k f v t = refused-or (release-refusal c k f v t) (release-change k f v
 
 -- CANCEL. Back on the grant chain at the mode it held, with a completion.
 abbrev pub restored : ℕ → Lock → Lock
-restored e l = record { resource = l .resource; client = l .client; state = state-granted; held = l .held; asked = 0; completion = e }
+restored e l = changed-lock state-granted (l .held) 0 e l
 
 unfoldable pub cancel-change : ℕ → Tables → Step
 cancel-change k t =
@@ -228,9 +228,6 @@ unfoldable pub purge : ℕ → Tables → Step
 purge c t = refused-or (purge-refusal c) (purge-change c t) t
 
 -- BREAK
-abbrev pub denied-lock : Lock → Lock
-denied-lock l = record { resource = 0; client = l .client; state = state-denied; held = 0; asked = 0; completion = completion-denied }
-
 -- "Denied waiting: to the denied chain, completion 2. Denied converting: back to the grant chain, completion 3."
 unfoldable pub deny : ℕ → Tables → Tables
 deny k t =
@@ -249,7 +246,7 @@ break t = deny-victim (victim t) t
 
 -- POLL
 abbrev pub notice-read : Lock → Lock
-notice-read l = record { resource = l .resource; client = l .client; state = l .state; held = l .held; asked = l .asked; completion = completion-none }
+notice-read l = changed-lock (l .state) (l .held) (l .asked) completion-none l
 
 -- "Completion 2 frees the lock."
 unfoldable pub take-notice : ℕ → Tables → Tables
