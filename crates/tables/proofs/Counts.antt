@@ -263,3 +263,21 @@ first-none p (x ∷ xs) e z j m =
     (λ h. by-equal j x
     (λ d. rw d h)
     (λ d. first-none p xs (rw (h, first-that) at e) (omega (arith, count-step 0 x xs)) j (rw (count-other j x xs d) at m)))
+
+-- the first of a list: it passes, or the search goes on behind it; two tests that agree on the list find the same
+module _ (p : ℕ → Bool) (j : ℕ) (js : List ℕ) where
+  pub first-here : p j ≡ true → first-that p (j ∷ js) ≡ j
+  unfolding first-that
+  first-here h = rw (h, first-that)
+
+  pub first-later : p j ≡ false → first-that p (j ∷ js) ≡ first-that p js
+  unfolding first-that
+  first-later h = rw (h, first-that)
+
+pub first-cong : (p q : ℕ → Bool) (xs : List ℕ) → ((j : ℕ) → 1 ≤ count j xs → p j ≡ q j) → first-that p xs ≡ first-that q xs
+first-cong p q [] h = unfold first-that in refl
+first-cong p q (x ∷ xs) h =
+    let e : p x ≡ q x = h x (rw count-same (omega arith)) in
+    by-cases (q x)
+    (λ y. first-here p x xs (e ∙ y) ∙ sym (first-here q x xs y))
+    (λ y. first-later p x xs (e ∙ y) ∙ first-cong p q xs (λ j m. h j (omega (arith, count-step j x xs))) ∙ sym (first-later q x xs y))

@@ -10,7 +10,7 @@ use lib.Dec.{eqb}
 use borrow.Author.Tests.{eqb-true, eq-eqb, ne-eqb, leb-true, le-leb, not-true}
 use Rattle.tables.specs.Lists.{within, count, bit, from, null}
 use Rattle.tables.specs.State.{Lock, Tables, name-width, no-lock, lock, resource, blocked-lock, noticed, Queue, grants, converts, waits, LockChain, free-locks, denied, blocked, notices, queue, Chain, free-resources, of-locks, chain, home-at, home, belongs}
-use Rattle.tables.specs.Layout.{resource-width, lock-width, of-resource, of-lock, head, resources-in, locks-in, word-in, follow, most, link-in, read-chain, read-lock, slot-in, read}
+use Rattle.tables.specs.Layout.{resource-width, lock-width, of-resource, of-lock, head, resources-in, locks-in, word-in, most, link-in, read-chain, read-lock, slot-in, read}
 use Rattle.tables.specs.Grants.{empty}
 use Rattle.tables.specs.Sound.{indices-right, ends, chain-ends, all-zero, free-resource-right, used-resource-right, resource-right, stands-right, home-right, lock-right, sound}
 use Rattle.tables.proofs.Cases.{by-cases, by-equal, clash, eqb-same, parts}
@@ -18,7 +18,7 @@ use Rattle.tables.proofs.Counts.{within-le, le-within, count-same, coun
 use Rattle.tables.specs.Validity.{used, StateOk, LockOk}
 use Rattle.tables.proofs.Valid.{ok-at, absent, used-within}
 use Rattle.tables.specs.Threads.{Within}
-use Rattle.tables.proofs.FollowedChains.{chain-ends-any}
+use Rattle.tables.proofs.FollowedChains.{follow-null, chain-ends-any}
 use Rattle.tables.proofs.ReadState.{resources-read, locks-read, lock-of, chain-followed}
 use Rattle.tables.proofs.Conditions.{each-at, each-intro, names-differ, differ-names, link-index, locks-low, resource-zeros, by-use, lock-tested, blocked-off, notice-off}
 use Rattle.tables.proofs.Fields.{fields-are}
@@ -52,16 +52,10 @@ pub record UsedResource (ws ss : List ℕ) (r : ℕ) : Type 0 where
   pub has-lock : (k : ℕ) × (1 ≤ count k (resource (read ws ss) r .grant ++ (resource (read ws ss) r .convert ++ resource (read ws ss) r .wait)))
 
 -- a chain is empty exactly if its head is zero
-null-follow : (f : ℕ → ℕ) (n a : ℕ) → 1 ≤ n → null (follow f n a) ≡ eqb a 0
-unfolding follow
-null-follow f zero a p = absurd (omega arith)
-null-follow f (suc n) zero p = sym (eq-eqb 0 0 refl)
-null-follow f (suc n) (suc a) p = sym (ne-eqb (suc a) 0 (omega arith))
-
 module _ (ws ss : List ℕ) (some : 1 ≤ locks-in ws) (r : ℕ) (low : 1 ≤ r) (high : r ≤ resources-in ws) where
   head-null : (q : Queue) → Within (resources-in ws) (locks-in ws) (head (of-locks (queue r q))) → null (chain (read ws ss) (queue r q)) ≡ eqb (link-in ws (of-locks (queue r q)) 0) 0
   unfolding read-chain
-  head-null q i = ap null (chain-followed ws ss (of-locks (queue r q)) i) ∙ null-follow (link-in ws (of-locks (queue r q))) (locks-in ws) (link-in ws (of-locks (queue r q)) 0) some
+  head-null q i = ap null (chain-followed ws ss (of-locks (queue r q)) i) ∙ follow-null (link-in ws (of-locks (queue r q))) (locks-in ws) (link-in ws (of-locks (queue r q)) 0) some
 
   pub heads-zero : empty (resource (read ws ss) r) ≡ (eqb (word-in ws (of-resource r 1)) 0 && eqb (word-in ws (of-resource r 2)) 0 && eqb (word-in ws (of-resource r 3)) 0)
   unfolding empty

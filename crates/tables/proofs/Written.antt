@@ -149,7 +149,7 @@ module _ (t : Tables) (c : Core t) where
           rw (a, b, d, e)
 
   -- every chain ends
-  chain-ending : (x : Chain) → Present t x → chain-ends (words t) x ≡ true
+  pub chain-ending : (x : Chain) → Present t x → chain-ends (words t) x ≡ true
   unfolding chain-ends
   chain-ending x i =
       let h = core-readable t c .chains x i in
