@@ -2,7 +2,7 @@
 use mathlib.Core.Path.{_≡_, sym, ap, _∙_}
 use mathlib.Core.Bool.{Bool, true, not, _&&_}
 use mathlib.Core.List.{List}
-use Prim.Native.Nat.{ℕ, zero, suc, _≤_, _<_, _^_}
+use Prim.Native.Nat.{ℕ, _≤_, _<_, _^_}
 use native.Mathlib.Omega.{arith}
 use lib.ListN.{length}
 use lib.Dec.{eqb}
@@ -11,59 +11,36 @@ use borrow.Author.Needs.{needs}
 use Rattle.modes.specs.Modes.{compatible}
 use Rattle.tables.specs.Lists.{within, count}
 use Rattle.tables.specs.declared.Lock.{Lock}
-use Rattle.tables.specs.State.{Tables, lock, converting, blocked-lock, blocked, grants, converts}
+use Rattle.tables.specs.State.{Tables, lock, converting, blocked-lock, blocked}
 use Rattle.tables.specs.Layout.{of-lock, resources-in, locks-in, word-in, read-lock, of-resource}
 use Rattle.tables.proofs.Cases.{by-cases}
 use Rattle.tables.proofs.Counts.{within-le}
-use Rattle.tables.proofs.ReadBack.{resources-word, locks-word, lock-read}
-use Rattle.tables.specs.Validity.{used, StateOk, Core}
+use Rattle.tables.proofs.ReadBack.{lock-read}
+use Rattle.tables.specs.Validity.{used, Core}
 use Rattle.tables.proofs.Valid.{ok-at, used-within}
 use Rattle.tables.proofs.ChainMembers.{state-within, on-chain, chain-has}
 use Rattle.rules.specs.Deadlock.{owner}
 use Rattle.table_fields.specs.Sizes.{Sized}
 use Rattle.table_chains.specs.Contracts.{Some}
-use Rattle.deadlock_graph.specs.Contracts.{seen, At, Blocked}
+use Rattle.table_chains.specs.Walking.{At, Walking}
+use Rattle.table_chains.proofs.ChainCells.{resources-is, locks-is}
+use Rattle.table_chains.proofs.ChainWalks.{some-sized, grants-walk, converts-walk}
+use Rattle.table_chains.proofs.LockLimits as limits
+use Rattle.deadlock_graph.specs.Contracts.{seen, Blocked}
 use Rattle.deadlock_graph.specs.Owners.{in-way, Owned}
-use Rattle.deadlock_graph.specs.Chained.{Walking}
 use Rattle.deadlock_graph.proofs.SameVictim.{Alike, alike}
-use Rattle.deadlock_graph.proofs.ChainWalks.{some-sized, queue-walks}
 
 -- the state that the words tell is like that whose words they are
 pub some-alike : (ws : List ℕ) (s : Some Core ws) → Alike (s .state) (seen ws)
 some-alike ws s = alike (s .state) (s .good) ws (s .is)
 
 pub resources-told : (ws : List ℕ) (s : Some Core ws) → resources-in ws ≡ length (s .state .resources)
-resources-told ws s = ap (λ vs. resources-in vs) (s .is) ∙ resources-word (s .state)
+resources-told ws s = resources-is (s .state) ws (s .is)
 
 pub locks-told : (ws : List ℕ) (s : Some Core ws) → locks-in ws ≡ length (s .state .locks)
-locks-told ws s = ap (λ vs. locks-in vs) (s .is) ∙ locks-word (s .state)
+locks-told ws s = locks-is (s .state) ws (s .is)
 
 -- what every lock is
-module _ (u : ℕ → Bool) (l : Lock) where
-  client-in : (n : ℕ) → StateOk u l n → l .client < 256
-  client-in zero ok = rw ok (omega arith)
-  client-in (suc zero) ok = omega (arith, ok .place .client-high)
-  client-in (suc (suc zero)) ok = omega (arith, ok .place .client-high)
-  client-in (suc (suc (suc zero))) ok = omega (arith, ok .place .client-high)
-  client-in (suc (suc (suc (suc zero)))) ok = omega (arith, ok .client-high)
-  client-in (suc (suc (suc (suc (suc n))))) ok = absurd ok
-
-  held-in : (n : ℕ) → StateOk u l n → l .held < 6
-  held-in zero ok = rw ok (omega arith)
-  held-in (suc zero) ok = omega (arith, ok .place .held-mode)
-  held-in (suc (suc zero)) ok = omega (arith, ok .place .held-mode)
-  held-in (suc (suc (suc zero))) ok = omega (arith, ok .place .held-mode)
-  held-in (suc (suc (suc (suc zero)))) ok = omega (arith, ok .holds)
-  held-in (suc (suc (suc (suc (suc n))))) ok = absurd ok
-
-  asked-in : (n : ℕ) → StateOk u l n → l .asked < 6
-  asked-in zero ok = rw ok (omega arith)
-  asked-in (suc zero) ok = omega (arith, ok .place .asked-mode)
-  asked-in (suc (suc zero)) ok = omega (arith, ok .place .asked-mode)
-  asked-in (suc (suc (suc zero))) ok = omega (arith, ok .place .asked-mode)
-  asked-in (suc (suc (suc (suc zero)))) ok = omega (arith, ok .asks)
-  asked-in (suc (suc (suc (suc (suc n))))) ok = absurd ok
-
 module _ (ws : List ℕ) (s : Some Core ws) (k : ℕ) where
   abbrev t : Tables
   t = s .state
@@ -72,13 +49,13 @@ module _ (ws : List ℕ) (s : Some Core ws) (k : ℕ) where
   same-lock = some-alike ws s .locks k
 
   pub client-few : lock (seen ws) k .client < 256
-  client-few = rw same-lock (client-in (used t) (lock t k) (lock t k .state) (s .good .lock-ok k))
+  client-few = rw same-lock (limits.client-few t (s .good) k)
 
   pub held-few : lock (seen ws) k .held < 6
-  held-few = rw same-lock (held-in (used t) (lock t k) (lock t k .state) (s .good .lock-ok k))
+  held-few = rw same-lock (limits.held-few t (s .good) k)
 
   pub asked-few : lock (seen ws) k .asked < 6
-  asked-few = rw same-lock (asked-in (used t) (lock t k) (lock t k .state) (s .good .lock-ok k))
+  asked-few = rw same-lock (limits.asked-few t (s .good) k)
 
 -- the words of the lock k
 module _ (ws : List ℕ) (k : ℕ) (a : At ws k) where
@@ -194,9 +171,9 @@ module _ {ws : List ℕ} {a r : ℕ} (b : Blocked ws a) (e : r ≡ word-in ws (o
   bar-high = blocked-resource ws a r b e .1
 
   pub bar-grants : {g : ℕ} → g ≡ word-in ws (of-resource r 1) → Walking ws 0 g
-  bar-grants h = rw h (queue-walks ws (b .some) r grants bar-low bar-high)
+  bar-grants h = grants-walk (b .some) bar-low bar-high h
 
   pub bar-converts : {g : ℕ} → g ≡ word-in ws (of-resource r 2) → Walking ws 0 g
-  bar-converts h = rw h (queue-walks ws (b .some) r converts bar-low bar-high)
+  bar-converts h = converts-walk (b .some) bar-low bar-high h
 
 pub ruleset read-laws = (needs, at-sized, owner-known, held-mode, asked-mode, way-known)

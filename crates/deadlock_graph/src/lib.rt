@@ -7,7 +7,8 @@ use table_fields::LOCK_HELD;
 use table_fields::lock_word;
 use table_fields::wide;
 ghost use mathlib.Core.Path.{_≡_};
-ghost use Rattle.deadlock_graph.specs.Contracts.{seen, At};
+ghost use Rattle.table_chains.specs.Walking.{At};
+ghost use Rattle.deadlock_graph.specs.Contracts.{seen};
 ghost use Rattle.deadlock_graph.specs.Owners.{«in-way», Owned};
 
 // A place for each lock number, up to 1,024.
