@@ -1,18 +1,16 @@
 -- What a call that is not refused has passed: what its change stands on.
 use mathlib.Core.Path.{_≡_, refl}
-use mathlib.Core.Bool.{Bool, true, false, _||_, not}
+use mathlib.Core.Bool.{Bool, true, false}
 use mathlib.Core.List.{List, [], _∷_}
-use Prim.Native.Nat.{ℕ, zero, suc, _≤_}
+use Prim.Native.Nat.{ℕ, suc, _≤_}
 use native.Mathlib.Omega.{arith}
 use lib.ListN.{length}
-use lib.Dec.{eqb}
 use borrow.Author.Tests.{leb-true, eqb-true, not-true}
 use Rattle.tables.specs.Lists.{null}
-use Rattle.tables.specs.State.{Tables, lock, granted, blocked-lock}
-use Rattle.tables.specs.Sound.{client-right}
+use Rattle.tables.specs.State.{Tables}
 use Rattle.tables.proofs.Cases.{clash, parts}
+use Rattle.tables.proofs.Fields.{client-is}
 use Rattle.tables.specs.Validity.{Valid}
-use Rattle.rules.specs.Queues.{find}
 use Rattle.rules.specs.Calls.{unless, stores, name-right, value-right, request-refusal, convert-refusal, release-refusal, cancel-refusal, purge-refusal}
 use Rattle.rules.specs.Accepted.{Requestable, Releasable, Convertible, Cancellable, Purgeable}
 
@@ -30,10 +28,6 @@ next-test false n rest h = absurd (omega arith)
 right-value : (f : ℕ) (v : List ℕ) → value-right f v ≡ true → stores f ≡ true → length v ≡ 32
 unfolding value-right
 right-value f v h e = eqb-true (length v) 32 (rw e at h)
-
-client-is : (c : ℕ) → client-right c ≡ true → (1 ≤ c) × (c ≤ 255)
-unfolding client-right
-client-is c h = (leb-true 1 c (search parts), leb-true c 255 (search parts))
 
 name-is : (n : List ℕ) → name-right n ≡ true → (null n ≡ false) × (length n ≤ 64)
 unfolding name-right

@@ -15,15 +15,15 @@ use Rattle.tables.specs.Lists.{within, count, remove, all, first-that, null}
 use Rattle.tables.specs.State.{Resource, Tables, no-lock, denied-lock, no-resource, lock, resource, granted, converting, waiting, blocked-lock, holds, noticed, shift, shift-front, relist, move, move-resource, grants, converts, waits, blocked, notices, queue}
 use Rattle.tables.specs.Grants.{holders, fits, convert-grantable, empty}
 use Rattle.tables.proofs.Cases.{by-cases, by-equal, clash, eqb-same, and-left, and-right, or-left, or-right, nor-left, nor-right}
-use Rattle.tables.proofs.Counts.{count-same, count-nil, by-append, first-in}
+use Rattle.tables.proofs.Counts.{count-nil, first-in, head-in, null-nil}
 use Rattle.tables.specs.Validity.{used, Place, StateOk, LockOk, Core, line, idle, Settled, Valid, Near}
 use Rattle.tables.proofs.Valid.{ok-at, holder-place, used-within, lock-same, lock-other, resource-same, locks-length, resources-length, used-zero, Fits, core-move}
-use Rattle.tables.proofs.ChainMembers.{state-within, on-chain, chain-has, on-converts, on-waits, fits-true, true-fits, settled-other}
+use Rattle.tables.proofs.ChainMembers.{state-within, on-chain, chain-has, fits-true, true-fits, settled-other, line-blocked}
 use Rattle.rules.specs.Queues.{sweep, free-lock, settle}
 use Rattle.rules.specs.Deadlock.{victim}
 use Rattle.rules.specs.Calls.{stores, strong, leave-value, held-at, asking, in-place, convert-change, release-change, restored, cancel-change, deny, deny-victim, break, notice-read, take-notice, poll-notice, poll-change}
 use Rattle.rules.proofs.SweepLaws.{Swept, free-kept, sweep-swept}
-use Rattle.rules.proofs.ResourceChanges.{null-nil, empty-chains, used-changed, free-empty, Quiet, leave-quiet}
+use Rattle.rules.proofs.ResourceChanges.{empty-chains, used-changed, free-empty, Quiet, leave-quiet}
 
 -- settling: what a call does last on the resource r
 pub record Settles (r : ℕ) (t t′ : Tables) : Type 0 where
@@ -235,20 +235,13 @@ grows-move t r k m w h j =
     (λ e. rw (e, lock-same r k m t w) h)
     (λ n. rw (lock-other r k m t j n) (λ o e. (o, e, refl)))
 
-line-blocked : (t : Tables) → Core t → (r h : ℕ) → 1 ≤ count h (line t r) → blocked-lock (lock t h) ≡ true
-unfolding line
-line-blocked t c r h m =
-    by-append h (resource t r .convert) (resource t r .wait) m
-    (λ i. or-left _ (waiting (lock t h)) (on-converts t (c .linked) r h i .0))
-    (λ i. or-right (converting (lock t h)) _ (on-waits t (c .linked) r h i .0))
-
 -- the head of the line stays where it is, and is not k
 module _ (t : Tables) (c : Core t) (r k : ℕ) (m : Lock) (c′ : Core (move r k m t)) (w : within (length (t .locks)) k ≡ true) (free-k : blocked-lock (lock t k) ≡ false)
     (grows : Grows t (move r k m t) r) where
   pub head-still : (h : ℕ) (hs hs′ : List ℕ) → line t r ≡ h ∷ hs → line (move r k m t) r ≡ h ∷ hs′ → idle t r (line t r) ≡ true → idle (move r k m t) r (line (move r k m t) r) ≡ true
   unfolding idle convert-grantable
   head-still h hs hs′ e e′ i =
-      let n : h ≢ k = λ q. clash (blocked-lock (lock t k)) (rw q at (line-blocked t c r h (rw (e, count-same) (omega arith)))) free-k in
+      let n : h ≢ k = λ q. clash (blocked-lock (lock t k)) (rw q at (line-blocked t c r h (head-in (line t r) h hs e))) free-k in
       let f : convert-grantable t r h ≡ false = not-true _ (rw e at i) in
       rw e′ (rw (lock-other r k m t h n, fits-less t (move r k m t) c c′ r h (lock t h .asked) grows f))
 

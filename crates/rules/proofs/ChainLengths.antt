@@ -2,39 +2,21 @@
 use mathlib.Core.Path.{_≡_, refl, ap, _∙_}
 use mathlib.Core.Bool.{Bool, true, false, _||_, not, cond}
 use mathlib.Core.List.{List, [], _∷_}
-use Prim.Native.Nat.{ℕ, zero, suc, _+_, _≤_}
+use Prim.Native.Nat.{ℕ, _+_, _≤_}
 use native.Mathlib.Omega.{arith}
 use lib.ListN.{length, length-drop}
 use lib.Dec.{eqb}
-use Rattle.tables.specs.Lists.{within, count, remove, keep, null, from}
+use Rattle.tables.specs.Lists.{within, count, keep, null, from}
 use Rattle.tables.specs.State.{Tables, lock, granted, converting, blocked-lock, LockChain, chain, belongs, free-locks}
-use Rattle.tables.proofs.Cases.{by-cases, by-equal, clash}
-use Rattle.tables.proofs.Counts.{count-same, count-other, count-remove, count-remove-other, count-step, count-kept, kept-once}
+use Rattle.tables.proofs.Cases.{by-cases}
+use Rattle.tables.proofs.Counts.{count-kept, kept-once, null-some}
 use Rattle.tables.specs.Validity.{Core, Valid}
-use Rattle.tables.proofs.ChainMembers.{chain-once}
+use Rattle.tables.proofs.Pigeonhole.{length-from, same-length}
 use Rattle.rules.specs.Queues.{find}
 use Rattle.rules.specs.Calls.{stores, request-change, convert-change, release-change, cancel-change, locks-of, purge-change, break, poll-change}
-use Rattle.rules.proofs.WalkSearch.{length-remove}
 use Rattle.rules.proofs.CallsKeepSound.{After, release-after, cancel-after, poll-after, break-after, convert-after}
 use Rattle.rules.proofs.RequestKeepsSound.{request-after}
 use Rattle.rules.proofs.PurgeKeepsSound.{length-pushed, purge-after}
-
--- pigeonhole: a list without repeats, each of whose members is on another, is no longer
-pub length-le : (xs ys : List ℕ) → ((j : ℕ) → count j xs ≤ 1) → ((j : ℕ) → count j xs ≤ count j ys) → length xs ≤ length ys
-length-le [] ys once h = omega arith
-length-le (x ∷ xs) ys once h =
-    let ih = length-le xs (remove x ys) (λ j. omega (arith, once j, count-step j x xs)) less in
-    omega (arith, ih, length-remove x ys, h x, count-same x xs)
-  where
-    less : (j : ℕ) → count j xs ≤ count j (remove x ys)
-    less j =
-        by-equal j x
-        (λ e. rw (e, count-remove) (omega (arith, count-same x xs, once x)))
-        (λ n. rw (count-remove-other j x ys n) (omega (arith, count-other j x xs n, h j)))
-
-pub length-from : (a n : ℕ) → length (from a n) ≡ n
-length-from a zero = refl
-length-from a (suc n) = ap suc (length-from (suc a) n)
 
 length-keep : (p : ℕ → Bool) (xs : List ℕ) → length (keep p xs) + length (keep (λ j. not (p j)) xs) ≡ length xs
 unfolding keep
@@ -53,12 +35,7 @@ module _ (t : Tables) (c : Core t) where
 
   pub chain-length : (x : LockChain) → length (chain t x) ≡ length (keep (λ k. belongs x (lock t k)) (from 1 (length (t .locks))))
   chain-length x =
-      let y = keep (λ k. belongs x (lock t k)) (from 1 (length (t .locks))) in
-      omega (
-        arith,
-        length-le (chain t x) y (chain-once t (c .linked) x) (λ j. omega (arith, count-in x j)),
-        length-le y (chain t x) (kept-once (λ k. belongs x (lock t k)) (length (t .locks))) (λ j. omega (arith, count-in x j)),
-      )
+      same-length (chain t x) (keep (λ k. belongs x (lock t k)) (from 1 (length (t .locks)))) (kept-once (λ k. belongs x (lock t k)) (length (t .locks))) (count-in x)
 
   -- every chain of locks has at most L locks
   pub chain-short : (x : LockChain) → length (chain t x) ≤ length (t .locks)
@@ -103,8 +80,4 @@ module _ (t : Tables) (val : Valid t) where
       used-locks (request-change c m n t .tables) ≡ used-locks t + 1
   request-count c m n low high mode some short room left =
       let e = after-count t _ _ (val .core) (request-after c m n t val low high mode some short room left) in
-      omega (arith, rw length-drop at e, some-left (t .free-locks) left)
-    where
-      some-left : (ks : List ℕ) → null ks ≡ false → 1 ≤ length ks
-      some-left [] h = clash true refl h
-      some-left (k ∷ ks) h = omega arith
+      omega (arith, rw length-drop at e, null-some (t .free-locks) left)

@@ -32,7 +32,7 @@ unfolding pushed
 length-pushed [] fs = omega arith
 length-pushed (k ∷ ks) fs = omega (arith, length-pushed ks (k ∷ fs))
 
-strong-used : (u : ℕ → Bool) (l : Lock) (s : ℕ) → StateOk u l s → strong (l .held) ≡ true → u (l .resource) ≡ true
+pub strong-used : (u : ℕ → Bool) (l : Lock) (s : ℕ) → StateOk u l s → strong (l .held) ≡ true → u (l .resource) ≡ true
 unfolding strong
 strong-used u l zero ok h = absurd (omega (arith, ap (λ (x : Lock). x .held) ok, leb-true 4 (l .held) h))
 strong-used u l (suc zero) ok h = ok .place .in-use

@@ -12,16 +12,12 @@ use Rattle.tables.specs.Lists.{within, count, bit, null}
 use Rattle.tables.specs.State.{Resource, Tables, no-value, no-resource, lock, resource, LockChain, chain, belongs, move-resource, grants, converts, waits, free-locks, denied, blocked, notices, queue}
 use Rattle.tables.specs.Grants.{holders, fits, convert-grantable, empty}
 use Rattle.tables.proofs.Cases.{by-cases, by-equal, clash, eqb-same, and-left, and-right}
-use Rattle.tables.proofs.Counts.{length-put, nth-put-same, nth-put-other, count-front, count-front-other, count-nil}
+use Rattle.tables.proofs.Counts.{length-put, nth-put-same, nth-put-other, count-front, count-front-other, count-nil, null-nil}
 use Rattle.tables.specs.Validity.{used, StateOk, ResourceOk, Core, line, idle, Settled}
 use Rattle.tables.proofs.Valid.{used-within, ok-map}
 use Rattle.tables.proofs.ChainMembers.{state-within, chain-has}
 use Rattle.rules.specs.Calls.{stores, spoils, with-value, leave-value}
 use Rattle.rules.proofs.SweepLaws.{Swept}
-
-pub null-nil : (xs : List ℕ) → null xs ≡ true → xs ≡ []
-null-nil [] h = refl
-null-nil (x ∷ xs) h = clash true refl (sym h)
 
 pub empty-chains : (x : Resource) → empty x ≡ true → (x .grant ≡ []) × (x .convert ≡ []) × (x .wait ≡ [])
 unfolding empty

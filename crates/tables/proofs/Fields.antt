@@ -15,7 +15,7 @@ on-used : (t : Tables) (l : Lock) → on-resource t l ≡ used t (l .resource)
 unfolding on-resource used
 on-used t l = refl
 
-client-is : (c : ℕ) → client-right c ≡ true → (1 ≤ c) × (c ≤ 255)
+pub client-is : (c : ℕ) → client-right c ≡ true → (1 ≤ c) × (c ≤ 255)
 unfolding client-right
 client-is c h = (leb-true 1 c (search parts), leb-true c 255 (search parts))
 

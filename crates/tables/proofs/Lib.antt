@@ -1,5 +1,6 @@
 pub mod Cases
 pub mod Counts
+pub mod Pigeonhole
 pub mod Blocks
 pub mod Numbered
 pub mod Links
@@ -26,4 +27,3 @@ pub mod Fields
 pub mod Soundness
 pub mod Written
 pub mod PaperWords
-pub mod Pigeonhole

@@ -12,6 +12,7 @@ use borrow.Author.Tests.{eq-eqb, ne-eqb}
 use Rattle.tables.specs.Lists.{count, remove, first, next}
 use Rattle.tables.proofs.Cases.{by-equal}
 use Rattle.tables.proofs.Counts.{count-nil, count-same, count-other, count-step, count-remove, count-remove-other, remove-absent}
+use Rattle.tables.proofs.Pigeonhole.{length-remove}
 use Rattle.tables.specs.Threads.{Absent, Distinct, Each}
 
 -- what stands before k, where j stands before the list; what stands last, if k is not on it
@@ -188,21 +189,14 @@ each-remove P Q k h (x ∷ xs) e =
       | no n ↦ rw (remove-past k x xs) (h x (omega arith) (e .0), each-remove P Q k h xs (e .1))
     ]
 
-length-remove : (k : ℕ) (xs : List ℕ) → Distinct xs → length xs ≤ suc (length (remove k xs))
-length-remove k [] d = omega arith
-length-remove k (x ∷ xs) d =
-    elim (ℕ-discrete k x) [
-      | yes e ↦ rw (remove-here k x xs, without k xs (rw e (d .0))) (omega arith)
-      | no n ↦ rw (remove-past k x xs) (omega (arith, length-remove k xs (d .1)))
-    ]
-
 pub few : (n : ℕ) (xs : List ℕ) → Distinct xs → Each (λ k. (1 ≤ k) × (k ≤ n)) xs → length xs ≤ n
 few zero [] d e = omega arith
 few zero (x ∷ xs) d e = absurd (omega arith)
 few (suc n) xs d e =
     omega (
       arith,
-      length-remove (suc n) xs d,
+      length-remove (suc n) xs,
+      distinct-count (suc n) xs d,
       few n (remove (suc n) xs) (distinct-remove (suc n) xs d) (each-remove _ (λ k. (1 ≤ k) × (k ≤ n)) (suc n) (λ j m p. (p .0, omega arith)) xs e),
     )
 

@@ -14,7 +14,7 @@ use Rattle.tables.specs.Layout.{resource-width, lock-width, of-resource,
 use Rattle.tables.specs.Grants.{empty}
 use Rattle.tables.specs.Sound.{indices-right, ends, chain-ends, all-zero, free-resource-right, used-resource-right, resource-right, stands-right, home-right, lock-right, sound}
 use Rattle.tables.proofs.Cases.{by-cases, by-equal, clash, eqb-same, parts}
-use Rattle.tables.proofs.Counts.{within-le, le-within, count-same, count-other, count-nil, count-step, count-from, bit-one}
+use Rattle.tables.proofs.Counts.{within-le, le-within, count-same, count-other, count-nil, count-step, count-from, from-in}
 use Rattle.tables.specs.Validity.{used, StateOk, LockOk}
 use Rattle.tables.proofs.Valid.{ok-at, absent, used-within}
 use Rattle.tables.specs.Threads.{Within}
@@ -196,9 +196,6 @@ queue-belongs r grants l = refl
 queue-belongs r converts l = refl
 queue-belongs r waits l = refl
 
-listed : (n r : ℕ) → 1 ≤ count r (from 1 n) → (1 ≤ r) × (r ≤ n)
-listed n r m = within-le n r (bit-one (within n r) (rw (count-from n r) at m))
-
 module _ (t : Tables) (k : ℕ) where
   tested-count : (c : LockChain) → stands-right t c k ≡ true → count k (chain t c) ≡ bit (belongs c (lock t k))
   unfolding stands-right
@@ -241,7 +238,7 @@ module _ (t : Tables) (k : ℕ) where
     on-denied = let z = home-h in tested-count denied (search parts depth 20)
 
     on-queue : (r : ℕ) → 1 ≤ count r (from 1 (length (t .resources))) → (q : Queue) → count k (chain t (queue r q)) ≡ bit (belongs (queue r q) (lock t k))
-    on-queue r m = let i = listed (length (t .resources)) r m in home-queues home-h r (i .0) (i .1)
+    on-queue r m = let i = from-in (length (t .resources)) r m in home-queues home-h r (i .0) (i .1)
 
     elsewhere : (r : ℕ) → 1 ≤ count r (from 1 (length (t .resources))) → r ≢ lock t k .resource → on-queues t k r ≡ 0
     elsewhere r m n =

@@ -7,7 +7,7 @@ use Prim.Native.Nat.{ℕ, zero, suc, _<_, _≤_}
 use native.Mathlib.Omega.{arith}
 use lib.ListN.{length, drop, length-drop}
 use lib.Dec.{eqb}
-use borrow.Author.Tests.{eqb-true, ne-eqb, leb-true, not-true}
+use borrow.Author.Tests.{eqb-true, eq-eqb, ne-eqb, leb-true, not-true}
 use Rattle.modes.specs.Modes.{compatible}
 use Rattle.tables.specs.Lists.{within, count, bit, all, null, next}
 use Rattle.tables.specs.State.{Lock, name-width, value-width, no-value, no-resource, lock, resource, holds, Queue, grants, converts, waits, LockChain, free-locks, denied, blocked, notices, queue, queue-of, Chain, free-resources, of-locks, chain, chain-of, home-at, belongs}
@@ -15,7 +15,7 @@ use Rattle.tables.specs.Layout.{resource-width, Address, queue-head, of-
 use Rattle.tables.specs.Grants.{holders, empty}
 use Rattle.tables.specs.Sound.{free-resource-right, name-unique, used-resource-right, holders-compatible, sound}
 use Rattle.tables.proofs.Cases.{by-cases, clash, eqb-same, parts}
-use Rattle.tables.proofs.Counts.{within-le, le-within, count-nil, all-at}
+use Rattle.tables.proofs.Counts.{within-le, le-within, count-nil, all-at, null-length}
 use Rattle.tables.specs.Validity.{used, Place, StateOk, LockOk, ResourceOk, Linked, Core, line, idle, Settled, Valid}
 use Rattle.tables.proofs.Valid.{ok-at, holder-place, absent, absent-lock, used-within}
 use Rattle.tables.proofs.ChainMembers.{holder-in, no-head-idle}
@@ -29,14 +29,6 @@ use Rattle.tables.proofs.Fields.{fields-are}
 
 nobody-zero : (n : ℕ) (xs : List ℕ) → Each (λ k. (1 ≤ k) × (k ≤ n)) xs → (k : ℕ) → within n k ≡ false → count k xs ≡ 0
 nobody-zero n xs e k w = absent-count k xs (each-absent (λ k. (1 ≤ k) × (k ≤ n)) xs k e (λ m. clash (within n k) (le-within n k (m .0) (m .1)) w))
-
-null-empty : (xs : List ℕ) → length xs ≡ 0 → null xs ≡ true
-null-empty [] e = refl
-null-empty (x ∷ xs) e = absurd (omega arith)
-
-null-some : (xs : List ℕ) → 1 ≤ length xs → null xs ≡ false
-null-some [] e = absurd (omega arith)
-null-some (x ∷ xs) e = refl
 
 module _ (ws ss : List ℕ) (h : sound ws ss ≡ true) where
   -- THE STATE IS VALID. Its locks
@@ -85,10 +77,10 @@ module _ (ws ss : List ℕ) (h : sound ws ss ≡ true) where
   -- its resources
   module _ (r : ℕ) (low : 1 ≤ r) (high : r ≤ resources-in ws) where
     free-name : word-in ws (of-resource r 4) ≡ 0 → null (resource (read ws ss) r .name) ≡ true
-    free-name e = null-empty (resource (read ws ss) r .name) (name-length ws ss h r low high ∙ e)
+    free-name e = null-length (resource (read ws ss) r .name) ∙ eq-eqb _ 0 (name-length ws ss h r low high ∙ e)
 
     used-name : 1 ≤ word-in ws (of-resource r 4) → null (resource (read ws ss) r .name) ≡ false
-    used-name e = null-some (resource (read ws ss) r .name) (rw (name-length ws ss h r low high) e)
+    used-name e = null-length (resource (read ws ss) r .name) ∙ ne-eqb (length (resource (read ws ss) r .name)) 0 (omega (arith, name-length ws ss h r low high))
 
     spare-is : count r (read ws ss .free-resources) ≡ bit (null (resource (read ws ss) r .name))
     unfolding free-resource-right used-resource-right
@@ -132,7 +124,7 @@ module _ (ws ss : List ℕ) (h : sound ws ss ≡ true) where
   gone : (r : ℕ) → within (resources-in ws) r ≡ false → resource (read ws ss) r ≡ no-resource
   gone r w = absent (read ws ss) r (rw (resources-read ws ss) w)
 
-  used-in : (r : ℕ) → used (read ws ss) r ≡ true → (1 ≤ r) × (r ≤ resources-in ws)
+  pub used-in : (r : ℕ) → used (read ws ss) r ≡ true → (1 ≤ r) × (r ≤ resources-in ws)
   used-in r u = within-le (resources-in ws) r (rw (resources-read ws ss) at (used-within (read ws ss) r u))
 
   named : (r : ℕ) → used (read ws ss) r ≡ true → null (resource (read ws ss) r .name) ≡ false

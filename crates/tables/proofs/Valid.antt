@@ -1,19 +1,19 @@
 -- Laws of valid states, and of `move`. Every statement holds of every number, in range or not.
 use mathlib.Core.Path.{_≡_, refl, sym, _∙_, subst}
 use mathlib.Core.Logic.{_≢_}
-use mathlib.Core.Bool.{Bool, true, false, _&&_, not}
-use mathlib.Core.List.{List, [], _∷_, _++_}
+use mathlib.Core.Bool.{Bool, true, false, _&&_}
+use mathlib.Core.List.{List}
 use Prim.Native.Nat.{ℕ, zero, suc, _≤_}
+use native.Mathlib.Omega.{arith}
 use lib.ListN.{length}
 use lib.Dec.{eqb}
 use borrow.Author.Tests.{eqb-true, eq-eqb, ne-eqb}
 use Rattle.modes.specs.Modes.{compatible}
 use Rattle.modes.proofs.Laws.{compatible-sym}
-use Rattle.tables.specs.Lists.{within, count, bit, null}
-use Rattle.tables.specs.State.{Lock, Resource, Tables, no-value, no-lock, no-resource, lock, resource, granted, holds, grants, converts, waits, LockChain, free-locks, denied, blocked, notices, queue, chain, belongs, shift, shift-front, relist, move}
-use Rattle.tables.specs.Grants.{convert-grantable, empty}
+use Rattle.tables.specs.Lists.{within, count, bit}
+use Rattle.tables.specs.State.{Lock, Resource, Tables, no-lock, no-resource, lock, resource, granted, converting, blocked-lock, holds, grants, converts, waits, LockChain, free-locks, denied, blocked, notices, queue, chain, belongs, shift, shift-front, relist, move}
 use Rattle.tables.proofs.Cases.{by-cases, by-equal, clash}
-use Rattle.tables.proofs.Counts.{length-put, nth-put-same, nth-put-other, nth-out, count-shift, count-shift-other, count-front, count-front-other}
+use Rattle.tables.proofs.Counts.{length-put, nth-put-same, nth-put-other, nth-out, count-shift, count-shift-other, count-front, count-front-other, within-le}
 use Rattle.tables.specs.Validity.{used, Place, StateOk, LockOk, ResourceOk, Linked, Core, Near}
 
 -- how a lock that was on a chain (or not) comes to be on it (or not)
@@ -33,6 +33,9 @@ ok-at u l n ok e = subst (StateOk u l) (eqb-true (l .state) n e) ok
 pub holder-place : (u : ℕ → Bool) (l : Lock) → LockOk u l → holds l ≡ true → Place u l
 holder-place u l ok h = by-cases (granted l) (λ g. ok-at u l 1 ok g .place) (λ g. ok-at u l 2 ok (rw g at h) .place)
 
+pub blocked-lock-place : (u : ℕ → Bool) (l : Lock) → LockOk u l → blocked-lock l ≡ true → Place u l
+blocked-lock-place u l ok h = by-cases (converting l) (λ c. ok-at u l 2 ok c .place) (λ c. ok-at u l 3 ok (rw c at h) .place)
+
 pub absent : (t : Tables) (r : ℕ) → within (length (t .resources)) r ≡ false → resource t r ≡ no-resource
 unfolding resource
 absent t r h = nth-out no-resource (t .resources) r h
@@ -44,6 +47,32 @@ absent-lock t k h = nth-out no-lock (t .locks) k h
 pub used-within : (t : Tables) (r : ℕ) → used t r ≡ true → within (length (t .resources)) r ≡ true
 unfolding used
 used-within t r u = by-cases (within (length (t .resources)) r) (λ h. h) (λ h. cc (absent t r h))
+
+-- what every lock keeps to, whatever its state: modes, a client of at most 255, a resource that there is or none
+module _ (u : ℕ → Bool) (l : Lock) where
+  pub modes-low : (s : ℕ) → StateOk u l s → (l .held ≤ 5) × (l .asked ≤ 5)
+  modes-low zero ok = rw ok (omega arith, omega arith)
+  modes-low (suc zero) ok = (ok .place .held-mode, ok .place .asked-mode)
+  modes-low (suc (suc zero)) ok = (ok .place .held-mode, ok .place .asked-mode)
+  modes-low (suc (suc (suc zero))) ok = (ok .place .held-mode, ok .place .asked-mode)
+  modes-low (suc (suc (suc (suc zero)))) ok = (omega (arith, ok .holds), omega (arith, ok .asks))
+  modes-low (suc (suc (suc (suc (suc n))))) ok = absurd ok
+
+  pub client-low : (s : ℕ) → StateOk u l s → l .client ≤ 255
+  client-low zero ok = rw ok (omega arith)
+  client-low (suc zero) ok = ok .place .client-high
+  client-low (suc (suc zero)) ok = ok .place .client-high
+  client-low (suc (suc (suc zero))) ok = ok .place .client-high
+  client-low (suc (suc (suc (suc zero)))) ok = ok .client-high
+  client-low (suc (suc (suc (suc (suc n))))) ok = absurd ok
+
+pub housed : (t : Tables) (l : Lock) (s : ℕ) → StateOk (used t) l s → l .resource ≤ length (t .resources)
+housed t l zero ok = rw ok (omega arith)
+housed t l (suc zero) ok = within-le (length (t .resources)) (l .resource) (used-within t (l .resource) (ok .place .in-use)) .1
+housed t l (suc (suc zero)) ok = within-le (length (t .resources)) (l .resource) (used-within t (l .resource) (ok .place .in-use)) .1
+housed t l (suc (suc (suc zero))) ok = within-le (length (t .resources)) (l .resource) (used-within t (l .resource) (ok .place .in-use)) .1
+housed t l (suc (suc (suc (suc zero)))) ok = omega (arith, ok .nowhere)
+housed t l (suc (suc (suc (suc (suc n))))) ok = absurd ok
 
 -- the laws of move
 module _ (r k : ℕ) (m : Lock) (t : Tables) where
