@@ -6,7 +6,7 @@ use Prim.Native.Nat.{ℕ, _≤_}
 use lib.ListN.{length}
 use lib.Dec.{eqb}
 use Rattle.tables.specs.Lists.{within, null}
-use Rattle.tables.specs.State.{Tables, name-width, no-lock, lock}
+use Rattle.tables.specs.State.{Tables, name-width, no-lock, lock, last-client, last-mode}
 use Rattle.tables.specs.Layout.{words, slots}
 use Rattle.tables.specs.Validity.{used, Core}
 use Rattle.rules.specs.Queues.{find}
@@ -31,5 +31,5 @@ pub record Enters (r k c m : ℕ) (t : Tables) : Type 0 where
   pub in-range : within (length (t .locks)) k ≡ true
   pub free : lock t k ≡ no-lock
   pub client-low : 1 ≤ c
-  pub client-high : c ≤ 255
-  pub mode : m ≤ 5
+  pub client-high : c ≤ last-client
+  pub mode : m ≤ last-mode

@@ -19,7 +19,7 @@ ghost use mathlib.Core.Path.{_≡_};
 ghost use mathlib.Core.Bool.{true};
 ghost use Prim.Native.Nat.{_+_, _-_, _<_, _≤_};
 ghost use Rattle.tables.specs.Lists.{bit};
-ghost use Rattle.tables.specs.State.{noticed, «state-waiting»};
+ghost use Rattle.tables.specs.State.{noticed, «state-waiting», «most-locks»};
 ghost use Rattle.tables.specs.Layout.{«of-resource», «word-in», «resources-in», «locks-in», «read-lock»};
 ghost use Rattle.table_fields.specs.Sizes.{Sized};
 ghost use Rattle.table_names.specs.Names.{named};
@@ -45,7 +45,7 @@ pub struct Census {
 
 // What a walk answers if something is wrong with a chain: one lock more than the n that there may be.
 fn over(n: u32, set: u32) -> HolderCount
-    requires { ⌜ n ≤ 1024 ⌝ }
+    requires { ⌜ n ≤ most-locks ⌝ }
     ensures { λ x. ⌜ x ≡ over n set ⌝ }
 {
     HolderCount {
@@ -55,7 +55,7 @@ fn over(n: u32, set: u32) -> HolderCount
 }
 
 fn grants_over(n: u32, set: u32) -> GrantCount
-    requires { ⌜ n ≤ 1024 ⌝ }
+    requires { ⌜ n ≤ most-locks ⌝ }
     ensures { λ x. ⌜ x ≡ grants-over n set ⌝ }
 {
     GrantCount {
@@ -66,7 +66,7 @@ fn grants_over(n: u32, set: u32) -> GrantCount
 }
 
 fn queues_over(n: u32) -> Census
-    requires { ⌜ n ≤ 1024 ⌝ }
+    requires { ⌜ n ≤ most-locks ⌝ }
     ensures { λ x. ⌜ x ≡ queues-over n ⌝ }
 {
     Census {

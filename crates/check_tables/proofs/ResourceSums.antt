@@ -10,6 +10,7 @@ use lib.ListN.{length}
 use borrow.Author.Needs.{needs}
 use borrow.Author.Tests.{not-true, not-false, ne-eqb, eqb-true}
 use Rattle.tables.specs.Lists.{bit, all, from, keep}
+use Rattle.tables.specs.State.{most-locks}
 use Rattle.tables.specs.Layout.{of-header, resources-in, locks-in, word-in}
 use Rattle.tables.proofs.Cases.{clash, and-right}
 use Rattle.table_names.specs.Names.{named}
@@ -58,8 +59,8 @@ bit-few false free r h = omega arith
 pub record Left (ws ss : List ℕ) (others denied met blocked noticed free r : ℕ) : Type 0 where
   pub low : 1 ≤ r
   pub met-few : met ≤ 4 * locks-in ws + 2
-  pub blocked-few : blocked ≤ 3073 * r
-  pub noticed-few : noticed ≤ 3073 * r + 1024
+  pub blocked-few : blocked ≤ (3 * most-locks + 1) * r
+  pub noticed-few : noticed ≤ (3 * most-locks + 1) * r + most-locks
   pub free-few : free < r
   pub fine : resources-fine ws ss ≡ all (resource-fine ws ss) (upto r (resources-in ws))
   pub homes : others + queues-walk ws (from 1 (resources-in ws)) ≡ met + queues-walk ws (upto r (resources-in ws))

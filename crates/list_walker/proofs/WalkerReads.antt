@@ -11,7 +11,7 @@ use borrow.Author.Needs.{needs}
 use borrow.Author.Tests.{eqb-true, eqb-false, ltb-true, not-true, not-false, ne-eqb}
 use Rattle.tables.specs.declared.Lock.{Lock}
 use Rattle.tables.specs.Lists.{count, first, next}
-use Rattle.tables.specs.State.{Resource, Tables, lock, resource, Queue, grants, converts, waits, queue-of}
+use Rattle.tables.specs.State.{Resource, Tables, lock, resource, Queue, grants, converts, waits, queue-of, most-locks}
 use Rattle.tables.specs.Layout.{of-resource, of-lock, queue-head, words, resources-in, locks-in, word-in, read-lock}
 use Rattle.tables.specs.Grants.{holders}
 use Rattle.tables.proofs.Cases.{and-left}
@@ -194,7 +194,7 @@ module _ (ws : List ℕ) (n k : ℕ) where
     }
 
     module _ (m : j ≡ 0 → ⊥) where
-      inside : (i < locks-in ws) × (i < 1024)
+      inside : (i < locks-in ws) × (i < most-locks)
       inside =
           let s = g .some in
           let core = s .good .there .core in

@@ -7,7 +7,7 @@ use native.Mathlib.Omega.{arith}
 use lib.ListN.{length}
 use borrow.Author.Tests.{leb-true, eqb-true, not-true}
 use Rattle.tables.specs.Lists.{null}
-use Rattle.tables.specs.State.{Tables}
+use Rattle.tables.specs.State.{Tables, name-width, value-width}
 use Rattle.tables.proofs.Cases.{clash, parts}
 use Rattle.tables.proofs.Fields.{client-is}
 use Rattle.tables.specs.Validity.{Valid}
@@ -25,14 +25,14 @@ unfolding unless
 next-test true n rest h = h
 next-test false n rest h = absurd (omega arith)
 
-right-value : (f : ℕ) (v : List ℕ) → value-right f v ≡ true → stores f ≡ true → length v ≡ 32
+right-value : (f : ℕ) (v : List ℕ) → value-right f v ≡ true → stores f ≡ true → length v ≡ value-width
 unfolding value-right
-right-value f v h e = eqb-true (length v) 32 (rw e at h)
+right-value f v h e = eqb-true (length v) value-width (rw e at h)
 
-name-is : (n : List ℕ) → name-right n ≡ true → (null n ≡ false) × (length n ≤ 64)
+name-is : (n : List ℕ) → name-right n ≡ true → (null n ≡ false) × (length n ≤ name-width)
 unfolding name-right
 name-is [] h = clash false h refl
-name-is (x ∷ xs) h = (refl, leb-true (length (x ∷ xs)) 64 (search parts))
+name-is (x ∷ xs) h = (refl, leb-true (length (x ∷ xs)) name-width (search parts))
 
 module _ (t : Tables) (val : Valid t) where
   pub request-passed : (c m f : ℕ) (n : List ℕ) → request-refusal c m f n t ≡ 0 → Requestable c m n t

@@ -12,7 +12,7 @@ use Rattle.modes.specs.Modes.{down}
 use Rattle.modes.proofs.Laws.{compatible-sym, down-use}
 use Rattle.tables.specs.declared.Lock.{Lock}
 use Rattle.tables.specs.Lists.{within, count, remove, all, first-that, null}
-use Rattle.tables.specs.State.{Resource, Tables, no-lock, denied-lock, no-resource, lock, resource, granted, converting, waiting, blocked-lock, holds, noticed, shift, shift-front, relist, move, move-resource, grants, converts, waits, blocked, notices, queue}
+use Rattle.tables.specs.State.{Resource, Tables, no-lock, denied-lock, no-resource, lock, resource, granted, converting, waiting, blocked-lock, holds, noticed, shift, shift-front, relist, move, move-resource, grants, converts, waits, blocked, notices, queue, last-mode, value-width}
 use Rattle.tables.specs.Grants.{holders, fits, convert-grantable, empty}
 use Rattle.tables.proofs.Cases.{by-cases, by-equal, clash, eqb-same, and-left, and-right, or-left, or-right, nor-left, nor-right}
 use Rattle.tables.proofs.Counts.{count-nil, first-in, head-in, null-nil}
@@ -127,7 +127,7 @@ module _ (t : Tables) (c : Core t) (r k : ℕ) (e : lock t k .resource ≡ r) (r
       (then-stop t c r k no-lock rest w (λ z. e) (λ z. absurd (z refl)) refl (λ z. clash false z refl) _ (free-gained r k no-lock t stands refl) v)
 
 -- RELEASE
-pub release-after : (k f : ℕ) (v : List ℕ) (t : Tables) → Valid t → granted (lock t k) ≡ true → (stores f ≡ true → length v ≡ 32) →
+pub release-after : (k f : ℕ) (v : List ℕ) (t : Tables) → Valid t → granted (lock t k) ≡ true → (stores f ≡ true → length v ≡ value-width) →
     After t (release-change k f v t .tables) (k ∷ t .free-locks)
 unfolding release-change
 release-after k f v t val g right =
@@ -358,7 +358,7 @@ convert-fits k m t c g h =
     (compatible-sym (lock t k .held) (lock t j .held) ∙ c .agree j k n o (or-left _ _ g) e))
     (λ d. fits-true t (c .linked) (lock t k .resource) k m (and-right (null (resource t (lock t k .resource) .convert)) _ (rw d at h)))
 
-in-place-after : (k m : ℕ) (b : Bool) (f : ℕ) (v : List ℕ) (t : Tables) → Valid t → granted (lock t k) ≡ true → m ≤ 5 → (stores f ≡ true → length v ≡ 32) → in-place k m t ≡ true →
+in-place-after : (k m : ℕ) (b : Bool) (f : ℕ) (v : List ℕ) (t : Tables) → Valid t → granted (lock t k) ≡ true → m ≤ last-mode → (stores f ≡ true → length v ≡ value-width) → in-place k m t ≡ true →
     After t (sweep (lock t k .resource) (move (lock t k .resource) k (held-at m (lock t k)) (leave-value b f v (lock t k .resource) t))) (t .free-locks)
 in-place-after k m b f v t val g low right h =
     let r = lock t k .resource in
@@ -380,7 +380,7 @@ in-place-after k m b f v t val g low right h =
     (then-sweep t0 (q .core) r k l (λ s n. q .settled s (val .settled s)) w near (λ z. refl) ok fit _ (free-kept r k l t0 (rw (q .lock-is k, s)) refl)
     (granted-full t0 r k l (core-move r k l t0 (q .core) w near (λ z. refl) ok fit) w refl refl))
 
-queue-after : (k m : ℕ) (t : Tables) → Valid t → granted (lock t k) ≡ true → m ≤ 5 → in-place k m t ≡ false →
+queue-after : (k m : ℕ) (t : Tables) → Valid t → granted (lock t k) ≡ true → m ≤ last-mode → in-place k m t ≡ false →
     After t (move (lock t k .resource) k (asking m (lock t k)) t) (t .free-locks)
 unfolding in-place
 queue-after k m t val g low h =
@@ -434,7 +434,7 @@ queue-after k m t val g low h =
         head-still t c r k l c1 w (rw s) grows x (xs ++ resource t r .wait) ((xs ++ (k ∷ [])) ++ resource t r .wait)
         (unfold line in rw e) (joins ∙ rw e) (val .settled r .still)
 
-pub convert-after : (k m f : ℕ) (v : List ℕ) (t : Tables) → Valid t → granted (lock t k) ≡ true → m ≤ 5 → (stores f ≡ true → length v ≡ 32) →
+pub convert-after : (k m f : ℕ) (v : List ℕ) (t : Tables) → Valid t → granted (lock t k) ≡ true → m ≤ last-mode → (stores f ≡ true → length v ≡ value-width) →
     After t (convert-change k m f v t .tables) (t .free-locks)
 unfolding convert-change
 convert-after k m f v t val g low right =

@@ -7,7 +7,7 @@ use native.Mathlib.Omega.{arith}
 use lib.ListN.{length, length-drop}
 use lib.Dec.{eqb}
 use Rattle.tables.specs.Lists.{within, count, keep, null, from}
-use Rattle.tables.specs.State.{Tables, lock, granted, converting, blocked-lock, LockChain, chain, belongs, free-locks}
+use Rattle.tables.specs.State.{Tables, lock, granted, converting, blocked-lock, LockChain, chain, belongs, free-locks, last-client, last-mode, name-width, value-width}
 use Rattle.tables.proofs.Cases.{by-cases}
 use Rattle.tables.proofs.Counts.{count-kept, kept-once, null-some}
 use Rattle.tables.specs.Validity.{Core, Valid}
@@ -52,7 +52,7 @@ after-count t t′ fs c a = omega (arith, used-free t c, used-free t′ (a .vali
 
 -- the counting equation of each call
 module _ (t : Tables) (val : Valid t) where
-  pub release-count : (k f : ℕ) (v : List ℕ) → granted (lock t k) ≡ true → (stores f ≡ true → length v ≡ 32) → used-locks (release-change k f v t .tables) + 1 ≡ used-locks t
+  pub release-count : (k f : ℕ) (v : List ℕ) → granted (lock t k) ≡ true → (stores f ≡ true → length v ≡ value-width) → used-locks (release-change k f v t .tables) + 1 ≡ used-locks t
   release-count k f v g right = omega (arith, after-count t _ _ (val .core) (release-after k f v t val g right))
 
   pub cancel-count : (k : ℕ) → blocked-lock (lock t k) ≡ true → used-locks (cancel-change k t .tables) + cond (converting (lock t k)) 0 1 ≡ used-locks t
@@ -60,7 +60,7 @@ module _ (t : Tables) (val : Valid t) where
       let e = after-count t _ _ (val .core) (cancel-after k t val b) in
       by-cases (converting (lock t k)) (λ h. rw h (omega (arith, rw h at e))) (λ h. rw h (omega (arith, rw h at e)))
 
-  pub convert-count : (k m f : ℕ) (v : List ℕ) → granted (lock t k) ≡ true → m ≤ 5 → (stores f ≡ true → length v ≡ 32) → used-locks (convert-change k m f v t .tables) ≡ used-locks t
+  pub convert-count : (k m f : ℕ) (v : List ℕ) → granted (lock t k) ≡ true → m ≤ last-mode → (stores f ≡ true → length v ≡ value-width) → used-locks (convert-change k m f v t .tables) ≡ used-locks t
   convert-count k m f v g low right = omega (arith, after-count t _ _ (val .core) (convert-after k m f v t val g low right))
 
   pub poll-count : (c : ℕ) → used-locks (poll-change c t .tables) + cond (eqb (poll-change c t .said .answer) 2) 1 0 ≡ used-locks t
@@ -75,7 +75,7 @@ module _ (t : Tables) (val : Valid t) where
   unfolding purge-change
   purge-count c low = omega (arith, after-count t _ _ (val .core) (purge-after c t low val), length-pushed (locks-of c t) (t .free-locks))
 
-  pub request-count : (c m : ℕ) (n : List ℕ) → 1 ≤ c → c ≤ 255 → m ≤ 5 → null n ≡ false → length n ≤ 64 →
+  pub request-count : (c m : ℕ) (n : List ℕ) → 1 ≤ c → c ≤ last-client → m ≤ last-mode → null n ≡ false → length n ≤ name-width →
       (not (eqb (find n t) 0) || not (null (t .free-resources))) ≡ true → null (t .free-locks) ≡ false →
       used-locks (request-change c m n t .tables) ≡ used-locks t + 1
   request-count c m n low high mode some short room left =

@@ -8,7 +8,7 @@ use native.Mathlib.Omega.{arith}
 use lib.ListN.{length, length-replicate}
 use lib.Dec.{eqb, eqb·suc-zero}
 use Rattle.tables.specs.Lists.{within, count, bit, keep, first-that, first, null, from}
-use Rattle.tables.specs.State.{Resource, Tables, no-lock, no-resource, lock, resource, started, converting, LockChain, chain, belongs, grants, converts, waits, free-locks, denied, blocked, notices, queue}
+use Rattle.tables.specs.State.{Resource, Tables, no-lock, no-resource, lock, resource, started, converting, LockChain, chain, belongs, grants, converts, waits, free-locks, denied, blocked, notices, queue, most-resources, most-locks}
 use Rattle.tables.specs.Grants.{admits}
 use Rattle.tables.proofs.Cases.{by-cases, clash}
 use Rattle.tables.proofs.Counts.{count-nil, count-from}
@@ -60,7 +60,7 @@ module _ (r l : ℕ) where
   unfolding started
   sizes = (length-replicate l no-lock, length-replicate r no-resource)
 
-  pub started-valid : 1 ≤ r → r ≤ 256 → 1 ≤ l → l ≤ 1024 → Valid (started r l)
+  pub started-valid : 1 ≤ r → r ≤ most-resources → 1 ≤ l → l ≤ most-locks → Valid (started r l)
   started-valid a b c d =
       record {
         core = record {

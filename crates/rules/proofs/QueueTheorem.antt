@@ -9,7 +9,7 @@ use lib.ListN.{length}
 use lib.Dec.{eqb}
 use borrow.Author.Tests.{leb-true}
 use Rattle.tables.specs.Lists.{count, from}
-use Rattle.tables.specs.State.{Tables, lock, started}
+use Rattle.tables.specs.State.{Tables, lock, started, most-resources, most-locks}
 use Rattle.tables.specs.Layout.{read-lock, words, slots}
 use Rattle.tables.proofs.Cases.{parts}
 use Rattle.tables.proofs.Counts.{from-in, keep-cong}
@@ -96,7 +96,7 @@ from-start P r l h t = go (start-accepts (t .words) (t .slots) r l) refl
     go : (b : Bool) → start-accepts (t .words) (t .slots) r l ≡ b → start-if b t r l .said .refusal ≡ 0 → P (start-if b t r l .lent-after)
     go false e z = absurd (omega arith)
     go true e z =
-        h (started-valid r l (leb-true 1 r (search parts depth 20)) (leb-true r 256 (search parts depth 20)) (leb-true 1 l (search parts depth 20)) (leb-true l 1024 (search parts depth 20)))
+        h (started-valid r l (leb-true 1 r (search parts depth 20)) (leb-true r most-resources (search parts depth 20)) (leb-true 1 l (search parts depth 20)) (leb-true l most-locks (search parts depth 20)))
 
 pub queue-theorem : QueueTheorem
 queue-theorem t r l accepted cs = from-start (Demand cs) r l (λ val. demand cs (started r l) val (started-none r l)) t accepted

@@ -10,7 +10,7 @@ use lib.Dec.{eqb, leb}
 use borrow.Author.Tests.{leb-true, leb-false, not-true}
 use Rattle.tables.specs.declared.Lock.{Lock}
 use Rattle.tables.specs.Lists.{within, count, remove, first, null, from, same}
-use Rattle.tables.specs.State.{Resource, Tables, no-lock, lock, resource, holds, LockChain, chain, shift, relist, move, move-resource, grants, converts, waits, free-locks, queue}
+use Rattle.tables.specs.State.{Resource, Tables, no-lock, lock, resource, holds, LockChain, chain, shift, relist, move, move-resource, grants, converts, waits, free-locks, queue, last-client, last-mode, name-width}
 use Rattle.tables.specs.Grants.{fits, admits}
 use Rattle.tables.proofs.Cases.{by-cases, clash, eqb-same, and-right, and-intro}
 use Rattle.tables.proofs.Counts.{count-same, remove-head, count-from, nil-of-counts, same-eq, same-refl, first-passes, first-none}
@@ -28,7 +28,7 @@ front-nil (x ∷ xs) ys e = absurd (omega (arith, ap length e))
 
 -- a free lock enters on a resource in use
 module _ (t : Tables) (co : Core t) (r k c m : ℕ) (ks : List ℕ) (rest : (s : ℕ) → s ≢ r → Settled t s) (u : used t r ≡ true) (i : idle t r (line t r) ≡ true)
-    (frees : t .free-locks ≡ k ∷ ks) (low : 1 ≤ c) (high : c ≤ 255) (mode : m ≤ 5) where
+    (frees : t .free-locks ≡ k ∷ ks) (low : 1 ≤ c) (high : c ≤ last-client) (mode : m ≤ last-mode) where
   mem : 1 ≤ count k (chain t free-locks)
   mem = rw (frees, count-same) (omega arith)
 
@@ -137,7 +137,7 @@ first-member [] h = clash true refl h
 first-member (x ∷ xs) h = rw count-same (omega arith)
 
 -- an accepted request takes the first free lock
-module _ (c m : ℕ) (n : List ℕ) (t : Tables) (val : Valid t) (low : 1 ≤ c) (high : c ≤ 255) (mode : m ≤ 5) (some : null n ≡ false) (short : length n ≤ 64) where
+module _ (c m : ℕ) (n : List ℕ) (t : Tables) (val : Valid t) (low : 1 ≤ c) (high : c ≤ last-client) (mode : m ≤ last-mode) (some : null n ≡ false) (short : length n ≤ name-width) where
   on-old : (r k : ℕ) (ks : List ℕ) → find n t ≡ suc r → t .free-locks ≡ k ∷ ks → After t (request-on (suc r) k c m t .tables) ks
   unfolding request-on
   on-old r k ks e frees =

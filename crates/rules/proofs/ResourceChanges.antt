@@ -9,7 +9,7 @@ use lib.ListN.{length}
 use borrow.Author.Tests.{not-true}
 use Rattle.tables.specs.declared.Lock.{Lock}
 use Rattle.tables.specs.Lists.{within, count, bit, null}
-use Rattle.tables.specs.State.{Resource, Tables, no-value, no-resource, lock, resource, LockChain, chain, belongs, move-resource, grants, converts, waits, free-locks, denied, blocked, notices, queue}
+use Rattle.tables.specs.State.{Resource, Tables, no-value, no-resource, lock, resource, LockChain, chain, belongs, move-resource, grants, converts, waits, free-locks, denied, blocked, notices, queue, value-width}
 use Rattle.tables.specs.Grants.{holders, fits, convert-grantable, empty}
 use Rattle.tables.proofs.Cases.{by-cases, by-equal, clash, eqb-same, and-left, and-right}
 use Rattle.tables.proofs.Counts.{length-put, nth-put-same, nth-put-other, count-front, count-front-other, count-nil, null-nil}
@@ -162,7 +162,7 @@ module _ (r : ℕ) (x : Resource) (t : Tables) (w : within (length (t .resources
   pub settled-kept : s ≢ r → Settled t s → Settled (move-resource r x t) s
   settled-kept n h = record { still = rw idle-kept (h .still); peopled = rw (used-unchanged r x t s n, unchanged r x t s n) (h .peopled) }
 
-pub no-value-length : length no-value ≡ 32
+pub no-value-length : length no-value ≡ value-width
 unfolding no-value
 no-value-length = refl
 
@@ -194,7 +194,7 @@ module _ (f : ℕ) (v : List ℕ) (x : Resource) where
   unfolding with-value
   value-name = refl
 
-  value-ok : (stores f ≡ true → length v ≡ 32) → null (x .name) ≡ false → ResourceOk x → ResourceOk (with-value f v x)
+  value-ok : (stores f ≡ true → length v ≡ value-width) → null (x .name) ≡ false → ResourceOk x → ResourceOk (with-value f v x)
   unfolding with-value
   value-ok h n ok =
       record {
@@ -215,7 +215,7 @@ pub record Quiet (t t′ : Tables) : Type 0 where
   pub locks-are : length (t′ .locks) ≡ length (t .locks)
   pub resources-are : length (t′ .resources) ≡ length (t .resources)
 
-value-quiet : (f : ℕ) (v : List ℕ) (r : ℕ) (t : Tables) → (stores f ≡ true → length v ≡ 32) → used t r ≡ true → Core t → Quiet t (move-resource r (with-value f v (resource t r)) t)
+value-quiet : (f : ℕ) (v : List ℕ) (r : ℕ) (t : Tables) → (stores f ≡ true → length v ≡ value-width) → used t r ≡ true → Core t → Quiet t (move-resource r (with-value f v (resource t r)) t)
 unfolding move-resource
 value-quiet f v r t right u c =
     let w = used-within t r u in
@@ -234,7 +234,7 @@ value-quiet f v r t right u c =
       resources-are = resources-kept r x t;
     }
 
-pub leave-quiet : (b : Bool) (f : ℕ) (v : List ℕ) (r : ℕ) (t : Tables) → (stores f ≡ true → length v ≡ 32) → (b ≡ true → used t r ≡ true) → Core t → Quiet t (leave-value b f v r t)
+pub leave-quiet : (b : Bool) (f : ℕ) (v : List ℕ) (r : ℕ) (t : Tables) → (stores f ≡ true → length v ≡ value-width) → (b ≡ true → used t r ≡ true) → Core t → Quiet t (leave-value b f v r t)
 unfolding leave-value
 leave-quiet false f v r t right u c =
     record { core = c; settled = λ s h. h; lock-is = λ k. refl; used-is = λ s. refl; free-is = refl; locks-are = refl; resources-are = refl }

@@ -7,7 +7,7 @@ use lib.Dec.{eqb, leb, ltb}
 use Rattle.modes.specs.Modes.{down}
 use Rattle.tables.specs.Lists.{within, any, keep, first, first-that, null, from}
 use Rattle.tables.specs.declared.Lock.{Lock}
-use Rattle.tables.specs.State.{Resource, Tables, name-width, value-width, no-value, new-lock, denied-lock, changed-lock, lock, resource, granted, converting, blocked-lock, unread, move, move-resource, state-free, state-granted, state-converting, state-waiting, completion-none, completion-denied, completion-conversion-denied}
+use Rattle.tables.specs.State.{Resource, Tables, name-width, value-width, no-value, new-lock, denied-lock, changed-lock, lock, resource, granted, converting, blocked-lock, unread, move, move-resource, state-free, state-granted, state-converting, state-waiting, completion-none, completion-denied, completion-conversion-denied, last-mode}
 use Rattle.tables.specs.Grants.{holders, fits, admits}
 use Rattle.tables.specs.Sound.{client-right}
 use Rattle.rules.specs.Queues.{sweep, free-lock, settle, find}
@@ -128,7 +128,7 @@ at-once (suc r) m t = admits t (suc r) m
 
 unfoldable pub request-refusal : ℕ → ℕ → ℕ → List ℕ → Tables → ℕ
 request-refusal c m f n t =
-    unless (client-right c) 3 (unless (leb m 5) 4 (unless (request-flags f) 5 (unless (name-right n) 6
+    unless (client-right c) 3 (unless (leb m last-mode) 4 (unless (request-flags f) 5 (unless (name-right n) 6
     (unless (not (eqb (find n t) 0) || not (null (t .free-resources))) 11 (unless (not (null (t .free-locks))) 12
     (unless (not (no-queue f) || at-once (find n t) m t) 13 0))))))
 
@@ -157,7 +157,7 @@ convert-change k m f v t =
 
 unfoldable pub convert-refusal : ℕ → ℕ → ℕ → ℕ → List ℕ → Tables → ℕ
 convert-refusal c k m f v t =
-    unless (client-right c) 3 (unless (leb m 5) 4 (unless (convert-flags f) 5 (unless (value-right f v) 7 (unless (own c k t) 8
+    unless (client-right c) 3 (unless (leb m last-mode) 4 (unless (convert-flags f) 5 (unless (value-right f v) 7 (unless (own c k t) 8
     (unless (not (unread (lock t k))) 9 (unless (granted (lock t k)) 10 (unless (not (no-queue f) || in-place k m t) 13 0)))))))
 
 unfoldable pub convert : ℕ → ℕ → ℕ → ℕ → List ℕ → Tables → Step

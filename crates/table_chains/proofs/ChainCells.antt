@@ -5,7 +5,7 @@ use mathlib.Core.List.{List}
 use Prim.Native.Nat.{ℕ, _+_, _*_, _-_, _<_, _≤_}
 use native.Mathlib.Omega.{arith}
 use lib.ListN.{getD, length}
-use Rattle.tables.specs.State.{Tables, free-locks, denied, blocked, notices, queue, Chain, free-resources, of-locks, chain-of}
+use Rattle.tables.specs.State.{Tables, free-locks, denied, blocked, notices, queue, Chain, free-resources, of-locks, chain-of, most-resources, most-locks}
 use Rattle.tables.specs.Layout.{Address, place, size, head, link, cell, words, resources-in, locks-in, most}
 use Rattle.tables.specs.Threads.{Absent}
 use Rattle.tables.proofs.Links.{each-on}
@@ -82,7 +82,7 @@ module _ (t : Tables) (ws : List ℕ) (is : ws ≡ words t) where
   pub locks-is : locks-in ws ≡ length (t .locks)
   locks-is = ap (λ (x : List ℕ). getD x 1 0) is ∙ locks-word t
 
-  pub sized-is : length (t .resources) ≤ 256 → length (t .locks) ≤ 1024 → Sized ws
+  pub sized-is : length (t .resources) ≤ most-resources → length (t .locks) ≤ most-locks → Sized ws
   sized-is p q =
       record {
         long = ap length is ∙ length-words t ∙ ap₂ size (sym resources-is) (sym locks-is);

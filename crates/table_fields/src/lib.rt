@@ -15,6 +15,11 @@ pub const MOST_RESOURCES: usize = 256;
 
 pub const MOST_LOCKS: usize = 1024;
 
+// Places for what is kept of each record, at its number; 0 is no record's.
+pub const RESOURCE_PLACES: usize = MOST_RESOURCES + 1;
+
+pub const LOCK_PLACES: usize = MOST_LOCKS + 1;
+
 // Rows.
 pub const HEADER_WORDS: usize = 8;
 

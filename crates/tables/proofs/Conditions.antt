@@ -10,7 +10,7 @@ use lib.Seq.{length-take-le}
 use lib.Dec.{eqb}
 use borrow.Author.Tests.{eqb-true, eq-eqb, ne-eqb, leb-true}
 use Rattle.tables.specs.Lists.{within, count, bit, all, from, next, same}
-use Rattle.tables.specs.State.{Resource, Tables, name-width, lock, resource, grants, converts, waits, LockChain, free-locks, denied, blocked, notices, queue, Chain, free-resources, of-locks, chain, chain-of, belongs}
+use Rattle.tables.specs.State.{Resource, Tables, name-width, lock, resource, grants, converts, waits, LockChain, free-locks, denied, blocked, notices, queue, Chain, free-resources, of-locks, chain, chain-of, belongs, most-resources, most-locks}
 use Rattle.tables.specs.Layout.{of-header, of-resource, of-lock, size, head, slot-width, resources-in, locks-in, word-in, most, link-in, read-chain, slot-in, read-resource, read}
 use Rattle.tables.specs.Sound.{sizes-right, zeros-right, resource-index, lock-index, indices-right, chain-ends, chains-end, all-zero, free-resource-right, name-unique, used-resource-right, resource-right, stands-right, home-right, fields-right, lock-right, linked-right, holders-compatible, state-right, sound}
 use Rattle.tables.specs.Grants.{no-grantable-head}
@@ -105,17 +105,17 @@ module _ (ws ss : List ℕ) (h : sound ws ss ≡ true) where
   unfolding sizes-right
   resources-low = let z = sizes in leb-true 1 (resources-in ws) (search parts depth 20)
 
-  pub resources-high : resources-in ws ≤ 256
+  pub resources-high : resources-in ws ≤ most-resources
   unfolding sizes-right
-  resources-high = let z = sizes in leb-true (resources-in ws) 256 (search parts depth 20)
+  resources-high = let z = sizes in leb-true (resources-in ws) most-resources (search parts depth 20)
 
   pub locks-low : 1 ≤ locks-in ws
   unfolding sizes-right
   locks-low = let z = sizes in leb-true 1 (locks-in ws) (search parts depth 20)
 
-  pub locks-high : locks-in ws ≤ 1024
+  pub locks-high : locks-in ws ≤ most-locks
   unfolding sizes-right
-  locks-high = let z = sizes in leb-true (locks-in ws) 1024 (search parts depth 20)
+  locks-high = let z = sizes in leb-true (locks-in ws) most-locks (search parts depth 20)
 
   pub words-sized : length ws ≡ size (resources-in ws) (locks-in ws)
   unfolding sizes-right

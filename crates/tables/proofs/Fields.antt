@@ -6,7 +6,7 @@ use Prim.Native.Nat.{ℕ, zero, suc, _≤_}
 use native.Mathlib.Omega.{arith}
 use lib.Dec.{eqb}
 use borrow.Author.Tests.{eqb-true, eq-eqb, ne-eqb, leb-true, le-leb}
-use Rattle.tables.specs.State.{Lock, Tables}
+use Rattle.tables.specs.State.{Lock, Tables, last-client}
 use Rattle.tables.specs.Sound.{client-right, modes-right, on-resource, fields-right}
 use Rattle.tables.proofs.Cases.{by-equal, clash, and-intro, or-left, or-right, parts}
 use Rattle.tables.specs.Validity.{used, Place, StateOk}
@@ -15,11 +15,11 @@ on-used : (t : Tables) (l : Lock) → on-resource t l ≡ used t (l .resource)
 unfolding on-resource used
 on-used t l = refl
 
-pub client-is : (c : ℕ) → client-right c ≡ true → (1 ≤ c) × (c ≤ 255)
+pub client-is : (c : ℕ) → client-right c ≡ true → (1 ≤ c) × (c ≤ last-client)
 unfolding client-right
-client-is c h = (leb-true 1 c (search parts), leb-true c 255 (search parts))
+client-is c h = (leb-true 1 c (search parts), leb-true c last-client (search parts))
 
-is-client : (c : ℕ) → 1 ≤ c → c ≤ 255 → client-right c ≡ true
+is-client : (c : ℕ) → 1 ≤ c → c ≤ last-client → client-right c ≡ true
 unfolding client-right
 is-client c p q = search (and-intro, le-leb)
 

@@ -45,7 +45,7 @@ pub record UsedResource (ws ss : List ℕ) (r : ℕ) : Type 0 where
   pub not-free : count r (read ws ss .free-resources) ≡ 0
   pub next-zero : word-in ws (of-resource r 0) ≡ 0
   pub name-low : 1 ≤ word-in ws (of-resource r 4)
-  pub name-high : word-in ws (of-resource r 4) ≤ 64
+  pub name-high : word-in ws (of-resource r 4) ≤ name-width
   pub zero-after : all-zero (drop (word-in ws (of-resource r 4)) (take name-width (slot-in ss r))) ≡ true
   pub no-other : (s : ℕ) → 1 ≤ s → s ≤ resources-in ws → s ≢ r → resource (read ws ss) s .name ≢ resource (read ws ss) r .name
   pub flag : word-in ws (of-resource r 5) ≤ 1
@@ -131,7 +131,7 @@ module _ (ws ss : List ℕ) (h : sound ws ss ≡ true) (r : ℕ) (low : 1 ≤ r)
         not-free = eqb-true _ 0 (search parts depth 20);
         next-zero = eqb-true _ 0 (search parts depth 20);
         name-low = e;
-        name-high = leb-true _ 64 (search parts depth 20);
+        name-high = leb-true _ name-width (search parts depth 20);
         zero-after = search parts depth 20;
         no-other = λ s p q. names-differ (read ws ss) r (search parts depth 20) s p (rw (resources-read ws ss) q);
         flag = leb-true _ 1 (search parts depth 20);

@@ -54,6 +54,19 @@ pub record Tables : Type 0 where
   pub blocked : List ℕ
   pub notices : List ℕ
 
+-- how many resources and locks tables may have at most; clients are 1 to the last, modes 0 to the last
+abbrev pub most-resources : ℕ
+most-resources = 256
+
+abbrev pub most-locks : ℕ
+most-locks = 1024
+
+abbrev pub last-client : ℕ
+last-client = 255
+
+abbrev pub last-mode : ℕ
+last-mode = 5
+
 -- the widths of a resource's slot: a name of at most 64 bytes, and its value block
 abbrev pub name-width : ℕ
 name-width = 64
