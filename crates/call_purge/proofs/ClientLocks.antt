@@ -10,14 +10,14 @@ use borrow.Author.Needs.{needs}
 use borrow.Author.Tests.{eq-eqb, ne-eqb}
 use Rattle.tables.specs.declared.Lock.{Lock}
 use Rattle.tables.specs.Lists.{count}
-use Rattle.tables.specs.State.{Tables, lock}
+use Rattle.tables.specs.State.{Tables, lock, most-locks}
 use Rattle.tables.specs.Layout.{words, slots, locks-in, read-lock}
 use Rattle.tables.proofs.Cases.{by-cases}
 use Rattle.tables.proofs.Counts.{within-le, le-within, count-same, count-step}
 use Rattle.tables.specs.Validity.{used, StateOk, Core}
 use Rattle.tables.proofs.Valid.{used-within}
 use Rattle.rules.specs.Calls.{locks-of, purge-lock, purge-locks}
-use Rattle.table_fields.specs.Sizes.{Sized}
+use Rattle.table_fields.specs.Sizes.{Sized, resource-places}
 use Rattle.table_chains.specs.Contracts.{Changes}
 use Rattle.table_chains.proofs.ChainCells.{locks-is, sized-is}
 use Rattle.queues.specs.Contracts.{Locked, SomeTables}
@@ -63,13 +63,13 @@ module _ (c k : ℕ) (t : Tables) where
       (λ h. rw (other-kept h) (record { core = p .core; lock-is = λ j n. refl; locks-are = refl; resources-are = refl }))
 
 -- a lock's resource has a place among the marks
-resource-few : (k : ℕ) (t : Tables) → Core t → lock t k .resource < 257
+resource-few : (k : ℕ) (t : Tables) → Core t → lock t k .resource < resource-places
 resource-few k t co = go (lock t k .state) (co .lock-ok k)
   where
-    inside : used t (lock t k .resource) ≡ true → lock t k .resource < 257
+    inside : used t (lock t k .resource) ≡ true → lock t k .resource < resource-places
     inside u = omega (arith, within-le (length (t .resources)) (lock t k .resource) (used-within t (lock t k .resource) u) .1, co .resources-high)
 
-    go : (n : ℕ) → StateOk (used t) (lock t k) n → lock t k .resource < 257
+    go : (n : ℕ) → StateOk (used t) (lock t k) n → lock t k .resource < resource-places
     go zero ok = rw ok (omega arith)
     go (suc zero) ok = inside (ok .place .in-use)
     go (suc (suc zero)) ok = inside (ok .place .in-use)
@@ -79,9 +79,9 @@ resource-few k t co = go (lock t k .state) (co .lock-ok k)
 
 -- purge_own
 module _ (c k : ℕ) (a sa : List ℕ) (l : Lock) (el : l ≡ read-lock a k) where
-  pub own-place : (x : ℕ) (m : List Bool) → (x ≡ l .resource) × (x < 2 ^ 32) → SomeTables (Locked k) a sa → length m ≡ 257 → x < length m
+  pub own-place : (x : ℕ) (m : List Bool) → (x ≡ l .resource) × (x < 2 ^ 32) → SomeTables (Locked k) a sa → length m ≡ resource-places → x < length m
   own-place x m e s w =
-      let q : l .resource < 257 = rw (lock-told k a sa l el (s .state) (s .good) (s .is)) (resource-few k (s .state) (s .good .core)) in
+      let q : l .resource < resource-places = rw (lock-told k a sa l el (s .state) (s .good) (s .is)) (resource-few k (s .state) (s .good .core)) in
       omega arith
 
   pub own-none : (m : List Bool) → (l .client ≡ c → ⊥) → Frees (Locked k) (purge-own c k) (mark-own c k m) (count-own c k) a sa a sa m 0
@@ -189,9 +189,9 @@ pub record Going (c last k : ℕ) (a sa : List ℕ) (m₀ : List Bool) (b sb : L
   pub words-size : length b ≡ length a
   pub slots-size : length sb ≡ length sa
   pub marks-size : length m ≡ length m₀
-  pub wide : length m ≡ 257
+  pub wide : length m ≡ resource-places
   pub few : n < k
-  pub last-few : last ≤ 1024
+  pub last-few : last ≤ most-locks
   pub locks-are : locks-in b ≡ last
   pub then : (t : Tables) → Core t → a ≡ words t → sa ≡ slots t → Goes c last k t m₀ b sb m n
 
@@ -199,7 +199,7 @@ pub core-sized : (a sa : List ℕ) → SomeTables Core a sa → Sized a
 core-sized a sa s = sized-is (s .state) a (s .is) (s .good .resources-high) (s .good .locks-high)
 
 module _ (c last : ℕ) (a sa : List ℕ) (m₀ : List Bool) where
-  pub purge-starts : SomeTables Core a sa → length m₀ ≡ 257 → last ≡ locks-in a → Going c last 1 a sa m₀ a sa m₀ 0
+  pub purge-starts : SomeTables Core a sa → length m₀ ≡ resource-places → last ≡ locks-in a → Going c last 1 a sa m₀ a sa m₀ 0
   unfolding purge-all mark-all count-all
   purge-starts s w e =
       record {

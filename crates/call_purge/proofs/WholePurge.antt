@@ -24,6 +24,7 @@ use Rattle.rules.specs.Entries.{lent}
 use Rattle.rules.specs.Calls.{accepted, locks-of, purge-lock, purge-locks, stands-on, settle-all, purge-change}
 use Rattle.rules.proofs.QueueTheorem.{keep-cong}
 use Rattle.rules.specs.Accepted.{Purgeable}
+use Rattle.table_fields.specs.Sizes.{resource-places}
 use Rattle.table_chains.specs.Contracts.{Changes}
 use Rattle.queues.specs.Contracts.{SomeTables}
 use Rattle.answers.specs.declared.Purged.the-variants as purged-cases
@@ -120,17 +121,17 @@ module _ (c : ℕ) (t : Tables) (co : Core t) where
   unfolding purge-all locks-of
   all-kept = purges-kept (locks-of c t) t co (λ j m. kept-in (λ k. eqb (lock t k .client) c) (length (t .locks)) j m .0)
 
-  marks-tell : (m : List Bool) → m ≡ mark-all c (replicate 257 false) t → (s : ℕ) → within (length (t .resources)) s ≡ true → marked m s ≡ stands-on c t s
+  marks-tell : (m : List Bool) → m ≡ mark-all c (replicate resource-places false) t → (s : ℕ) → within (length (t .resources)) s ≡ true → marked m s ≡ stands-on c t s
   unfolding mark-all
   marks-tell m e s w =
       let low = within-le (length (t .resources)) s w in
       let high = co .resources-high in
-      let none = replicate 257 false in
+      let none = replicate resource-places false in
       ap (λ (x : List Bool). marked x s) e
-      ∙ mark-told t s (locks-of c t) none (rw (length-replicate 257 false) (omega arith))
-      ∙ rw (none-marked 257 s) (stands-told c t co s (λ z. omega arith))
+      ∙ mark-told t s (locks-of c t) none (rw (length-replicate resource-places false) (omega arith))
+      ∙ rw (none-marked resource-places s) (stands-told c t co s (λ z. omega arith))
 
-  settles : (m : List Bool) → m ≡ mark-all c (replicate 257 false) t → settle-marked m (purge-all c t) ≡ purge-change c t .tables
+  settles : (m : List Bool) → m ≡ mark-all c (replicate resource-places false) t → settle-marked m (purge-all c t) ≡ purge-change c t .tables
   unfolding purge-change settle-marked purge-all
   settles m e =
       let n = length (t .resources) in
@@ -139,7 +140,7 @@ module _ (c : ℕ) (t : Tables) (co : Core t) where
       (keep-cong (marked m) (stands-on c t) (from 1 n) (λ s i. marks-tell m e s (bit-one (within n s) (rw (count-from n s) at i)))))
 
 -- purge_change
-module _ (c : ℕ) (a sa b sb : List ℕ) (m : List Bool) (x : ℕ) (f : Frees Core (purge-all c) (mark-all c (replicate 257 false)) (count-all c) a sa b sb m x) where
+module _ (c : ℕ) (a sa b sb : List ℕ) (m : List Bool) (x : ℕ) (f : Frees Core (purge-all c) (mark-all c (replicate resource-places false)) (count-all c) a sa b sb m x) where
   pub change-settles : SomeTables (Purgeable c) a sa → SomeTables Core b sb
   change-settles s =
       let co = s .good .valid .core in

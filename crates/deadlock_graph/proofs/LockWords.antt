@@ -27,7 +27,7 @@ use Rattle.table_chains.proofs.ChainCells.{resources-is, locks-is}
 use Rattle.table_chains.proofs.ChainWalks.{some-sized, grants-walk, converts-walk}
 use Rattle.table_chains.proofs.LockLimits as limits
 use Rattle.deadlock_graph.specs.Contracts.{seen, Blocked}
-use Rattle.deadlock_graph.specs.Owners.{in-way, Owned}
+use Rattle.deadlock_graph.specs.Owners.{in-way, Owned, owner-places}
 use Rattle.deadlock_graph.proofs.SameVictim.{Alike, alike}
 
 -- the state that the words tell is like that whose words they are
@@ -48,7 +48,7 @@ module _ (ws : List ℕ) (s : Some Core ws) (k : ℕ) where
   same-lock : lock (seen ws) k ≡ lock t k
   same-lock = some-alike ws s .locks k
 
-  pub client-few : lock (seen ws) k .client < 256
+  pub client-few : lock (seen ws) k .client < owner-places
   client-few = rw same-lock (limits.client-few t (s .good) k)
 
   pub held-few : lock (seen ws) k .held < 6
@@ -148,7 +148,7 @@ module _ (ws : List ℕ) (k : ℕ) where
 pub at-sized : {ws : List ℕ} {k : ℕ} → At ws k → Sized ws
 at-sized a = some-sized (a .some)
 
-pub owner-place : {ws : List ℕ} {k x : ℕ} (o : List Bool) → Owned ws k x → length o ≡ 256 → x < length o
+pub owner-place : {ws : List ℕ} {k x : ℕ} (o : List Bool) → Owned ws k x → length o ≡ owner-places → x < length o
 owner-place o w e = omega (arith, w .few)
 
 pub blocked-sized : {ws : List ℕ} {a : ℕ} → Blocked ws a → Sized ws

@@ -5,6 +5,7 @@ use mathlib.Core.List.{List, [], _∷_}
 use Prim.Native.Nat.{ℕ, suc}
 use lib.ListN.{length, getD}
 use Rattle.rules.specs.Walks.{Walk}
+use Rattle.table_fields.specs.Sizes.{lock-places}
 
 -- x has its mark
 unfoldable pub marked : List Bool → ℕ → Bool
@@ -17,5 +18,5 @@ unmarked (x ∷ xs) m = cond (marked m x) (unmarked xs m) (suc (unmarked xs m))
 
 -- no node that is marked leads back to itself
 pub record Cleared (leads : ℕ → ℕ → Bool) (nodes : List ℕ) (m : List Bool) : Type 0 where
-  pub wide : length m ≡ 1025
+  pub wide : length m ≡ lock-places
   pub none : (x : ℕ) → marked m x ≡ true → Walk leads nodes x x → ⊥

@@ -14,6 +14,7 @@ use Rattle.tables.proofs.Counts.{count-same, count-step}
 use Rattle.tables.specs.Validity.{Core}
 use Rattle.rules.specs.Deadlock.{leads, deadlocked, victim}
 use Rattle.rules.proofs.DeadlockVictim.{deadlocked-walk}
+use Rattle.table_fields.specs.Sizes.{lock-places}
 use Rattle.table_chains.specs.Contracts.{Some, Tells}
 use Rattle.deadlock_graph.specs.Contracts.{seen}
 use Rattle.deadlock_graph.specs.Chained.{onward, Walking}
@@ -34,7 +35,7 @@ blocked-below : {ws : List ℕ} → Some Core ws → (y : ℕ) → 1 ≤ count y
 blocked-below {ws} s y m = let at = blocked-at ws y (record { some = s; stands = m }) in omega (arith, at .high)
 
 module _ {ws ranks : List ℕ} {a d : ℕ} {m : List Bool} (i : Trying ws ranks a d m) where
-  pub cycle-place : a < 1025
+  pub cycle-place : a < lock-places
   cycle-place = omega (arith, blocked-below (i .stands .some) a (i .stands .stands), some-sized (i .stands .some) .few-locks)
 
   pub cycle-none : getD m a false ≡ true → false ≡ deadlocked (seen ws) a
@@ -72,8 +73,8 @@ none-ranked zero k = refl
 none-ranked (suc n) zero = refl
 none-ranked (suc n) (suc k) = none-ranked n k
 
-pub none-ranked-yet : Unranked (replicate 1025 0)
-none-ranked-yet = record { wide = length-replicate {A = ℕ} 1025 0; each = none-ranked 1025 }
+pub none-ranked-yet : Unranked (replicate lock-places 0)
+none-ranked-yet = record { wide = length-replicate {A = ℕ} lock-places 0; each = none-ranked lock-places }
 
 first-of : (p : ℕ → Bool) (xs : List ℕ) (k : ℕ) (ks : List ℕ) → xs ≡ k ∷ ks → p k ≡ true → first-that p xs ≡ k
 unfolding first-that
@@ -122,7 +123,7 @@ module _ {ws m : List ℕ} {d k : ℕ} {c : List Bool} (i : Seeking ws m d k c) 
           deep = i .deep;
         }
 
-    pub seeking-place : k < 1025
+    pub seeking-place : k < lock-places
     seeking-place =
         let below = blocked-below (i .walks .some) k (i .inside k here) in
         omega (arith, some-sized (i .walks .some) .few-locks)
@@ -164,8 +165,8 @@ none-marked zero x = refl
 none-marked (suc n) zero = refl
 none-marked (suc n) (suc x) = none-marked n x
 
-pub none-cleared : (step : ℕ → ℕ → Bool) (nodes : List ℕ) → Cleared step nodes (replicate 1025 false)
-none-cleared step nodes = record { wide = length-replicate 1025 false; none = λ x h. clash (marked (replicate 1025 false) x) h (none-marked 1025 x) }
+pub none-cleared : (step : ℕ → ℕ → Bool) (nodes : List ℕ) → Cleared step nodes (replicate lock-places false)
+none-cleared step nodes = record { wide = length-replicate lock-places false; none = λ x h. clash (marked (replicate lock-places false) x) h (none-marked lock-places x) }
 
 first-none : (p : ℕ → Bool) (xs : List ℕ) → ((j : ℕ) → 1 ≤ count j xs → p j ≡ false) → first-that p xs ≡ 0
 unfolding first-that

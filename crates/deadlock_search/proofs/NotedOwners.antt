@@ -14,7 +14,7 @@ use Rattle.tables.specs.Layout.{of-resource, of-lock, word-in}
 use Rattle.rules.specs.Deadlock.{obstacles, owner}
 use Rattle.deadlock_graph.specs.Contracts.{seen, At, Blocked}
 use Rattle.deadlock_graph.specs.Chained.{onward, Walking}
-use Rattle.deadlock_graph.specs.Owners.{in-way, Owned}
+use Rattle.deadlock_graph.specs.Owners.{in-way, Owned, owner-places}
 use Rattle.deadlock_graph.proofs.ChainWalks.{walk-splits, walk-ends, queue-onward, walk-sized, walk-low, walk-high, walk-stands, walk-less, walk-on}
 use Rattle.deadlock_graph.proofs.LockWords.{client-few, resource-told, blocked-at, at-sized, owner-place, blocked-sized, blocked-low, blocked-high, bar-low, bar-high}
 use Rattle.deadlock_graph.proofs.LineAhead.{obstacles-are}
@@ -37,11 +37,11 @@ module _ (ws : List ℕ) (a j : ℕ) (o : List Bool) (r : Bool) (e : r ≡ in-wa
 pub record Noting (ws : List ℕ) (a first : ℕ) (o₀ o : List Bool) (k : ℕ) : Type 0 where
   pub at : At ws a
   pub walks : Walking ws 0 k
-  pub wide : length o ≡ 256
+  pub wide : length o ≡ owner-places
   pub size : length o ≡ length o₀
   pub whole : note-all (seen ws) a (onward ws 0 first) o₀ ≡ note-all (seen ws) a (onward ws 0 k) o
 
-pub noting-starts : {ws : List ℕ} {a k : ℕ} {o : List Bool} → At ws a → Walking ws 0 k → length o ≡ 256 → Noting ws a k o o k
+pub noting-starts : {ws : List ℕ} {a k : ℕ} {o : List Bool} → At ws a → Walking ws 0 k → length o ≡ owner-places → Noting ws a k o o k
 noting-starts p w l = record { at = p; walks = w; wide = l; size = refl; whole = refl }
 
 pub noting-again : {ws : List ℕ} {a first k x : ℕ} {o₀ o o′ : List Bool} → Noting ws a first o₀ o k → k ≢ 0 → o′ ≡ note (seen ws) a k o →

@@ -10,14 +10,14 @@ use lib.Dec.{leb}
 use borrow.Author.Tests.{leb-true, leb-false}
 use borrow.Author.Needs.{needs}
 use Rattle.tables.specs.Lists.{count}
-use Rattle.tables.specs.State.{Tables, lock, resource, converts, waits}
+use Rattle.tables.specs.State.{Tables, lock, resource, converts, waits, most-locks}
 use Rattle.tables.specs.Layout.{of-resource, of-lock, resources-in, locks-in, word-in}
 use Rattle.tables.proofs.Cases.{by-cases, by-equal}
 use Rattle.tables.proofs.Counts.{within-le}
 use Rattle.tables.specs.Validity.{used, StateOk, Core, line}
 use Rattle.tables.proofs.Valid.{used-within}
 use Rattle.tables.proofs.ChainMembers.{line-once, blocked-place}
-use Rattle.table_fields.specs.Sizes.{Sized}
+use Rattle.table_fields.specs.Sizes.{Sized, lock-places}
 use Rattle.table_chains.specs.Contracts.{Some}
 use Rattle.deadlock_graph.specs.Contracts.{seen}
 use Rattle.deadlock_graph.specs.Chained.{onward, Walking}
@@ -32,13 +32,13 @@ use Rattle.deadlock_search.proofs.RankLaws.{rank-none, length-number, n
 
 pub record Numbering (ws : List ℕ) (first n₀ : ℕ) (m₀ m : List ℕ) (k n : ℕ) : Type 0 where
   pub walks : Walking ws 0 k
-  pub wide : length m ≡ 1025
+  pub wide : length m ≡ lock-places
   pub size : length m ≡ length m₀
   pub below : n + length (onward ws 0 k) ≤ 2048
   pub count : n₀ + length (onward ws 0 first) ≡ n + length (onward ws 0 k)
   pub whole : write-ranks n₀ (onward ws 0 first) m₀ ≡ write-ranks n (onward ws 0 k) m
 
-pub numbering-starts : {ws : List ℕ} {k n : ℕ} {m : List ℕ} → Walking ws 0 k → n ≤ 1024 → length m ≡ 1025 → Numbering ws k n m m k n
+pub numbering-starts : {ws : List ℕ} {k n : ℕ} {m : List ℕ} → Walking ws 0 k → n ≤ most-locks → length m ≡ lock-places → Numbering ws k n m m k n
 numbering-starts w h l =
     let few = some-sized (w .some) .few-locks in
     record { walks = w; wide = l; size = refl; below = omega (arith, w .short); count = refl; whole = refl }
@@ -85,7 +85,7 @@ rank-alike t u a k = rw (a .locks k, line-alike t u a (lock t k .resource))
 
 module _ {ws : List ℕ} {r : ℕ} (s : Some Core ws) (there : (1 ≤ r) × (r ≤ resources-in ws)) where
   module _ {x : ℕ} (e : x ≡ word-in ws (of-resource r 2)) where
-    pub line-last : {n : ℕ} {m m₁ : List ℕ} → Numbered ws x 0 m m₁ n → n ≤ 1024
+    pub line-last : {n : ℕ} {m m₁ : List ℕ} → Numbered ws x 0 m m₁ n → n ≤ most-locks
     line-last d = omega (arith, d .last, line-converts s there e .short, some-sized s .few-locks)
 
     module _ {y : ℕ} (h : y ≡ word-in ws (of-resource r 3)) where
@@ -103,7 +103,7 @@ module _ {ws : List ℕ} {r : ℕ} (s : Some Core ws) (there : (1 ≤ r) × (r �
 pub record RankedBelow (ws m₀ m : List ℕ) (r : ℕ) : Type 0 where
   pub some : Some Core ws
   pub low : 1 ≤ r
-  pub wide : length m ≡ 1025
+  pub wide : length m ≡ lock-places
   pub size : length m ≡ length m₀
   pub done : (k : ℕ) → 1 ≤ k → k ≤ locks-in ws → lock (seen ws) k .resource < r → getD m k 0 ≡ rank-of (seen ws) k
   pub left : (k : ℕ) → r ≤ lock (seen ws) k .resource → getD m k 0 ≡ 0
