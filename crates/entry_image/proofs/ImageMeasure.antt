@@ -9,7 +9,8 @@ use borrow.Author.Tests.{leb-true, le-leb, eqb-true, eq-eqb, not-false}
 use lib.Dec.{leb}
 use lib.ListN.{length, take, drop, replicate, length-drop, length-append, length-replicate}
 use lib.Seq.{take-all, take-at, length-take-le}
-use Rattle.tables.specs.Layout.{slot-width, resources-in, locks-in}
+use Rattle.tables.specs.State.{most-resources, most-locks}
+use Rattle.tables.specs.Layout.{slot-width, resources-in, locks-in, header-width, resource-width, lock-width}
 use Rattle.tables.specs.Sound.{sound}
 use Rattle.tables.proofs.Blocks.{getD-map-from}
 use Rattle.tables.proofs.Cases.{by-cases, clash, parts}
@@ -36,9 +37,9 @@ module _ (bs : List ℕ) where
   -- R and L are in range, and the length is right
   pub record Measure : Type 0 where
     pub resources-low : 1 ≤ word-from bs 0
-    pub resources-high : word-from bs 0 ≤ 256
+    pub resources-high : word-from bs 0 ≤ most-resources
     pub locks-low : 1 ≤ word-from bs 4
-    pub locks-high : word-from bs 4 ≤ 1024
+    pub locks-high : word-from bs 4 ≤ most-locks
     pub long : length bs ≡ 4 * image-size bs + slot-width * word-from bs 0
 
   pub measure : measures bs ≡ true → Measure
@@ -104,28 +105,28 @@ module _ (bs : List ℕ) where
     l-is : l ≡ word-from bs 4
     l-is = el .0 ∙ ey
 
-    pub words-beyond : not (leb 1 r && leb r 256 && leb 1 l && leb l 1024) ≡ true → Measured bs 0
+    pub words-beyond : not (leb 1 r && leb r most-resources && leb 1 l && leb l most-locks) ≡ true → Measured bs 0
     words-beyond h =
         unless-measure (λ m.
         let a : 1 ≤ r = rw r-is (m .resources-low) in
-        let b : r ≤ 256 = rw r-is (m .resources-high) in
+        let b : r ≤ most-resources = rw r-is (m .resources-high) in
         let c : 1 ≤ l = rw l-is (m .locks-low) in
-        let d : l ≤ 1024 = rw l-is (m .locks-high) in
-        clash false (rw (le-leb 1 r a, le-leb r 256 b, le-leb 1 l c, le-leb l 1024 d) at h) refl)
+        let d : l ≤ most-locks = rw l-is (m .locks-high) in
+        clash false (rw (le-leb 1 r a, le-leb r most-resources b, le-leb 1 l c, le-leb l most-locks d) at h) refl)
 
-    size-is : 8 + 8 * r + 9 * l ≡ image-size bs
+    size-is : header-width + resource-width * r + lock-width * l ≡ image-size bs
     size-is = rw (r-is, l-is) (omega arith)
 
-    pub words-misfit : not (leb 1 r && leb r 256 && leb 1 l && leb l 1024) ≡ false → (length bs ≡ 4 * (8 + 8 * r + 9 * l) + 96 * r → ⊥) → Measured bs 0
+    pub words-misfit : not (leb 1 r && leb r most-resources && leb 1 l && leb l most-locks) ≡ false → (length bs ≡ 4 * (header-width + resource-width * r + lock-width * l) + slot-width * r → ⊥) → Measured bs 0
     words-misfit h n = unless-measure (λ m. n (rw (size-is, r-is) (m .long)))
 
-    pub words-fit : not (leb 1 r && leb r 256 && leb 1 l && leb l 1024) ≡ false → length bs ≡ 4 * (8 + 8 * r + 9 * l) + 96 * r → Measured bs (8 + 8 * r + 9 * l)
+    pub words-fit : not (leb 1 r && leb r most-resources && leb 1 l && leb l most-locks) ≡ false → length bs ≡ 4 * (header-width + resource-width * r + lock-width * l) + slot-width * r → Measured bs (header-width + resource-width * r + lock-width * l)
     words-fit h long =
-        let t = not-false (leb 1 r && leb r 256 && leb 1 l && leb l 1024) h in
+        let t = not-false (leb 1 r && leb r most-resources && leb 1 l && leb l most-locks) h in
         let a : 1 ≤ r = leb-true 1 r (search parts depth 20) in
-        let b : r ≤ 256 = leb-true r 256 (search parts depth 20) in
+        let b : r ≤ most-resources = leb-true r most-resources (search parts depth 20) in
         let c : 1 ≤ l = leb-true 1 l (search parts depth 20) in
-        let d : l ≤ 1024 = leb-true l 1024 (search parts depth 20) in
+        let d : l ≤ most-locks = leb-true l most-locks (search parts depth 20) in
         let m : Measure = record {
           resources-low = rw (← r-is) a;
           resources-high = rw (← r-is) b;
