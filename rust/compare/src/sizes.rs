@@ -9,8 +9,9 @@ pub const SMALL: Sizes = model::lockplay::SIZES;
 pub const MIDDLE: Sizes = (64, 256);
 pub const LARGEST: Sizes = (MOST_RESOURCES, MOST_LOCKS);
 
-/// How many words the library's smaller buffers hold, into which it decodes an image; the largest one holds all (`crates/entry_image`).
-pub const BUFFERS: [usize; 2] = [128, 3072];
+/// How many words the library's smaller buffers hold, into which it decodes an image: those of tables of these sizes. The largest one holds all
+/// (`crates/entry_image`).
+pub const BUFFERS: [usize; 2] = [words((6, 8)), words((95, 256))];
 
 pub const fn words((resources, locks): Sizes) -> usize {
     layout::words(resources, locks)
