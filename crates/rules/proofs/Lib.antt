@@ -11,3 +11,4 @@ pub mod DeadlockVictim
 pub mod QueueProperties
 pub mod QueueTheorem
 pub mod BenchTable
+pub mod TheoremExamples

@@ -23,7 +23,7 @@ use Rattle.tables.specs.Validity.{used, StateOk, Valid, line, idle}
 use Rattle.tables.proofs.Valid.{used-within}
 use Rattle.tables.proofs.ChainMembers.{true-fits, on-chain, holder-within, on-queue, three-queues}
 use Rattle.tables.proofs.Links.{next-here}
-use Rattle.rules.specs.Theorem.{IsLock, IsResource, IsChain, queue-count, home-count, kept-out, convert-head, wait-head, in-use, QueuesHold}
+use Rattle.rules.specs.Theorem.{IsLock, IsResource, IsChain, queue-count, home-count, kept-out, convert-head, wait-head, conversion-waits, in-use, QueuesHold}
 
 -- res is one of 1..r + 1 exactly if it is one of 1..r, or r + 1
 bits : (q : Bool) (r res : ℕ) → bit (q && within r res) + bit (q && eqb res (suc r)) ≡ bit (q && within (suc r) res)
@@ -175,15 +175,16 @@ module _ (t : Tables) (val : Valid t) where
           let w = on-chain t (val .core .linked) (queue r converts) k (rw (e, count-same) (omega arith)) .0 in
           rw (lock-is k (is-lock k w)) (kept r k k (lock t k .asked) (λ j m v. m) (line-head r k (ks ++ resource t r .wait) (rw e)))
 
-  wait-barred : (r : ℕ) → IsResource (words t) r → wait-head (words t) r ≢ 0 → convert-head (words t) r ≡ 0 → kept-out (words t) r 0 (read-lock (words t) (wait-head (words t) r) .asked) ≡ true
+  wait-barred : (r : ℕ) → IsResource (words t) r → wait-head (words t) r ≢ 0 → (conversion-waits (words t) r || kept-out (words t) r 0 (read-lock (words t) (wait-head (words t) r) .asked)) ≡ true
   unfolding line
   wait-barred r i = rw (head-word r i waits, head-word r i converts) (go (resource t r .wait) (resource t r .convert) refl refl)
     where
-      go : (ks js : List ℕ) → resource t r .wait ≡ ks → resource t r .convert ≡ js → first ks ≢ 0 → first js ≡ 0 → kept-out (words t) r 0 (read-lock (words t) (first ks) .asked) ≡ true
-      go [] js e f n z = absurd (n refl)
-      go (k ∷ ks) (j ∷ js) e f n z =
-          absurd (omega (arith, within-le (length (t .locks)) j (on-chain t (val .core .linked) (queue r converts) j (rw (f, count-same) (omega arith)) .0)))
-      go (k ∷ ks) [] e f n z =
+      go : (ks js : List ℕ) → resource t r .wait ≡ ks → resource t r .convert ≡ js → first ks ≢ 0 → (not (eqb (first js) 0) || kept-out (words t) r 0 (read-lock (words t) (first ks) .asked)) ≡ true
+      go [] js e f n = absurd (n refl)
+      go (k ∷ ks) (j ∷ js) e f n =
+          let p = within-le (length (t .locks)) j (on-chain t (val .core .linked) (queue r converts) j (rw (f, count-same) (omega arith)) .0) in
+          rw (ne-eqb j 0 (omega arith))
+      go (k ∷ ks) [] e f n =
           let w = on-chain t (val .core .linked) (queue r waits) k (rw (e, count-same) (omega arith)) .0 in
           rw (lock-is k (is-lock k w))
           (kept r k 0 (lock t k .asked) (λ j m v q. let p = within-le (length (t .locks)) j v in omega arith) (line-head r k ks (rw (f, e))))
