@@ -7,7 +7,7 @@ use native.Mathlib.Omega.{arith}
 use lib.ListN.{length}
 use borrow.Author.Tests.{leb-true, eqb-true, not-true}
 use Rattle.tables.specs.Lists.{null}
-use Rattle.tables.specs.State.{Tables, name-width, value-width}
+use Rattle.tables.specs.State.{Tables, name-width, value-width, last-mode}
 use Rattle.tables.proofs.Cases.{clash, parts}
 use Rattle.tables.proofs.Fields.{client-is}
 use Rattle.tables.specs.Validity.{Valid}
@@ -45,7 +45,7 @@ module _ (t : Tables) (val : Valid t) where
         valid = val;
         client-low = client-is c (passed _ 2 _ h) .0;
         client-high = client-is c (passed _ 2 _ h) .1;
-        mode = leb-true m 5 (passed _ 3 _ h3);
+        mode = leb-true m last-mode (passed _ 3 _ h3);
         some = name-is n (passed _ 5 _ h5) .0;
         short = name-is n (passed _ 5 _ h5) .1;
         room = passed _ 10 _ h6;
@@ -60,7 +60,7 @@ module _ (t : Tables) (val : Valid t) where
       record {
         valid = val;
         is-granted = passed _ 9 _ (next-test _ 8 _ (next-test _ 7 _ (next-test _ 6 _ h5)));
-        mode = leb-true m 5 (passed _ 3 _ h3);
+        mode = leb-true m last-mode (passed _ 3 _ h3);
         right = right-value f v (passed _ 6 _ h5);
       }
 

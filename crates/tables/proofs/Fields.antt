@@ -6,7 +6,7 @@ use Prim.Native.Nat.{ℕ, zero, suc, _≤_}
 use native.Mathlib.Omega.{arith}
 use lib.Dec.{eqb}
 use borrow.Author.Tests.{eqb-true, eq-eqb, ne-eqb, leb-true, le-leb}
-use Rattle.tables.specs.State.{Lock, Tables, last-client}
+use Rattle.tables.specs.State.{Lock, Tables, last-client, last-mode}
 use Rattle.tables.specs.Sound.{client-right, modes-right, on-resource, fields-right}
 use Rattle.tables.proofs.Cases.{by-equal, clash, and-intro, or-left, or-right, parts}
 use Rattle.tables.specs.Validity.{used, Place, StateOk}
@@ -30,8 +30,8 @@ place-is t l r c m =
       in-use = rw (on-used t l) at r;
       client-low = client-is (l .client) c .0;
       client-high = client-is (l .client) c .1;
-      held-mode = leb-true (l .held) 5 (search parts);
-      asked-mode = leb-true (l .asked) 5 (search parts);
+      held-mode = leb-true (l .held) last-mode (search parts);
+      asked-mode = leb-true (l .asked) last-mode (search parts);
     }
 
 module _ (t : Tables) (l : Lock) (p : Place (used t) l) where
