@@ -15,7 +15,6 @@ use Rattle.tables.specs.State.{Tables, lock, converting, blocked-lock, blocked}
 use Rattle.tables.specs.Layout.{of-lock, resources-in, locks-in, word-in, read-lock, of-resource}
 use Rattle.tables.proofs.Cases.{by-cases}
 use Rattle.tables.proofs.Counts.{within-le}
-use Rattle.tables.proofs.ReadBack.{lock-read}
 use Rattle.tables.specs.Validity.{used, Core}
 use Rattle.tables.proofs.Valid.{ok-at, used-within}
 use Rattle.tables.proofs.ChainMembers.{state-within, on-chain, chain-has}
@@ -26,6 +25,7 @@ use Rattle.table_chains.specs.Walking.{At, Walking}
 use Rattle.table_chains.proofs.ChainCells.{resources-is, locks-is}
 use Rattle.table_chains.proofs.ChainWalks.{some-sized, grants-walk, converts-walk}
 use Rattle.table_chains.proofs.LockLimits as limits
+use Rattle.table_chains.proofs.LockLimits.{at-sized, held-mode, asked-mode}
 use Rattle.deadlock_graph.specs.Contracts.{seen, Blocked}
 use Rattle.deadlock_graph.specs.Owners.{in-way, Owned, owner-places}
 use Rattle.deadlock_graph.proofs.SameVictim.{Alike, alike}
@@ -60,11 +60,7 @@ module _ (ws : List ℕ) (s : Some Core ws) (k : ℕ) where
 -- the words of the lock k
 module _ (ws : List ℕ) (k : ℕ) (a : At ws k) where
   lock-seen : read-lock ws k ≡ lock (seen ws) k
-  lock-seen =
-      let s = a .some in
-      let t = s .state in
-      let high : k ≤ length (t .locks) = omega (arith, a .high, locks-told ws s) in
-      ap (λ vs. read-lock vs k) (s .is) ∙ lock-read t k (a .low) high ∙ sym (same-lock ws s k)
+  lock-seen = limits.lock-told ws k a ∙ sym (same-lock ws (a .some) k)
 
   pub resource-told : word-in ws (of-lock k 3) ≡ lock (seen ws) k .resource
   unfolding read-lock
@@ -87,13 +83,6 @@ module _ (ws : List ℕ) (k : ℕ) (a : At ws k) where
   owner-known x r e h =
       let is : r ≡ owner (lock (seen ws) k) = h .0 ∙ e ∙ client-told in
       record { is = is; few = rw is (client-few ws (a .some) k) }
-
-  -- its modes are modes
-  pub held-mode : (x : ℕ) → x ≡ word-in ws (of-lock k 6) → x < 6
-  held-mode x e = rw (e ∙ held-told) (held-few ws (a .some) k)
-
-  pub asked-mode : (x : ℕ) → x ≡ word-in ws (of-lock k 7) → x < 6
-  asked-mode x e = rw (e ∙ asked-told) (asked-few ws (a .some) k)
 
 -- whether j is in a's way
 pub way-known : (ws : List ℕ) (a j x y : ℕ) (g : Bool) → At ws a → At ws j → x ≡ word-in ws (of-lock j 6) → y ≡ word-in ws (of-lock a 7) → g ≡ compatible x y
@@ -145,9 +134,6 @@ module _ (ws : List ℕ) (k : ℕ) where
 
 -- ---- what a read of a word asks for
 
-pub at-sized : {ws : List ℕ} {k : ℕ} → At ws k → Sized ws
-at-sized a = some-sized (a .some)
-
 pub owner-place : {ws : List ℕ} {k x : ℕ} (o : List Bool) → Owned ws k x → length o ≡ owner-places → x < length o
 owner-place o w e = omega (arith, w .few)
 
@@ -171,9 +157,9 @@ module _ {ws : List ℕ} {a r : ℕ} (b : Blocked ws a) (e : r ≡ word-in ws (o
   bar-high = blocked-resource ws a r b e .1
 
   pub bar-grants : {g : ℕ} → g ≡ word-in ws (of-resource r 1) → Walking ws 0 g
-  bar-grants h = grants-walk (b .some) bar-low bar-high h
+  bar-grants h = grants-walk (b .some) (bar-low, bar-high) h
 
   pub bar-converts : {g : ℕ} → g ≡ word-in ws (of-resource r 2) → Walking ws 0 g
-  bar-converts h = converts-walk (b .some) bar-low bar-high h
+  bar-converts h = converts-walk (b .some) (bar-low, bar-high) h
 
 pub ruleset read-laws = (needs, at-sized, owner-known, held-mode, asked-mode, way-known)

@@ -1,13 +1,14 @@
 -- The chains that a walk in the words goes along are those of the state that they tell.
-use mathlib.Core.Path.{_≡_, refl, sym, ap, _∙_}
+use mathlib.Core.Path.{_≡_, refl, sym, _∙_}
 use mathlib.Core.List.{List}
 use Prim.Native.Nat.{ℕ, _≤_}
 use native.Mathlib.Omega.{arith}
 use lib.ListN.{length}
 use Rattle.tables.specs.State.{resource, Queue, blocked, queue-of}
 use Rattle.tables.specs.Layout.{of-header, of-resource, queue-head, resources-in, word-in, onward}
+use Rattle.tables.proofs.Counts.{le-within}
 use Rattle.tables.specs.Validity.{Core}
-use Rattle.table_chains.specs.Contracts.{Some}
+use Rattle.table_chains.specs.Contracts.{Some, Resourced}
 use Rattle.table_chains.proofs.ChainCells.{resources-is}
 use Rattle.table_chains.proofs.ChainWalks.{chain-onward, queue-onward}
 use Rattle.deadlock_graph.specs.Contracts.{seen}
@@ -19,5 +20,6 @@ blocked-seen ws x s e =
 
 pub queue-seen : (ws : List ℕ) → Some Core ws → (r : ℕ) (q : Queue) → 1 ≤ r → r ≤ resources-in ws → onward ws 0 (word-in ws (of-resource r (queue-head q))) ≡ queue-of q (resource (seen ws) r)
 queue-seen ws s r q low high =
-    let within : r ≤ length (s .state .resources) = omega (arith, resources-is (s .state) ws (s .is)) in
-    queue-onward (s .state) (s .good) r low within ws (s .is) q ∙ sym (alike (s .state) (s .good) ws (s .is) .queues q r)
+    let t = s .state in
+    let there : Resourced r t = record { core = s .good; in-range = le-within (length (t .resources)) r low (omega (arith, high, resources-is t ws (s .is))) } in
+    queue-onward r t there q ws (s .is) ∙ sym (alike t (s .good) ws (s .is) .queues q r)

@@ -10,18 +10,19 @@ use lib.Seq.{getD-set-same, getD-set-other}
 use borrow.Author.Needs.{needs}
 use Rattle.tables.specs.Lists.{count}
 use Rattle.tables.specs.State.{lock}
-use Rattle.tables.specs.Layout.{of-header, of-lock, word-in}
+use Rattle.tables.specs.Layout.{of-header, of-lock, word-in, onward}
 use Rattle.tables.proofs.Cases.{by-equal, clash}
 use Rattle.tables.proofs.Counts.{count-nil, count-other}
 use Rattle.tables.specs.Validity.{Core}
 use Rattle.rules.specs.Deadlock.{owner}
 use Rattle.table_fields.specs.Sizes.{lock-places}
 use Rattle.table_chains.specs.Contracts.{Some}
-use Rattle.deadlock_graph.specs.Contracts.{seen, At}
-use Rattle.deadlock_graph.specs.Chained.{onward, Walking}
+use Rattle.deadlock_graph.specs.Contracts.{seen}
 use Rattle.deadlock_graph.specs.Owners.{Owned, owner-places}
+use Rattle.table_chains.specs.Walking.{At, Walking}
+use Rattle.table_chains.proofs.ChainWalks.{some-sized, walk-splits, walk-ends, blocked-walks, walk-sized, walk-low, walk-high, walk-stands, walk-less, walk-on}
 use Rattle.deadlock_graph.specs.Marks.{marked}
-use Rattle.deadlock_graph.proofs.ChainWalks.{some-sized, walk-splits, walk-ends, blocked-walks, blocked-onward, walk-sized, walk-low, walk-high, walk-stands, walk-less, walk-on}
+use Rattle.deadlock_graph.proofs.SeenChains.{blocked-seen}
 use Rattle.deadlock_graph.proofs.LockWords.{owner-place}
 use Rattle.deadlock_prune.specs.Clearing.{is-busy, BusyNoted, Busy}
 
@@ -65,7 +66,7 @@ busy-starts {ws} {b} {k} m s l e =
       walks = blocked-walks s e;
       wide = l;
       size = refl;
-      each = λ j h z. absurd (omega (arith, h, rw (blocked-onward ws k s e) at z));
+      each = λ j h z. absurd (omega (arith, h, rw (blocked-seen ws k s e) at z));
     }
 
 module _ {ws : List ℕ} {m b₀ b : List Bool} {k : ℕ} (i : BusyBefore ws m b₀ b k) where

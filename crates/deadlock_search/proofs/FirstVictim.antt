@@ -8,7 +8,7 @@ use native.Mathlib.Omega.{arith}
 use lib.ListN.{getD, set, replicate, length-replicate}
 use borrow.Author.Needs.{needs}
 use Rattle.tables.specs.Lists.{count, first-that}
-use Rattle.tables.specs.Layout.{of-header, of-lock, locks-in, word-in}
+use Rattle.tables.specs.Layout.{of-header, of-lock, locks-in, word-in, onward}
 use Rattle.tables.proofs.Cases.{by-cases, clash}
 use Rattle.tables.proofs.Counts.{count-same, count-step}
 use Rattle.tables.specs.Validity.{Core}
@@ -16,11 +16,12 @@ use Rattle.rules.specs.Deadlock.{leads, deadlocked, victim}
 use Rattle.rules.proofs.DeadlockVictim.{deadlocked-walk}
 use Rattle.table_fields.specs.Sizes.{lock-places}
 use Rattle.table_chains.specs.Contracts.{Some, Tells}
+use Rattle.table_chains.specs.Walking.{Walking}
+use Rattle.table_chains.proofs.ChainWalks.{some-sized, walk-splits, walk-ends, walk-found, walk-passed, blocked-walks, walk-sized, walk-low, walk-high, walk-less, walk-on}
 use Rattle.deadlock_graph.specs.Contracts.{seen}
-use Rattle.deadlock_graph.specs.Chained.{onward, Walking}
 use Rattle.deadlock_graph.specs.Marks.{marked, unmarked, Cleared}
 use Rattle.deadlock_graph.proofs.SameVictim.{alike, victim-alike}
-use Rattle.deadlock_graph.proofs.ChainWalks.{some-sized, walk-splits, walk-ends, blocked-walks, blocked-onward, walk-sized, walk-low, walk-high, walk-less, walk-on}
+use Rattle.deadlock_graph.proofs.SeenChains.{blocked-seen}
 use Rattle.deadlock_graph.proofs.LockWords.{blocked-at}
 use Rattle.deadlock_graph.proofs.Marks.{mark-kept, clear-more}
 use Rattle.deadlock_prune.specs.Clearing.{Uncleared}
@@ -76,14 +77,6 @@ none-ranked (suc n) (suc k) = none-ranked n k
 pub none-ranked-yet : Unranked (replicate lock-places 0)
 none-ranked-yet = record { wide = length-replicate {A = ℕ} lock-places 0; each = none-ranked lock-places }
 
-first-of : (p : ℕ → Bool) (xs : List ℕ) (k : ℕ) (ks : List ℕ) → xs ≡ k ∷ ks → p k ≡ true → first-that p xs ≡ k
-unfolding first-that
-first-of p xs k ks e h = rw (e, h, first-that)
-
-first-past : (p : ℕ → Bool) (xs : List ℕ) (k : ℕ) (ks : List ℕ) → xs ≡ k ∷ ks → p k ≡ false → first-that p xs ≡ first-that p ks
-unfolding first-that
-first-past p xs k ks e h = rw (e, h, first-that)
-
 -- at the lock k of the chain, c the cleared locks
 pub record Seeking (ws m : List ℕ) (d k : ℕ) (c : List Bool) : Type 0 where
   pub ranked : Ranked ws m
@@ -96,7 +89,7 @@ pub record Seeking (ws m : List ℕ) (d k : ℕ) (c : List Bool) : Type 0 where
 pub seeking-starts : {ws m : List ℕ} {d k : ℕ} {c : List Bool} → Some Core ws → Ranked ws m → Uncleared ws c d → k ≡ word-in ws (of-header 5) → Seeking ws m d k c
 unfolding victim
 seeking-starts {ws} {m} {d} {k} {c} s r l e =
-    let all = blocked-onward ws k s e in
+    let all = blocked-seen ws k s e in
     record {
       ranked = r;
       walks = blocked-walks s e;
@@ -133,7 +126,7 @@ module _ {ws m : List ℕ} {d k : ℕ} {c : List Bool} (i : Seeking ws m d k c) 
 
     module _ {r : Bool} (e : r ≡ deadlocked (seen ws) k) where
       pub seeking-found : r ≡ true → k ≡ victim (seen ws)
-      seeking-found h = sym (i .whole ∙ first-of (deadlocked (seen ws)) (onward ws 1 k) k _ from-here (sym e ∙ h))
+      seeking-found h = sym (i .whole ∙ walk-found ws 1 k (i .walks) n (deadlocked (seen ws)) (sym e ∙ h))
 
       module _ {x : ℕ} (h : r ≡ false) (q : x ≡ word-in ws (of-lock k 1)) where
         -- a lock that stands behind k on the chain
@@ -146,7 +139,7 @@ module _ {ws m : List ℕ} {d k : ℕ} {c : List Bool} (i : Seeking ws m d k c) 
               ranked = i .ranked;
               walks = walk-on (i .walks) n q;
               inside = λ j l. i .inside j (later j l);
-              whole = i .whole ∙ first-past (deadlocked (seen ws)) (onward ws 1 k) k _ from-here (sym e ∙ h) ∙ rw q;
+              whole = i .whole ∙ walk-passed ws 1 k (i .walks) n (deadlocked (seen ws)) (sym e ∙ h) ∙ rw q;
               cleared = clear-more c k (i .cleared) (λ w. clash (deadlocked (seen ws) k) (deadlocked-walk (seen ws) k (i .inside k here) .1 w) (sym e ∙ h));
               deep = omega (arith, i .deep, unmarked-mono (seen ws .blocked) c (set c k true) (mark-kept c k (omega (arith, seeking-place, i .cleared .wide))));
             }

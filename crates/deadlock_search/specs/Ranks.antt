@@ -6,11 +6,10 @@ use Prim.Native.Nat.{ℕ, suc, _+_, _≤_}
 use lib.ListN.{getD, set, length}
 use lib.Dec.{eqb}
 use Rattle.tables.specs.State.{Tables, lock}
-use Rattle.tables.specs.Layout.{locks-in}
+use Rattle.tables.specs.Layout.{locks-in, onward}
 use Rattle.tables.specs.Validity.{line}
 use Rattle.table_fields.specs.Sizes.{lock-places}
 use Rattle.deadlock_graph.specs.Contracts.{seen}
-use Rattle.deadlock_graph.specs.Chained.{onward}
 
 -- the place of k on a list, counted on from n, or 0
 unfoldable pub rank : ℕ → ℕ → List ℕ → ℕ

@@ -1,26 +1,30 @@
 -- Walks along the chains in the words of a state: a turn, the end, and where each begins. Every loop along a chain of locks stands on these laws.
-use mathlib.Core.Path.{_≡_, refl, sym, ap, subst, _∙_}
+use mathlib.Core.Path.{_≡_, refl, sym, ap, _∙_}
 use mathlib.Core.Logic.{_≢_}
 use mathlib.Core.Bool.{Bool, true, false}
 use mathlib.Core.List.{List, [], _∷_}
 use Prim.Native.Nat.{ℕ, suc, _≤_, _<_}
 use native.Mathlib.Omega.{arith}
 use lib.ListN.{length}
-use Rattle.tables.specs.Lists.{first-that}
+use lib.Dec.{eqb}
+use borrow.Author.Tests.{eq-eqb, ne-eqb}
+use Rattle.tables.specs.Lists.{first, first-that}
 use Rattle.tables.specs.State.{Tables, resource, Queue, grants, converts, waits, LockChain, blocked, notices, queue, of-locks, queue-of, chain}
-use Rattle.tables.specs.Layout.{of-header, of-resource, of-lock, queue-head, head, link, link-in, words, resources-in, locks-in, word-in, lock-link, onward, read-chain}
+use Rattle.tables.specs.Layout.{of-header, of-resource, of-lock, queue-head, head, link, link-in, word-value, words, resources-in, locks-in, word-in, lock-link, onward, read-chain}
 use Rattle.tables.specs.Sound.{chain-ends}
 use Rattle.tables.specs.Threads.{Each, Present}
 use Rattle.tables.specs.Validity.{Core}
 use Rattle.tables.proofs.Counts.{within-le, first-here, first-later}
-use Rattle.tables.proofs.ReadBack.{chain-read}
+use Rattle.tables.proofs.Links.{next-here}
+use Rattle.tables.proofs.WordChanges.{linked-head}
+use Rattle.tables.proofs.ReadBack.{word-read, chain-read}
 use Rattle.tables.proofs.ChainMembers.{on-chain}
 use Rattle.tables.proofs.ThreadedChains.{each-counted, core-threaded}
 use Rattle.tables.proofs.FollowedChains.{follow-zero, ends-turn, follow-turn, follow-short, ends-agree, follow-agree}
 use Rattle.tables.proofs.Written.{chain-ending}
 use Rattle.table_fields.specs.Sizes.{Sized}
-use Rattle.table_chains.specs.Contracts.{Some}
-use Rattle.table_chains.specs.Walking.{At, Walking}
+use Rattle.table_chains.specs.Contracts.{Some, Resourced}
+use Rattle.table_chains.specs.Walking.{At, Walking, first-with}
 use Rattle.table_chains.proofs.ChainCells.{resources-is, locks-is, sized-is}
 
 -- the words of a state are as long as they say
@@ -81,6 +85,33 @@ pub walk-short : (ws : List ℕ) (f k : ℕ) → length (onward ws f k) ≤ lock
 unfolding onward
 walk-short ws f k = follow-short (lock-link ws f) (locks-in ws) k
 
+-- A SEARCH for the first lock whose field g is v: from k on it finds the same as from the start on
+pub record Seeking (ws : List ℕ) (f g v start k : ℕ) : Type 0 where
+  pub walks : Walking ws f k
+  pub same : first-with ws f g v k ≡ first-with ws f g v start
+
+pub seeking-starts : (ws : List ℕ) (f g v k : ℕ) → Walking ws f k → Seeking ws f g v k k
+seeking-starts ws f g v k w = record { walks = w; same = refl }
+
+module _ (ws : List ℕ) (f g v start k : ℕ) (i : Seeking ws f g v start k) where
+  module _ (n : k ≢ 0) (x : ℕ) (e : x ≡ word-in ws (of-lock k g)) where
+    pub seeking-found : x ≡ v → k ≡ first-with ws f g v start
+    unfolding first-with
+    seeking-found h = sym (walk-found ws f k (i .walks) n (λ j. eqb (word-in ws (of-lock j g)) v) (eq-eqb (word-in ws (of-lock k g)) v (sym e ∙ h))) ∙ i .same
+
+    pub seeking-on : (x ≡ v → ⊥) → (y : ℕ) → y ≡ word-in ws (of-lock k f) → Seeking ws f g v start y
+    unfolding first-with
+    seeking-on h y q =
+        rw q
+        (record {
+          walks = walk-goes ws f k (i .walks) n;
+          same = sym (walk-passed ws f k (i .walks) n (λ j. eqb (word-in ws (of-lock j g)) v) (ne-eqb (word-in ws (of-lock k g)) v (λ z. h (e ∙ z)))) ∙ i .same;
+        })
+
+  pub seeking-ends : k ≡ 0 → 0 ≡ first-with ws f g v start
+  unfolding first-with first-that
+  seeking-ends e = sym (rw (e, walk-ends ws f)) ∙ i .same
+
 -- WHERE A CHAIN BEGINS, by the words of any state that has it
 module _ (t : Tables) (core : Core t) (c : LockChain) (f : ℕ) (links : (k : ℕ) → link (of-locks c) k ≡ of-lock k f) (there : Present t (of-locks c)) (ws : List ℕ) (is : ws ≡ words t) where
   same-link : (k : ℕ) → lock-link ws f (suc k) ≡ link-in ws (of-locks c) (suc k)
@@ -105,6 +136,12 @@ module _ (t : Tables) (core : Core t) (c : LockChain) (f : ℕ) (links : (k : �
             (each-counted _ (chain t c) (λ j m. rw (locks-is t ws is) (within-le (length (t .locks)) j (on-chain t (core .linked) c j m .0))));
       }
 
+-- its head names its first
+pub chain-first : (t : Tables) (c : LockChain) → Present t (of-locks c) → (ws : List ℕ) → ws ≡ words t → word-in ws (head (of-locks c)) ≡ first (chain t c)
+chain-first t c there ws is =
+    ap (λ (w : List ℕ). word-in w (head (of-locks c))) is ∙ word-read t (head (of-locks c)) there
+    ∙ ap (word-value t) (linked-head t (of-locks c) there .says) ∙ next-here 0 0 (chain t c) refl
+
 -- the blocked and the notice chain
 module _ {ws : List ℕ} {x : ℕ} (s : Some Core ws) where
   pub blocked-walks : x ≡ word-in ws (of-header 5) → Walking ws 1 x
@@ -122,11 +159,11 @@ queue-there t r grants low high = (low, high, omega arith)
 queue-there t r converts low high = (low, high, omega arith)
 queue-there t r waits low high = (low, high, omega arith)
 
-module _ {ws : List ℕ} {r x : ℕ} (s : Some Core ws) (low : 1 ≤ r) (high : r ≤ resources-in ws) where
+module _ {ws : List ℕ} {r x : ℕ} (s : Some Core ws) (there : (1 ≤ r) × (r ≤ resources-in ws)) where
   queue-walks : (q : Queue) → x ≡ word-in ws (of-resource r (queue-head q)) → Walking ws 0 x
   queue-walks q e =
-      let within : r ≤ length (s .state .resources) = omega (arith, resources-is (s .state) ws (s .is)) in
-      rw e (chain-begins (s .state) (s .good) (queue r q) 0 (λ k. refl) (queue-there (s .state) r q low within) ws (s .is))
+      let high : r ≤ length (s .state .resources) = omega (arith, there .1, resources-is (s .state) ws (s .is)) in
+      rw e (chain-begins (s .state) (s .good) (queue r q) 0 (λ k. refl) (queue-there (s .state) r q (there .0) high) ws (s .is))
 
   pub grants-walk : x ≡ word-in ws (of-resource r 1) → Walking ws 0 x
   grants-walk = queue-walks grants
@@ -137,5 +174,36 @@ module _ {ws : List ℕ} {r x : ℕ} (s : Some Core ws) (low : 1 ≤ r) (high : 
   pub waits-walk : x ≡ word-in ws (of-resource r 3) → Walking ws 0 x
   waits-walk = queue-walks waits
 
-pub queue-onward : (t : Tables) → Core t → (r : ℕ) → 1 ≤ r → r ≤ length (t .resources) → (ws : List ℕ) → ws ≡ words t → (q : Queue) → onward ws 0 (word-in ws (of-resource r (queue-head q))) ≡ queue-of q (resource t r)
-queue-onward t core r low high ws is q = chain-onward t core (queue r q) 0 (λ k. refl) (queue-there t r q low high) ws is
+module _ (r : ℕ) (t : Tables) (p : Resourced r t) (q : Queue) where
+  pub queue-present : Present t (of-locks (queue r q))
+  queue-present = let w = within-le (length (t .resources)) r (p .in-range) in queue-there t r q (w .0) (w .1)
+
+  module _ (ws : List ℕ) (is : ws ≡ words t) where
+    pub queue-onward : onward ws 0 (word-in ws (of-resource r (queue-head q))) ≡ queue-of q (resource t r)
+    queue-onward = chain-onward t (p .core) (queue r q) 0 (λ k. refl) queue-present ws is
+
+    pub queue-first : word-in ws (of-resource r (queue-head q)) ≡ first (queue-of q (resource t r))
+    queue-first = chain-first t (queue r q) queue-present ws is
+
+-- a resource that is told to be there
+module _ (ws : List ℕ) (r : ℕ) (s : Some (Resourced r) ws) where
+  here-core : Some Core ws
+  here-core = record { state = s .state; good = s .good .core; is = s .is }
+
+  here-range : (1 ≤ r) × (r ≤ resources-in ws)
+  here-range = rw (resources-is (s .state) ws (s .is)) (within-le (length (s .state .resources)) r (s .good .in-range))
+
+  pub here-sized : Sized ws
+  here-sized = some-sized here-core
+
+  pub here-low : 1 ≤ r
+  here-low = here-range .0
+
+  pub here-high : r ≤ resources-in ws
+  here-high = here-range .1
+
+  pub here-grants : {x : ℕ} → x ≡ word-in ws (of-resource r 1) → Walking ws 0 x
+  here-grants e = grants-walk here-core here-range e
+
+  pub here-converts : {x : ℕ} → x ≡ word-in ws (of-resource r 2) → Walking ws 0 x
+  here-converts e = converts-walk here-core here-range e

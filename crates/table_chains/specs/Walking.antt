@@ -3,7 +3,9 @@ use mathlib.Core.Path.{_≡_}
 use mathlib.Core.Bool.{true}
 use mathlib.Core.List.{List}
 use Prim.Native.Nat.{ℕ, _≤_}
-use Rattle.tables.specs.Layout.{locks-in, lock-link, onward}
+use lib.Dec.{eqb}
+use Rattle.tables.specs.Lists.{first-that}
+use Rattle.tables.specs.Layout.{of-lock, locks-in, word-in, lock-link, onward}
 use Rattle.tables.specs.Sound.{ends}
 use Rattle.tables.specs.Threads.{Each}
 use Rattle.tables.specs.Validity.{Core}
@@ -20,3 +22,7 @@ pub record Walking (ws : List ℕ) (f k : ℕ) : Type 0 where
   pub some : Some Core ws
   pub ended : ends (lock-link ws f) (locks-in ws) k ≡ true
   pub met : Each (λ j. (1 ≤ j) × (j ≤ locks-in ws)) (onward ws f k)
+
+-- the first lock from k on whose field g is v, or 0
+unfoldable pub first-with : List ℕ → ℕ → ℕ → ℕ → ℕ → ℕ
+first-with ws f g v k = first-that (λ j. eqb (word-in ws (of-lock j g)) v) (onward ws f k)
