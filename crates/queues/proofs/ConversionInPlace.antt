@@ -23,7 +23,8 @@ use Rattle.table_fields.specs.Sizes.{Sized}
 use Rattle.rules.specs.Calls.{in-place}
 use Rattle.table_chains.specs.Contracts.{Some, Tells, Resourced}
 use Rattle.table_chains.proofs.ChainCells.{locks-is, sized-is}
-use Rattle.queues.proofs.QueueReads.{here-low, here-high, head-null}
+use Rattle.table_chains.proofs.ChainWalks.{here-low, here-high}
+use Rattle.queues.proofs.QueueReads.{head-null}
 use Rattle.queues.specs.Contracts.{GrantedLock}
 
 -- a granted lock stands on a resource that is there

@@ -22,8 +22,9 @@ use Rattle.rules.specs.Queues.{granted-lock, grant-lock, grant-while, sweep, fr
 use Rattle.rules.proofs.SweepLaws.{grant-core, grant-line, sweep-line, sweep-is-line}
 use Rattle.table_chains.specs.Contracts.{Some, Turns, Tells, Answers, Movable, Moving, Moved, Resourced}
 use Rattle.table_chains.proofs.ChainCells.{locks-is}
+use Rattle.table_chains.proofs.ChainWalks.{here-sized}
 use Rattle.queues.specs.Contracts.{Locked, ready, advance}
-use Rattle.queues.proofs.QueueReads.{threaded, here-sized}
+use Rattle.queues.proofs.QueueReads.{threaded}
 
 -- STATES. The line of r has a head or not
 module _ (r : ℕ) (t : Tables) where

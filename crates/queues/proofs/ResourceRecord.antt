@@ -24,10 +24,11 @@ use Rattle.rules.specs.Calls.{stores, spoils, with-value, leave-value, new-reso
 use Rattle.rules.proofs.ResourceChanges.{empty-chains, SameChains}
 use Rattle.rules.proofs.RequestKeepsSound.{unused-chains}
 use Rattle.table_chains.specs.Contracts.{Some, Turns, Tells, Changes, Resourced, Refilled, ResourceMoved}
+use Rattle.table_chains.proofs.ChainWalks.{here-sized, here-low, here-high}
 use Rattle.table_names.specs.Contracts.{with-slot, blank}
 use Rattle.table_names.proofs.StateNames.{length-is, slot-there, free-slot, put-name, put-value, put-blank}
 use Rattle.queues.specs.Contracts.{SomeTables, Vacant, Takes, Valued}
-use Rattle.queues.proofs.QueueReads.{here-sized, here-low, here-high, head-null}
+use Rattle.queues.proofs.QueueReads.{head-null}
 
 -- SLOTS that a change leaves as they are
 pub slots-same : (r : ℕ) (x : Resource) (t : Tables) → slot x ≡ slot (resource t r) → slots (move-resource r x t) ≡ slots t
