@@ -10,17 +10,17 @@ use table_fields::wide;
 ghost use mathlib.Core.Path.{_≡_};
 ghost use mathlib.Core.Bool.{true};
 ghost use Prim.Native.Nat.{_≤_, _<_};
-ghost use Rattle.tables.specs.Lists.{«first-that», same};
+ghost use Rattle.tables.specs.Lists.{same};
 ghost use Rattle.tables.specs.State.{«name-width»};
 ghost use Rattle.tables.specs.Layout.{«resource-width», «lock-width», «of-resource», «of-lock», «resources-in», «locks-in», «word-in», read};
 ghost use Rattle.tables.specs.Sound.{sound};
 ghost use Rattle.rules.specs.Queues.{find};
-ghost use Rattle.rules.specs.Images.{«image-words», «holder-of», «holder-entry»};
+ghost use Rattle.rules.specs.Images.{«image-words», ex, «holder-of», «holder-entry»};
 ghost use Rattle.table_names.specs.Names.{«name-in», «find-in»};
 ghost use Rattle.table_names.specs.Contracts.{Short, Named};
 ghost use Rattle.table_chains.specs.Contracts.{Some, Tells, Resourced};
-ghost use Rattle.queues.specs.Holders.{«locks-from»};
-ghost use Rattle.entry_holder.specs.Contracts.{HasAllWords, Chained, «holds-ex», «ex-lock»};
+ghost use Rattle.table_chains.specs.Walking.{Walking, «first-with»};
+ghost use Rattle.entry_holder.specs.Contracts.{HasAllWords, «ex-lock»};
 
 // The takeover program gets a refusal as this plus its number.
 const REFUSED: u32 = 256;
@@ -101,8 +101,8 @@ fn named_resource(image: &[u8], slots: &[u8], name: &[u8]) -> u32
 // The first lock from `first` on along its queue that holds EX, or 0.
 fn ex_from(image: &[u8], first: u32) -> u32
     requires { ⌜ HasAllWords (now image) ⌝ }
-    requires { ⌜ Chained (image-words (now image)) first ⌝ }
-    ensures { λ k. ⌜ k ≡ first-that (holds-ex (image-words (now (image .entry)))) (locks-from (image-words (now (image .entry))) first) ⌝ }
+    requires { ⌜ Walking (image-words (now image)) 0 first ⌝ }
+    ensures { λ k. ⌜ k ≡ first-with (image-words (now (image .entry))) 0 6 ex first ⌝ }
 {
     let mut k = first;
     while k != 0 {
