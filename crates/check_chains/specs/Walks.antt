@@ -3,7 +3,7 @@ use mathlib.Core.Bool.{Bool, _&&_}
 use mathlib.Core.List.{List}
 use Prim.Native.Nat.{ℕ, _+_, _-_}
 use lib.Dec.{leb}
-use Rattle.tables.specs.Layout.{of-header, of-resource, of-lock, resources-in, locks-in, word-in}
+use Rattle.tables.specs.Layout.{of-header, of-resource, resources-in, locks-in, word-in, lock-link}
 use Rattle.check_laws.specs.Check.{steps, free-resource-on, blocked-on, notice-on}
 
 -- how many records are met on the chain of free resources, on the blocked and on the notice chain
@@ -11,10 +11,10 @@ unfoldable pub free-met : List ℕ → ℕ
 free-met ws = steps (λ r. word-in ws (of-resource r 0)) (free-resource-on ws) (resources-in ws) (word-in ws (of-header 2))
 
 unfoldable pub blocked-met : List ℕ → ℕ
-blocked-met ws = steps (λ k. word-in ws (of-lock k 1)) (blocked-on ws) (locks-in ws) (word-in ws (of-header 5))
+blocked-met ws = steps (lock-link ws 1) (blocked-on ws) (locks-in ws) (word-in ws (of-header 5))
 
 unfoldable pub noticed-met : List ℕ → ℕ
-noticed-met ws = steps (λ k. word-in ws (of-lock k 2)) (notice-on ws) (locks-in ws) (word-in ws (of-header 6))
+noticed-met ws = steps (lock-link ws 2) (notice-on ws) (locks-in ws) (word-in ws (of-header 6))
 
 -- the record k is one of n, and passes
 unfoldable pub guarded : ℕ → (ℕ → Bool) → ℕ → Bool

@@ -18,8 +18,9 @@ use Rattle.tables.proofs.Cases.{by-equal, eqb-same, and-left, and-right, or-lef
 use Rattle.tables.proofs.Counts.{count-same, count-step, count-append, all-at, all-intro, all-cong, by-append}
 use Rattle.tables.specs.Threads.{Each}
 use Rattle.tables.proofs.ReadState.{resource-of, lock-of}
+use Rattle.tables.proofs.FollowedChains.{follow-zero, follow-step}
 use Rattle.check_laws.specs.Check.{lock-fine, stands, home-on, heads-wait}
-use Rattle.check_laws.proofs.ChainSteps.{follow-zero, follow-step, once, member}
+use Rattle.check_laws.proofs.ChainSteps.{once, member}
 use Rattle.check_laws.proofs.HeldModes.{same-truth, all-append, all-true, all-each, gather, fitting, pairs, Low, gather-small, gather-fits, fitting-is, beside-is, pairs-append, pairs-true, true-pairs}
 use Rattle.check_laws.proofs.ResourceWalk.{held-in, asked-in, link-of, head-of, queue-in, Right, convert-fit, others}
 

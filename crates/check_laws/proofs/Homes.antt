@@ -8,7 +8,7 @@ use lib.ListN.{length, length-append}
 use borrow.Author.Tests.{eqb-true, eq-eqb}
 use Rattle.tables.specs.Lists.{within, count, from}
 use Rattle.tables.specs.State.{grants, converts, waits, free-locks, denied, of-locks}
-use Rattle.tables.specs.Layout.{of-header, of-lock, flat-map, resources-in, locks-in, word-in, link-in, follow}
+use Rattle.tables.specs.Layout.{of-header, flat-map, resources-in, locks-in, word-in, link-in, follow, lock-link}
 use Rattle.tables.proofs.Cases.{by-equal}
 use Rattle.tables.proofs.Counts.{within-le, le-within, count-nil, count-same, count-other, count-step, count-from, bit-one}
 use Rattle.check_laws.specs.Check.{home-on, home-steps, queues-walk, homes-fine}
@@ -63,19 +63,19 @@ module _ (ws : List ℕ) (some : 1 ≤ locks-in ws) where
 
   free-passed : home-steps ws 0 0 (word-in ws (of-header 3)) ≤ locks-in ws → Passed (link-in ws (of-locks free-locks)) (home-on ws 0 0) (locks-in ws) (word-in ws (of-header 3))
   unfolding home-steps
-  free-passed h = steps-passed (λ k. word-in ws (of-lock k 0)) (link-in ws (of-locks free-locks)) (λ k. refl) (home-on ws 0 0) (locks-in ws) (word-in ws (of-header 3)) h .0
+  free-passed h = steps-passed (lock-link ws 0) (link-in ws (of-locks free-locks)) (λ k. refl) (home-on ws 0 0) (locks-in ws) (word-in ws (of-header 3)) h .0
 
   free-steps : Passed (link-in ws (of-locks free-locks)) (home-on ws 0 0) (locks-in ws) (word-in ws (of-header 3)) → home-steps ws 0 0 (word-in ws (of-header 3)) ≡ length (free-in ws)
   unfolding home-steps free-in
-  free-steps p = passed-steps (λ k. word-in ws (of-lock k 0)) (link-in ws (of-locks free-locks)) (λ k. refl) (home-on ws 0 0) (locks-in ws) (word-in ws (of-header 3)) p
+  free-steps p = passed-steps (lock-link ws 0) (link-in ws (of-locks free-locks)) (λ k. refl) (home-on ws 0 0) (locks-in ws) (word-in ws (of-header 3)) p
 
   denied-passed : home-steps ws 4 0 (word-in ws (of-header 4)) ≤ locks-in ws → Passed (link-in ws (of-locks denied)) (home-on ws 4 0) (locks-in ws) (word-in ws (of-header 4))
   unfolding home-steps
-  denied-passed h = steps-passed (λ k. word-in ws (of-lock k 0)) (link-in ws (of-locks denied)) (λ k. refl) (home-on ws 4 0) (locks-in ws) (word-in ws (of-header 4)) h .0
+  denied-passed h = steps-passed (lock-link ws 0) (link-in ws (of-locks denied)) (λ k. refl) (home-on ws 4 0) (locks-in ws) (word-in ws (of-header 4)) h .0
 
   pub denied-steps : Passed (link-in ws (of-locks denied)) (home-on ws 4 0) (locks-in ws) (word-in ws (of-header 4)) → home-steps ws 4 0 (word-in ws (of-header 4)) ≡ length (denied-in ws)
   unfolding home-steps denied-in
-  denied-steps p = passed-steps (λ k. word-in ws (of-lock k 0)) (link-in ws (of-locks denied)) (λ k. refl) (home-on ws 4 0) (locks-in ws) (word-in ws (of-header 4)) p
+  denied-steps p = passed-steps (lock-link ws 0) (link-in ws (of-locks denied)) (λ k. refl) (home-on ws 4 0) (locks-in ws) (word-in ws (of-header 4)) p
 
   module _ (f : Passed (link-in ws (of-locks free-locks)) (home-on ws 0 0) (locks-in ws) (word-in ws (of-header 3)))
       (d : Passed (link-in ws (of-locks denied)) (home-on ws 4 0) (locks-in ws) (word-in ws (of-header 4)))

@@ -19,9 +19,9 @@ use Rattle.tables.specs.Validity.{used, StateOk}
 use Rattle.tables.proofs.Valid.{absent, used-within}
 use Rattle.tables.proofs.ReadState.{resources-read, resource-of, slot-in-length}
 use Rattle.tables.proofs.Conditions.{each-at, each-intro}
+use Rattle.tables.proofs.FollowedChains.{follow-null}
 use Rattle.table_names.specs.Names.{named, slot-fine, name-in, apart, apart-after, names-differ}
 use Rattle.check_laws.specs.Check.{row-in, free-row, used-row, row-fine, resource-fine, on-named, fields-fine}
-use Rattle.check_laws.proofs.ChainSteps.{follow-null}
 use Rattle.check_laws.proofs.ResourceWalk.{link-of, head-of, queue-in}
 use Rattle.check_laws.proofs.Heads.{grants-read, converts-read, waits-read}
 

@@ -10,11 +10,12 @@ use borrow.Author.Tests.{ne-eqb, leb-true, le-leb}
 use Rattle.modes.specs.Sets.{fits-set, with-mode}
 use Rattle.tables.specs.Lists.{all}
 use Rattle.tables.specs.State.{Queue, grants, converts, waits, queue, of-locks}
-use Rattle.tables.specs.Layout.{of-resource, of-lock, queue-head, locks-in, word-in, link-in, follow, read-lock}
+use Rattle.tables.specs.Layout.{of-resource, of-lock, queue-head, locks-in, word-in, link-in, follow, read-lock, lock-link}
 use Rattle.tables.specs.Sound.{ends}
 use Rattle.tables.proofs.Cases.{by-cases, clash, and-left, and-right, and-intro}
+use Rattle.tables.proofs.FollowedChains.{follow-zero, follow-step, ends-zero, ends-step, follow-short}
 use Rattle.check_laws.specs.Check.{home-on, home-steps, HolderCount, held-steps, grant-walk, tail-steps, convert-from, convert-walk, heads-wait, wait-part, convert-part, resource-walk}
-use Rattle.check_laws.proofs.ChainSteps.{Passed, follow-zero, follow-step, ends-zero, ends-step, steps-passed, passed-steps, follow-short}
+use Rattle.check_laws.proofs.ChainSteps.{Passed, steps-passed, passed-steps}
 use Rattle.check_laws.proofs.HeldModes.{gather, fitting, beside}
 
 abbrev pub held-in : List ℕ → ℕ → ℕ
@@ -170,11 +171,11 @@ module _ (ws : List ℕ) (some : 1 ≤ locks-in ws) (r : ℕ) where
 
   wait-met : home-steps ws 3 r (head-of ws r waits) ≤ locks-in ws → Right ws r waits 3
   unfolding home-steps
-  wait-met h = steps-passed (λ k. word-in ws (of-lock k 0)) (link-of ws r waits) (λ k. refl) (home-on ws 3 r) (locks-in ws) (head-of ws r waits) h .0
+  wait-met h = steps-passed (lock-link ws 0) (link-of ws r waits) (λ k. refl) (home-on ws 3 r) (locks-in ws) (head-of ws r waits) h .0
 
   wait-is : Right ws r waits 3 → home-steps ws 3 r (head-of ws r waits) ≡ length (queue-in ws r waits)
   unfolding home-steps queue-in
-  wait-is p = passed-steps (λ k. word-in ws (of-lock k 0)) (link-of ws r waits) (λ k. refl) (home-on ws 3 r) (locks-in ws) (head-of ws r waits) p
+  wait-is p = passed-steps (lock-link ws 0) (link-of ws r waits) (λ k. refl) (home-on ws 3 r) (locks-in ws) (head-of ws r waits) p
 
   short : (q : Queue) → length (queue-in ws r q) ≤ locks-in ws
   unfolding queue-in

@@ -9,7 +9,7 @@ use Rattle.modes.specs.Sets.{fits-set, with-mode}
 use Rattle.tables.specs.declared.Lock.{Lock}
 use Rattle.tables.specs.Lists.{all, from, keep}
 use Rattle.tables.specs.State.{name-width, blocked-lock, noticed, state-free, state-granted, state-converting, state-waiting, state-denied, completion-none, completion-denied, grants, converts, waits}
-use Rattle.tables.specs.Layout.{of-header, of-resource, of-lock, resources-in, locks-in, word-in, follow, read-lock, queue-head}
+use Rattle.tables.specs.Layout.{of-header, of-resource, of-lock, resources-in, locks-in, word-in, lock-link, onward, read-lock, queue-head}
 use Rattle.tables.specs.Sound.{client-right, modes-right, sizes-right, granted-completion}
 use Rattle.table_names.specs.Names.{named, slot-fine, names-differ}
 pub use Rattle.check_laws.specs.declared.HolderCount.{HolderCount}
@@ -87,7 +87,7 @@ blocked-on ws k = leb k (locks-in ws) && blocked-lock (read-lock ws k)
 
 unfoldable pub blocked-fine : List ℕ → Bool
 blocked-fine ws =
-    eqb (steps (λ k. word-in ws (of-lock k 1)) (blocked-on ws) (locks-in ws) (word-in ws (of-header 5)))
+    eqb (steps (lock-link ws 1) (blocked-on ws) (locks-in ws) (word-in ws (of-header 5)))
     (length (keep (λ k. blocked-lock (read-lock ws k)) (from 1 (locks-in ws))))
 
 unfoldable pub notice-on : List ℕ → ℕ → Bool
@@ -95,7 +95,7 @@ notice-on ws k = leb k (locks-in ws) && noticed (read-lock ws k)
 
 unfoldable pub notices-fine : List ℕ → Bool
 notices-fine ws =
-    eqb (steps (λ k. word-in ws (of-lock k 2)) (notice-on ws) (locks-in ws) (word-in ws (of-header 6)))
+    eqb (steps (lock-link ws 2) (notice-on ws) (locks-in ws) (word-in ws (of-header 6)))
     (length (keep (λ k. noticed (read-lock ws k)) (from 1 (locks-in ws))))
 
 -- a home chain: each lock has the chain's state and resource, and is fine
@@ -106,7 +106,7 @@ unfoldable pub home-on : List ℕ → ℕ → ℕ → ℕ → Bool
 home-on ws s r k = leb k (locks-in ws) && stands ws s r k
 
 unfoldable pub home-steps : List ℕ → ℕ → ℕ → ℕ → ℕ
-home-steps ws s r k = steps (λ k. word-in ws (of-lock k 0)) (home-on ws s r) (locks-in ws) k
+home-steps ws s r k = steps (lock-link ws 0) (home-on ws s r) (locks-in ws) k
 
 -- a chain of holders, where each held mode must fit the set of those before it: the number of steps, as above, and the set of all the modes (the
 -- record is the code's struct)
@@ -181,15 +181,12 @@ homes-fine ws =
     (home-steps ws state-free 0 (word-in ws (of-header 3)) + home-steps ws state-denied 0 (word-in ws (of-header 4)) + queues-walk ws (from 1 (resources-in ws)))
     (locks-in ws)
 
--- SIDES. How many locks belong on the blocked and on the notice chain, added up along the home chains. First, a queue of r, by its field
-unfoldable pub queue-from : List ℕ → ℕ → ℕ → List ℕ
-queue-from ws f r = follow (λ k. word-in ws (of-lock k 0)) (locks-in ws) (word-in ws (of-resource r f))
-
+-- SIDES. How many locks belong on the blocked and on the notice chain, added up along the home chains.
 unfoldable pub blocked-at : List ℕ → ℕ → ℕ
-blocked-at ws r = length (queue-from ws (queue-head converts) r) + length (queue-from ws (queue-head waits) r)
+blocked-at ws r = length (onward ws 0 (word-in ws (of-resource r (queue-head converts)))) + length (onward ws 0 (word-in ws (of-resource r (queue-head waits))))
 
 unfoldable pub noticed-at : List ℕ → ℕ → ℕ
-noticed-at ws r = length (keep (λ k. noticed (read-lock ws k)) (queue-from ws (queue-head grants) r))
+noticed-at ws r = length (keep (λ k. noticed (read-lock ws k)) (onward ws 0 (word-in ws (of-resource r (queue-head grants)))))
 
 unfoldable pub sum-over : (ℕ → ℕ) → List ℕ → ℕ
 sum-over f [] = 0

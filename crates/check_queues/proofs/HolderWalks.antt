@@ -10,7 +10,7 @@ use lib.ListN.{length}
 use borrow.Author.Tests.{not-true, not-false, le-leb, lt-leb, leb-true, eqb-true}
 use Rattle.modes.specs.Sets.{fits-set, with-mode}
 use Rattle.tables.specs.declared.Lock.{Lock}
-use Rattle.tables.specs.Layout.{of-resource, of-lock, locks-in, word-in, follow, read-lock}
+use Rattle.tables.specs.Layout.{of-resource, of-lock, locks-in, word-in, follow, read-lock, lock-link}
 use Rattle.tables.specs.Sound.{modes-right, client-right}
 use Rattle.tables.proofs.Cases.{by-cases, and-left, and-right, parts}
 use Rattle.check_laws.specs.declared.HolderCount.{HolderCount}
@@ -150,7 +150,7 @@ module _ (ws : List ℕ) (s r : ℕ) (fit : ℕ → ℕ → Bool) where
   modes-start n k set = let z : 0 + mode-steps ws s r fit n k set .met ≡ mode-steps ws s r fit n k set .met = omega arith in rw (sub-zero n, z)
 
   -- a walk on which nothing is wrong meets the locks of the chain
-  modes-length : (n k set : ℕ) → mode-steps ws s r fit n k set .met ≤ n → mode-steps ws s r fit n k set .met ≡ length (follow (λ k. word-in ws (of-lock k 0)) n k)
+  modes-length : (n k set : ℕ) → mode-steps ws s r fit n k set .met ≤ n → mode-steps ws s r fit n k set .met ≡ length (follow (lock-link ws 0) n k)
   unfolding mode-steps follow
   modes-length zero zero set h = refl
   modes-length zero (suc k) set h = absurd (omega arith)
@@ -182,5 +182,5 @@ grant-start ws r e = rw (e, held-alike ws 1 r (locks-in ws) (word-in ws (of-reso
 pub tail-start : (ws : List ℕ) (r h n k set : ℕ) → tail-steps ws r h n k set ≡ modes-left ws 2 r (fits-beside h) n 0 k set
 tail-start ws r h n k set = tail-alike ws r h n k set ∙ modes-start ws 2 r (fits-beside h) n k set
 
-pub tail-length : (ws : List ℕ) (r h n k set : ℕ) → tail-steps ws r h n k set .met ≤ n → tail-steps ws r h n k set .met ≡ length (follow (λ k. word-in ws (of-lock k 0)) n k)
+pub tail-length : (ws : List ℕ) (r h n k set : ℕ) → tail-steps ws r h n k set .met ≤ n → tail-steps ws r h n k set .met ≡ length (follow (lock-link ws 0) n k)
 tail-length ws r h n k set = rw (tail-alike ws r h n k set) (modes-length ws 2 r (fits-beside h) n k set)

@@ -8,7 +8,7 @@ use lib.Dec.{eqb}
 use Rattle.modes.specs.Sets.{fits-set, with-mode}
 use Rattle.tables.specs.Lists.{keep}
 use Rattle.tables.specs.State.{noticed, state-converting, state-waiting}
-use Rattle.tables.specs.Layout.{of-resource, of-lock, locks-in, word-in, follow, read-lock}
+use Rattle.tables.specs.Layout.{of-resource, of-lock, locks-in, word-in, follow, read-lock, lock-link}
 use Rattle.check_laws.specs.declared.HolderCount.{HolderCount}
 use Rattle.check_laws.specs.Check.{home-on, grant-walk, resource-walk, blocked-at, noticed-at}
 pub use Rattle.check_queues.specs.declared.GrantCount.{GrantCount}
@@ -32,7 +32,7 @@ modes-left ws s r fit n met k set =
 
 -- how many locks belong on the notice chain: those before k, and those that are left from k on
 unfoldable pub noticed-left : List ℕ → ℕ → ℕ → ℕ → ℕ → ℕ
-noticed-left ws n met k before = before + length (keep (λ k. noticed (read-lock ws k)) (follow (λ k. word-in ws (of-lock k 0)) (n - met) k))
+noticed-left ws n met k before = before + length (keep (λ k. noticed (read-lock ws k)) (follow (lock-link ws 0) (n - met) k))
 
 -- the answer if something is wrong: with a chain, with a grant chain, with a resource
 unfoldable pub over : ℕ → ℕ → HolderCount

@@ -2,7 +2,7 @@
 use Prim.Native.Nat.{_≤_, _-_}
 use mathlib.Core.Path.{_≡_}
 use Rattle.tables.specs.State.{blocked-lock}
-use Rattle.tables.specs.Layout.{of-lock, word-in, read-lock}
+use Rattle.tables.specs.Layout.{read-lock, lock-link}
 use Rattle.check_chains.specs.Walks.{steps-left, blocked-met}
 use Rattle.check_chains.proofs.ChainWalk.{walk-other, walk-loop}
 use Rattle.check_chains.proofs.WalkStarts.{starts}
@@ -11,7 +11,7 @@ use Rattle.check_chains.proofs.blocked_met.Statement.{statement}
 use Rattle.check_chains.proofs.blocked_met.Tie as tie
 
 abbrev Inv-loop : tie.InvT-loop
-Inv-loop words n k₀ met₀ k met = (met ≤ n) × (blocked-met words ≡ steps-left (λ j. word-in words (of-lock j 1)) (λ j. blocked-lock (read-lock words j)) n met k)
+Inv-loop words n k₀ met₀ k met = (met ≤ n) × (blocked-met words ≡ steps-left (lock-link words 1) (λ j. blocked-lock (read-lock words j)) n met k)
 
 abbrev μ-loop : tie.MeasureT-loop
 μ-loop words n k₀ met₀ k met = n - met
