@@ -17,8 +17,8 @@ use Rattle.tables.specs.Validity.{Core}
 use Rattle.tables.proofs.ReadBack.{lock-read}
 use Rattle.rules.specs.Calls.{own}
 use Rattle.table_fields.specs.Sizes.{Sized}
+use Rattle.table_fields.proofs.StateWords.{locks-is, core-sized}
 use Rattle.table_chains.specs.Contracts.{Some, Tells}
-use Rattle.table_chains.proofs.ChainCells.{locks-is, sized-is}
 
 outside : (n k : ℕ) → n < k → within n k ≡ false
 outside n zero h = refl
@@ -26,7 +26,7 @@ outside n (suc k) h = le-ltb k n (omega arith)
 
 module _ (ws : List ℕ) where
   pub core-sized : Some Core ws → Sized ws
-  core-sized s = sized-is (s .state) ws (s .is) (s .good .resources-high) (s .good .locks-high)
+  core-sized s = core-sized (s .state) ws (s .is) (s .good)
 
   pub second-word : Some Core ws → 1 < length ws
   second-word s = omega (arith, core-sized s .long)

@@ -18,8 +18,8 @@ use Rattle.tables.specs.Validity.{used, StateOk, Core}
 use Rattle.tables.proofs.Valid.{used-within}
 use Rattle.rules.specs.Calls.{locks-of, purge-lock, purge-locks}
 use Rattle.table_fields.specs.Sizes.{Sized, resource-places}
+use Rattle.table_fields.proofs.StateWords.{locks-is, core-sized}
 use Rattle.table_chains.specs.Contracts.{Changes}
-use Rattle.table_chains.proofs.ChainCells.{locks-is, sized-is}
 use Rattle.queues.specs.Contracts.{Locked, SomeTables}
 use Rattle.call_purge.specs.PurgedLocks.{of-client, purge-own, mark-own, count-own, purge-all, mark-locks, mark-all, count-all, Frees}
 use Rattle.call_purge.proofs.NumbersLeft.{ahead, ahead-start, ahead-end, ahead-in, ahead-out, ahead-past, ahead-cong}
@@ -196,7 +196,7 @@ pub record Going (c last k : ℕ) (a sa : List ℕ) (m₀ : List Bool) (b sb : L
   pub then : (t : Tables) → Core t → a ≡ words t → sa ≡ slots t → Goes c last k t m₀ b sb m n
 
 pub core-sized : (a sa : List ℕ) → SomeTables Core a sa → Sized a
-core-sized a sa s = sized-is (s .state) a (s .is) (s .good .resources-high) (s .good .locks-high)
+core-sized a sa s = core-sized (s .state) a (s .is) (s .good)
 
 module _ (c last : ℕ) (a sa : List ℕ) (m₀ : List Bool) where
   pub purge-starts : SomeTables Core a sa → length m₀ ≡ resource-places → last ≡ locks-in a → Going c last 1 a sa m₀ a sa m₀ 0

@@ -16,8 +16,8 @@ use Rattle.rules.specs.Queues.{settle}
 use Rattle.rules.specs.Calls.{settle-all}
 use Rattle.rules.proofs.CallsKeepSound.{settle-settles}
 use Rattle.table_fields.specs.Sizes.{resource-places}
+use Rattle.table_fields.proofs.StateWords.{resources-is}
 use Rattle.table_chains.specs.Contracts.{Changes, Resourced}
-use Rattle.table_chains.proofs.ChainCells.{resources-is}
 use Rattle.queues.specs.Contracts.{SomeTables}
 use Rattle.call_purge.specs.SettledResources.{marked, settle-if, settle-marked}
 use Rattle.call_purge.proofs.NumbersLeft.{ahead, ahead-start, ahead-end, ahead-in, ahead-out}

@@ -20,8 +20,8 @@ use Rattle.rules.specs.Queues.{free-lock}
 use Rattle.rules.specs.Calls.{stores, spoils, strong, with-value, leave-value, purge-lock}
 use Rattle.rules.proofs.ResourceChanges.{Quiet, leave-quiet}
 use Rattle.table_fields.specs.Sizes.{Sized}
+use Rattle.table_fields.proofs.StateWords.{locks-is, core-sized}
 use Rattle.table_chains.specs.Contracts.{Some, Turns, Changes}
-use Rattle.table_chains.proofs.ChainCells.{locks-is, sized-is}
 use Rattle.queues.specs.Contracts.{Locked, SomeTables, Valued}
 use Rattle.queues.proofs.StateAfter.{freed-core}
 use Rattle.queues.proofs.ResourceRecord.{slots-free}
@@ -91,7 +91,7 @@ module _ (k : ℕ) (a sa : List ℕ) where
     range = within-le (length (s .state .locks)) k (s .good .in-range)
 
     pub lock-sized : Sized a
-    lock-sized = sized-is (s .state) a (s .is) (s .good .core .resources-high) (s .good .core .locks-high)
+    lock-sized = core-sized (s .state) a (s .is) (s .good .core)
 
     pub lock-low : 1 ≤ k
     lock-low = range .0

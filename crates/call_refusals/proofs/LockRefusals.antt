@@ -16,10 +16,10 @@ use Rattle.tables.proofs.Counts.{within-le}
 use Rattle.tables.specs.Validity.{Core}
 use Rattle.tables.proofs.ReadBack.{lock-read}
 use Rattle.table_fields.specs.Sizes.{Sized}
+use Rattle.table_fields.proofs.StateWords.{locks-is}
 use Rattle.rules.specs.Calls.{unless, own, cancel-refusal, purge-refusal, poll-refusal}
 use Rattle.rules.specs.Entries.{look-refusal}
 use Rattle.table_chains.specs.Contracts.{Some, Tells}
-use Rattle.table_chains.proofs.ChainCells.{locks-is}
 use Rattle.call_arguments.proofs.OwnLock.{core-sized}
 use Rattle.call_refusals.specs.Rests.{granted-refusal}
 

@@ -12,12 +12,12 @@ use Rattle.tables.proofs.Counts.{within-le}
 use Rattle.tables.specs.Validity.{Core}
 use Rattle.tables.proofs.ReadBack.{lock-read}
 use Rattle.table_fields.specs.Sizes.{Sized}
-use Rattle.table_chains.proofs.ChainCells.{locks-is, sized-is}
+use Rattle.table_fields.proofs.StateWords.{locks-is, core-sized}
 
 -- the lock k of a state, by its words
 module _ (k : ℕ) (t : Tables) (core : Core t) (w : within (length (t .locks)) k ≡ true) (a : List ℕ) (is : a ≡ words t) where
   pub lock-sized : Sized a
-  lock-sized = sized-is t a is (core .resources-high) (core .locks-high)
+  lock-sized = core-sized t a is core
 
   pub lock-low : 1 ≤ k
   lock-low = within-le (length (t .locks)) k w .0

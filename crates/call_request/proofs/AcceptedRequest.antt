@@ -20,9 +20,9 @@ use Rattle.rules.specs.Accepted.{Requestable}
 use Rattle.rules.proofs.RequestKeepsSound.{found}
 use Rattle.rules.proofs.ResourceChanges.{lock-kept, used-changed}
 use Rattle.table_fields.specs.Sizes.{Sized}
+use Rattle.table_fields.proofs.StateWords.{core-sized}
 use Rattle.rules.proofs.RequestKeepsSound.{first-member}
 use Rattle.table_chains.specs.Contracts.{Some}
-use Rattle.table_chains.proofs.ChainCells.{sized-is}
 use Rattle.answers.specs.Contracts.{Makes, MakesWords}
 use Rattle.queues.specs.Contracts.{SomeTables}
 use Rattle.queues.proofs.StateAfter.{taken-core}
@@ -78,7 +78,7 @@ module _ (c m : ℕ) (n : List ℕ) (t : Tables) (p : Requestable c m n t) where
 
 module _ (c m : ℕ) (n a sa : List ℕ) where
   pub request-sized : SomeTables (Requestable c m n) a sa → Sized a
-  request-sized s = sized-is (s .state) a (s .is) (s .good .valid .core .resources-high) (s .good .valid .core .locks-high)
+  request-sized s = core-sized (s .state) a (s .is) (s .good .valid .core)
 
   pub request-nameable : SomeTables (Requestable c m n) a sa → SomeTables (Nameable n) a sa
   request-nameable s = record { state = s .state; good = nameable c m n (s .state) (s .good); is = s .is; slots-are = s .slots-are }

@@ -20,9 +20,9 @@ use Rattle.tables.proofs.Valid.{ok-at, used-within}
 use Rattle.tables.proofs.ChainMembers.{state-within, on-chain, chain-has}
 use Rattle.rules.specs.Deadlock.{owner}
 use Rattle.table_fields.specs.Sizes.{Sized}
+use Rattle.table_fields.proofs.StateWords.{resources-is, locks-is}
 use Rattle.table_chains.specs.Contracts.{Some}
 use Rattle.table_chains.specs.Walking.{At, Walking}
-use Rattle.table_chains.proofs.ChainCells.{resources-is, locks-is}
 use Rattle.table_chains.proofs.ChainWalks.{some-sized, grants-walk, converts-walk}
 use Rattle.table_chains.proofs.LockLimits as limits
 use Rattle.table_chains.proofs.LockLimits.{at-sized, held-mode, asked-mode}

@@ -9,7 +9,7 @@ use Rattle.tables.specs.Layout.{of-header, of-resource, queue-head, resources-i
 use Rattle.tables.proofs.Counts.{le-within}
 use Rattle.tables.specs.Validity.{Core}
 use Rattle.table_chains.specs.Contracts.{Some, Resourced}
-use Rattle.table_chains.proofs.ChainCells.{resources-is}
+use Rattle.table_fields.proofs.StateWords.{resources-is}
 use Rattle.table_chains.proofs.ChainWalks.{chain-onward, queue-onward}
 use Rattle.deadlock_graph.specs.Contracts.{seen}
 use Rattle.deadlock_graph.proofs.SameVictim.{alike}

@@ -20,12 +20,12 @@ use Rattle.tables.specs.Validity.{Core}
 use Rattle.rules.specs.Queues.{find}
 use Rattle.rules.specs.Images.{holder-of, ex}
 use Rattle.table_fields.specs.Sizes.{Sized}
+use Rattle.table_fields.proofs.StateWords.{locks-is, core-sized}
 use Rattle.table_names.specs.Names.{find-in}
 use Rattle.table_names.specs.Contracts.{Named}
 use Rattle.table_names.proofs.StateNames.{core-named, find-is}
 use Rattle.table_chains.specs.Contracts.{Some, Tells, Resourced}
 use Rattle.table_chains.specs.Walking.{first-with}
-use Rattle.table_chains.proofs.ChainCells.{locks-is, sized-is}
 use Rattle.table_chains.proofs.ChainWalks.{walk-sized, walk-low, walk-high, walk-less, seeking-starts, seeking-found, seeking-on, seeking-ends, queue-onward, here-sized, here-low, here-high, here-grants, here-converts}
 use Rattle.queues.specs.Holders.{held-in}
 use Rattle.queues.proofs.QueueReads.{lock-there, held-there}
@@ -142,7 +142,7 @@ module _ (ws ss n : List ℕ) (h : sound ws ss ≡ true) where
           range = ex-there ws r (read ws ss) there (sound-words ws ss h) k k-is one
 
           pub holder-sized : Sized ws
-          holder-sized = sized-is (read ws ss) ws (sound-words ws ss h) (core .resources-high) (core .locks-high)
+          holder-sized = core-sized (read ws ss) ws (sound-words ws ss h) core
 
           pub holder-low : 1 ≤ k
           holder-low = range .0

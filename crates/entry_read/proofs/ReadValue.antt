@@ -23,8 +23,8 @@ use Rattle.rules.specs.Calls.{unless}
 use Rattle.rules.specs.Entries.{Reading, look-refusal, read-value, read-if, read-entry}
 use Rattle.rules.proofs.AcceptedCalls.{passed, next-test}
 use Rattle.table_fields.specs.Sizes.{Sized}
+use Rattle.table_fields.proofs.StateWords.{locks-is, resources-is, core-sized}
 use Rattle.table_chains.specs.Contracts.{Some, Tells}
-use Rattle.table_chains.proofs.ChainCells.{locks-is, resources-is, sized-is}
 use Rattle.table_names.proofs.StateNames.{slot-there, value-is}
 use Rattle.queues.specs.Contracts.{SomeTables}
 use Rattle.entry_read.specs.Reads.{no-reading, HoldingLock, TellsBoth, value-beside}
@@ -42,7 +42,7 @@ module _ (k : ℕ) (t : Tables) (p : HoldingLock k t) where
 
 module _ (k : ℕ) (ws ss : List ℕ) where
   pub placed-sized : SomeTables (HoldingLock k) ws ss → Sized ws
-  placed-sized s = sized-is (s .state) ws (s .is) (s .good .core .resources-high) (s .good .core .locks-high)
+  placed-sized s = core-sized (s .state) ws (s .is) (s .good .core)
 
   pub placed-lock : SomeTables (HoldingLock k) ws ss → (1 ≤ k) × (k ≤ locks-in ws)
   placed-lock s =

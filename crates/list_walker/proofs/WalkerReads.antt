@@ -18,8 +18,8 @@ use Rattle.tables.proofs.Cases.{and-left}
 use Rattle.tables.proofs.ReadBack.{lock-read}
 use Rattle.tables.specs.Validity.{Core}
 use Rattle.table_fields.specs.Sizes.{Sized}
+use Rattle.table_fields.proofs.StateWords.{resources-is, locks-is}
 use Rattle.table_chains.specs.Contracts.{Some, Tells, Resourced}
-use Rattle.table_chains.proofs.ChainCells.{locks-is}
 use Rattle.table_chains.proofs.ChainWalks.{some-sized, queue-first, here-sized, here-low, here-high}
 use Rattle.list_walker.specs.Order.{locks-on, first-on, queues-past, first-past, Queued, next-on, PlaceOn, SomePlaceOn, CountedOn}
 use Rattle.list_walker.proofs.ListsInARow.{first-of, first-after, at-on, at-inside, at-end, at-next}

@@ -20,9 +20,9 @@ use Rattle.tables.proofs.Valid.{ok-at, used-within}
 use Rattle.tables.proofs.ChainMembers.{state-within}
 use Rattle.tables.proofs.ReadBack.{lock-read}
 use Rattle.table_fields.specs.Sizes.{Sized}
+use Rattle.table_fields.proofs.StateWords.{locks-is, core-sized}
 use Rattle.rules.specs.Calls.{in-place}
 use Rattle.table_chains.specs.Contracts.{Some, Tells, Resourced}
-use Rattle.table_chains.proofs.ChainCells.{locks-is, sized-is}
 use Rattle.table_chains.proofs.ChainWalks.{here-low, here-high}
 use Rattle.queues.proofs.QueueReads.{head-null}
 use Rattle.queues.specs.Contracts.{GrantedLock}
@@ -40,7 +40,7 @@ module _ (k : ℕ) (t : Tables) (p : GrantedLock k t) where
 
 module _ (ws : List ℕ) (k : ℕ) where
   pub held-sized : Some (GrantedLock k) ws → Sized ws
-  held-sized s = sized-is (s .state) ws (s .is) (s .good .core .resources-high) (s .good .core .locks-high)
+  held-sized s = core-sized (s .state) ws (s .is) (s .good .core)
 
   pub held-low : Some (GrantedLock k) ws → 1 ≤ k
   held-low s = range k (s .state) (s .good) .0

@@ -20,8 +20,8 @@ use Rattle.tables.proofs.Valid.{resources-length}
 use Rattle.tables.proofs.ChainMembers.{blocked-place}
 use Rattle.rules.specs.Queues.{granted-lock, grant-lock, grant-while, sweep, free-lock}
 use Rattle.rules.proofs.SweepLaws.{grant-core, grant-line, sweep-line, sweep-is-line}
+use Rattle.table_fields.proofs.StateWords.{locks-is}
 use Rattle.table_chains.specs.Contracts.{Some, Turns, Tells, Answers, Movable, Moving, Moved, Resourced}
-use Rattle.table_chains.proofs.ChainCells.{locks-is}
 use Rattle.table_chains.proofs.ChainWalks.{here-sized}
 use Rattle.queues.specs.Contracts.{Locked, ready, advance}
 use Rattle.queues.proofs.QueueReads.{threaded}

@@ -25,11 +25,11 @@ use Rattle.tables.proofs.Written.{chain-ending}
 use Rattle.table_fields.specs.Sizes.{Sized}
 use Rattle.table_chains.specs.Contracts.{Some, Resourced}
 use Rattle.table_chains.specs.Walking.{At, Walking, first-with}
-use Rattle.table_chains.proofs.ChainCells.{resources-is, locks-is, sized-is}
+use Rattle.table_fields.proofs.StateWords.{resources-is, locks-is, core-sized}
 
 -- the words of a state are as long as they say
 pub some-sized : {ws : List ℕ} → Some Core ws → Sized ws
-some-sized {ws} s = sized-is (s .state) ws (s .is) (s .good .resources-high) (s .good .locks-high)
+some-sized {ws} s = core-sized (s .state) ws (s .is) (s .good)
 
 -- THE END
 pub walk-ends : (ws : List ℕ) (f : ℕ) → onward ws f 0 ≡ []

@@ -1,6 +1,7 @@
 pub mod CellWalks
 pub mod HeadCells
 pub mod ChainCells
+pub mod StateRecords
 pub mod ChainWalks
 pub mod LockLimits
 pub mod LockMoves

@@ -46,6 +46,16 @@ distinct-count k (x ∷ xs) d =
     (λ e. rw (e, count-same x xs, absent-count x xs (d .0)) (omega arith))
     (λ n. rw (count-other k x xs n) (distinct-count k xs (d .1)))
 
+-- the first of two lists in a row
+pub first-of : (xs ys : List ℕ) → (first xs ≡ 0 → ⊥) → first (xs ++ ys) ≡ first xs
+first-of [] ys n = absurd (n refl)
+first-of (x ∷ xs) ys n = refl
+
+pub first-after : (xs ys : List ℕ) → count 0 xs ≡ 0 → first xs ≡ 0 → first (xs ++ ys) ≡ first ys
+first-after [] ys z e = refl
+first-after (zero ∷ xs) ys z e = absurd (omega (arith, count-same 0 xs))
+first-after (suc x ∷ xs) ys z e = absurd (omega arith)
+
 -- it is on the list
 pub counted-on : (k : ℕ) (xs : List ℕ) → 1 ≤ count k xs → Absent k xs → ⊥
 counted-on k xs h a = omega (arith, absent-count k xs a)

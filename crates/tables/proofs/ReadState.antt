@@ -15,7 +15,10 @@ use Rattle.tables.specs.Layout.{head, flat-map, slot-width, slot, slots,
 use Rattle.tables.specs.Sound.{all-zero}
 use Rattle.tables.proofs.Cases.{and-left, and-right, and-intro}
 use Rattle.tables.proofs.Blocks.{length-map-from, getD-map-from}
+use Rattle.tables.proofs.Counts.{within-le}
+use Rattle.tables.proofs.Valid.{used-within}
 use Rattle.tables.specs.Threads.{Within}
+use Rattle.tables.specs.Validity.{used}
 
 module _ (ws ss : List ℕ) where
   pub resources-read : length (read ws ss .resources) ≡ resources-in ws
@@ -35,6 +38,9 @@ module _ (ws ss : List ℕ) where
   unfolding read lock
   lock-of zero p q = absurd (omega arith)
   lock-of (suc k) p q = getD-map-from (read-lock ws) no-lock 1 (locks-in ws) k (omega arith) ∙ ap (read-lock ws) (omega arith)
+
+  pub used-in : (r : ℕ) → used (read ws ss) r ≡ true → (1 ≤ r) × (r ≤ resources-in ws)
+  used-in r u = within-le (resources-in ws) r (rw resources-read at (used-within (read ws ss) r u))
 
   -- its chains are those that are followed
   pub chain-followed : (c : Chain) → Within (resources-in ws) (locks-in ws) (head c) → chain-of c (read ws ss) ≡ read-chain ws c

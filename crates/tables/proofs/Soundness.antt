@@ -23,7 +23,7 @@ use Rattle.tables.specs.Threads.{Each}
 use Rattle.tables.proofs.Links.{count-absent, absent-count, counted-on, each-absent, next-absent}
 use Rattle.tables.specs.Threads.{Within}
 use Rattle.tables.proofs.Grid.{is-written}
-use Rattle.tables.proofs.ReadState.{resources-read, locks-read, lock-of, zeros-are, zero-drop, slot-is, slots-are}
+use Rattle.tables.proofs.ReadState.{resources-read, locks-read, lock-of, zeros-are, zero-drop, slot-is, slots-are, used-in}
 use Rattle.tables.proofs.Conditions.{names-differ, resources-low, resources-high, locks-low, locks-high, words-sized, slots-sized, header-zero, resource-zeros, chain-inside, chain-links, by-use, name-short, name-zeros, slot-wide, name-is, name-length, value-is, valid-is, fields-tested, stands-as, blocked-off, notice-off, compatible-tested, heads-tested}
 use Rattle.tables.proofs.Fields.{fields-are}
 
@@ -124,9 +124,6 @@ module _ (ws ss : List ℕ) (h : sound ws ss ≡ true) where
   gone : (r : ℕ) → within (resources-in ws) r ≡ false → resource (read ws ss) r ≡ no-resource
   gone r w = absent (read ws ss) r (rw (resources-read ws ss) w)
 
-  pub used-in : (r : ℕ) → used (read ws ss) r ≡ true → (1 ≤ r) × (r ≤ resources-in ws)
-  used-in r u = within-le (resources-in ws) r (rw (resources-read ws ss) at (used-within (read ws ss) r u))
-
   named : (r : ℕ) → used (read ws ss) r ≡ true → null (resource (read ws ss) r .name) ≡ false
   unfolding used
   named r u = not-true (null (resource (read ws ss) r .name)) u
@@ -144,7 +141,7 @@ module _ (ws ss : List ℕ) (h : sound ws ss ≡ true) where
 
   names-are : (r s : ℕ) → r ≢ s → used (read ws ss) r ≡ true → resource (read ws ss) r .name ≢ resource (read ws ss) s .name
   names-are r s n u q =
-      let i = used-in r u in
+      let i = used-in ws ss r u in
       by-cases (within (resources-in ws) s)
       (λ w. let m = within-le (resources-in ws) s w in
       names-differ (read ws ss) r (unique-is r (i .0) (i .1) (named r u)) s (m .0) (rw (resources-read ws ss) (m .1)) (λ e. n (sym e)) (sym q))
@@ -156,7 +153,7 @@ module _ (ws ss : List ℕ) (h : sound ws ss ≡ true) where
   agree-is j k n a b e =
       let r = lock (read ws ss) k .resource in
       let pair : ℕ → ℕ → Bool = λ j k. eqb j k || compatible (lock (read ws ss) j .held) (lock (read ws ss) k .held) in
-      let i = used-in r (holder-place (used (read ws ss)) (lock (read ws ss) k) (lock-is k) b .in-use) in
+      let i = used-in ws ss r (holder-place (used (read ws ss)) (lock (read ws ss) k) (lock-is k) b .in-use) in
       let first = all-at (λ j. all (pair j) (holders (read ws ss) r)) (holders (read ws ss) r) (compatible-tested ws ss h r (i .0) (i .1)) j (holder-in (read ws ss) linked-is r j a e) in
       rw (ne-eqb j k n) at (all-at (pair j) (holders (read ws ss) r) first k (holder-in (read ws ss) linked-is r k b refl))
 
@@ -214,7 +211,7 @@ module _ (ws ss : List ℕ) (h : sound ws ss ≡ true) where
     stands c i b = on-link (of-locks c) i (suc k) (stands-as ws ss h (suc k) (omega arith) high c i ∙ (rw b))
 
     housed : Place (used (read ws ss)) (lock (read ws ss) (suc k)) → (1 ≤ lock (read ws ss) (suc k) .resource) × (lock (read ws ss) (suc k) .resource ≤ resources-in ws)
-    housed p = used-in (lock (read ws ss) (suc k) .resource) (p .in-use)
+    housed p = used-in ws ss (lock (read ws ss) (suc k) .resource) (p .in-use)
 
     home-link : (s : ℕ) → lock (read ws ss) (suc k) .state ≡ s → StateOk (used (read ws ss)) (lock (read ws ss) (suc k)) s →
         word-in ws (of-lock (suc k) 0) ≡ next (suc k) (0 ∷ chain (read ws ss) (home-at s (lock (read ws ss) (suc k) .resource)))
