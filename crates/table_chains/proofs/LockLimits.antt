@@ -13,7 +13,7 @@ use Rattle.tables.proofs.Links.{each-map}
 use Rattle.tables.proofs.ReadBack.{lock-read}
 use Rattle.table_fields.specs.Sizes.{Sized}
 use Rattle.table_chains.specs.Walking.{At, Walking}
-use Rattle.table_chains.proofs.ChainCells.{locks-is}
+use Rattle.table_fields.proofs.StateWords.{locks-is}
 use Rattle.table_chains.proofs.ChainWalks.{some-sized}
 
 module _ (t : Tables) (core : Core t) (k : ℕ) where
