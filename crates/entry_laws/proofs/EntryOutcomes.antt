@@ -29,7 +29,7 @@ record Ruled (call : Call) (refusal : Tables → ℕ) (change : Tables → Step)
   step-is : (t : Tables) → step-of call t ≡ refused-or (refusal t) (change t) t
   passes : (t : Tables) → Valid t → refusal t ≡ 0 → P t
 
-request-ruled : (c m f : ℕ) (n : List ℕ) → Ruled (to-request c m f n) (request-refusal c m f n) (request-change c m n) (Requestable c m n)
+request-ruled : (c m f : ℕ) (n : List ℕ) → Ruled (to-request c m f n) (request-refusal c m f n) (request-change c m n) (Requestable c m f n)
 unfolding request
 request-ruled c m f n = record { step-is = λ t. refl; passes = λ t val. request-passed t val c m f n }
 
@@ -151,10 +151,10 @@ module _ (ws ss : List ℕ) (b : Bool) (checked : b ≡ sound ws ss) where
         pub request-refused : (n ≡ 0 → ⊥) → Keeps (to-request c m f name) (lent ws ss) (refused-with n) (lent ws ss)
         request-refused = refused-by (request-ruled c m f name) n request-number
 
-        pub request-lent : n ≡ 0 → SomeTables (Requestable c m name) ws ss
+        pub request-lent : n ≡ 0 → SomeTables (Requestable c m f name) ws ss
         request-lent = lent-for (request-ruled c m f name) n request-number
 
-        pub request-made : n ≡ 0 → (ds es : List ℕ) (x : Said) → Makes (Requestable c m name) (request-change c m name) ws ss ds es x
+        pub request-made : n ≡ 0 → (ds es : List ℕ) (x : Said) → Makes (Requestable c m f name) (request-change c m name) ws ss ds es x
             → Keeps (to-request c m f name) (lent ws ss) x (lent ds es)
         request-made = made-by (request-ruled c m f name) n request-number
 

@@ -142,7 +142,7 @@ request-accepted c m n t = on (resource-for (find n t) t) (first (t .free-locks)
     on : (r k : ℕ) (t′ : Tables) → request-on r k c m t′ .said .refusal ≡ 0
     on r k t′ = unfold request-on in by-cases (admits t′ r m) (λ h. rw (h, request-on)) (λ h. rw (h, request-on))
 
-requested : (c m f : ℕ) (n : List ℕ) (t : Tables) → Requestable c m n t → Kept (to-request c m f n) t (request-change c m n t)
+requested : (c m f : ℕ) (n : List ℕ) (t : Tables) → Requestable c m f n t → Kept (to-request c m f n) t (request-change c m n t)
 unfolding requests-accepted releases-accepted requests-cancelled locks-purged polled-denials
 requested c m f n t p =
     accepted-kept (to-request c m f n) t (request-change c m n t) _ (request-accepted c m n t)
