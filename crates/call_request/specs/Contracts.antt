@@ -29,7 +29,7 @@ pub record Houses (n a sa b sb : List ℕ) (r : ℕ) : Type 0 where
 -- the mode m may be requested on the resource r, and where flag 4 forbids to queue it is admitted there
 pub record AsksOn (r m f : ℕ) (t : Tables) : Type 0 where
   pub here : Resourced r t
-  pub mode : m ≤ 5
+  pub mode : m ≤ last-mode
   pub unqueued : no-queue f ≡ true → admits t r m ≡ true
 
 -- .. and the free lock k may become a lock of the client c there; r is in use
