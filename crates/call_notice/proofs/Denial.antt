@@ -129,7 +129,7 @@ deny-none : (k : ℕ) (t : Tables) → k ≡ 0 → deny-victim k t ≡ accepted-
 unfolding deny-victim
 deny-none k t e = rw e
 
-deny-some : (k : ℕ) (t : Tables) → k ≢ 0 → deny-victim k t ≡ accepted-step k 0 (deny k t)
+deny-some : (k : ℕ) (t : Tables) → k ≢ 0 → deny-victim k t ≡ accepted-step k k (deny k t)
 unfolding deny-victim
 deny-some zero t n = absurd (n refl)
 deny-some (suc k) t n = refl
@@ -139,7 +139,7 @@ unfolding break
 break-is k t e = ap (λ (x : ℕ). deny-victim x t) (sym e)
 
 -- the numbers of a denied lock
-denied-is : (k : ℕ) → k ≢ 0 → (u : Lent) → outcome (denial k) u ≡ outcome (accepted k 0) u
+denied-is : (k : ℕ) → k ≢ 0 → (u : Lent) → outcome (denial k) u ≡ outcome (accepted k k) u
 denied-is zero n u = absurd (n refl)
 denied-is (suc k) n u = refl
 
@@ -164,7 +164,7 @@ module _ (a : List ℕ) (k : ℕ) (tells : Tells Core victim a k) where
     break-denied b denies = record {
       then = λ t v is.
           denied-is k n (lent b (slots t))
-          ∙ stepped (break t) k 0 (deny k t) b (slots t) (break-is k t (tells .then t (v .core) is) ∙ deny-some k t n) (denies .then t (blocked-at t v is) is) (sym (slots-deny k t));
+          ∙ stepped (break t) k k (deny k t) b (slots t) (break-is k t (tells .then t (v .core) is) ∙ deny-some k t n) (denies .then t (blocked-at t v is) is) (sym (slots-deny k t));
     }
 
 pub ruleset break-laws = (needs, valid-core, break-none, break-blocked, break-denied)

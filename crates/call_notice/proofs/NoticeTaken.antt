@@ -20,7 +20,8 @@ use Rattle.tables.proofs.Valid.{absent-lock}
 use Rattle.tables.proofs.ChainMembers.{on-chain}
 use Rattle.table_fields.specs.Sizes.{Sized}
 use Rattle.rules.specs.Queues.{free-lock}
-use Rattle.rules.specs.Calls.{Said, accepted-step, notice-read, take-notice, poll-notice, poll-change}
+use Rattle.rules.specs.declared.Said.{Said}
+use Rattle.rules.specs.Calls.{accepted-step, notice-read, take-notice, poll-notice, poll-change}
 use Rattle.table_chains.specs.Contracts.{Some, Turns, Tells, Movable, Moving, Moved}
 use Rattle.queues.specs.Contracts.{Locked}
 use Rattle.queues.proofs.ResourceRecord.{slots-free}

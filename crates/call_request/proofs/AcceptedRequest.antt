@@ -16,7 +16,8 @@ use Rattle.tables.proofs.ChainMembers.{on-chain}
 use Rattle.tables.specs.Validity.{used}
 use Rattle.tables.proofs.Valid.{ok-at, used-within}
 use Rattle.rules.specs.Queues.{find}
-use Rattle.rules.specs.Calls.{Said, at-once, new-resource, resource-for, with-resource, request-on, request-change}
+use Rattle.rules.specs.Calls.{at-once, new-resource, resource-for, with-resource, request-on, request-change}
+use Rattle.rules.specs.declared.Said.{Said}
 use Rattle.rules.specs.Accepted.{Requestable}
 use Rattle.rules.proofs.RequestKeepsSound.{found, first-member, new-admits}
 use Rattle.rules.proofs.ResourceChanges.{lock-kept, used-changed}

@@ -8,7 +8,7 @@ use lib.Dec.{eqb, leb}
 use Rattle.tables.specs.State.{most-resources, most-locks}
 use Rattle.tables.specs.Layout.{size, slot-width}
 use Rattle.rules.specs.Images.{Imaged, image-length, word-from, image-size}
-use Rattle.rules.specs.Calls.{Said}
+use Rattle.rules.specs.declared.Said.{Said}
 use Rattle.table_bytes.specs.Bytes.{decoded}
 
 -- the answer, and what the lent area then holds

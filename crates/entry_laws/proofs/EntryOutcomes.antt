@@ -10,7 +10,8 @@ use Rattle.tables.specs.Layout.{words, slots, read}
 use Rattle.tables.specs.Sound.{sound}
 use Rattle.tables.specs.Validity.{Core, Valid}
 use Rattle.tables.proofs.Soundness.{sound-valid, sound-words, sound-slots}
-use Rattle.rules.specs.Calls.{Said, Step, refused-or, request-refusal, request-change, request, convert-refusal, convert-change, convert, release-refusal, release-change, release, cancel-refusal, cancel-change, cancel, purge-refusal, purge-change, purge, break, poll-refusal, poll-change, poll}
+use Rattle.rules.specs.declared.Said.{Said}
+use Rattle.rules.specs.Calls.{Step, refused-or, request-refusal, request-change, request, convert-refusal, convert-change, convert, release-refusal, release-change, release, cancel-refusal, cancel-change, cancel, purge-refusal, purge-change, purge, break, poll-refusal, poll-change, poll}
 use Rattle.rules.specs.Entries.{lent, lent-of, outcome, written, if-sound, entry, Call, step-of, to-request, to-convert, to-release, to-cancel, to-purge, to-break, to-poll, call-entry, Keeps}
 use Rattle.rules.proofs.QueueTheorem.{outcome-is}
 use Rattle.rules.specs.Accepted.{Requestable, Releasable, Convertible, Cancellable, Purgeable}

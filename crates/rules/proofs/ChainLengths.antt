@@ -18,7 +18,7 @@ use Rattle.rules.proofs.CallsKeepSound.{After, release-after, cancel-af
 use Rattle.rules.proofs.RequestKeepsSound.{request-after}
 use Rattle.rules.proofs.PurgeKeepsSound.{length-pushed, purge-after}
 
-length-keep : (p : ℕ → Bool) (xs : List ℕ) → length (keep p xs) + length (keep (λ j. not (p j)) xs) ≡ length xs
+pub length-keep : (p : ℕ → Bool) (xs : List ℕ) → length (keep p xs) + length (keep (λ j. not (p j)) xs) ≡ length xs
 unfolding keep
 length-keep p [] = refl
 length-keep p (x ∷ xs) = by-cases (p x) (λ h. rw h (omega (arith, length-keep p xs))) (λ h. rw h (omega (arith, length-keep p xs)))

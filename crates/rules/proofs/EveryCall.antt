@@ -135,7 +135,7 @@ refused-kept c t (suc n) s val h =
     }
 
 -- REQUEST
-pub request-accepted : (c m : ℕ) (n : List ℕ) (t : Tables) → request-change c m n t .said .refusal ≡ 0
+request-accepted : (c m : ℕ) (n : List ℕ) (t : Tables) → request-change c m n t .said .refusal ≡ 0
 unfolding request-change
 request-accepted c m n t = on (resource-for (find n t) t) (first (t .free-locks)) (with-resource (find n t) n t)
   where
@@ -150,7 +150,7 @@ requested c m f n t p =
     (rw (request-accepted c m n t) (omega (arith, request-count t (p .valid) c m n (p .client-low) (p .client-high) (p .mode) (p .some) (p .short) (p .room) (p .lock-left))))
 
 -- CONVERT
-pub convert-accepted : (k m f : ℕ) (v : List ℕ) (t : Tables) → convert-change k m f v t .said .refusal ≡ 0
+convert-accepted : (k m f : ℕ) (v : List ℕ) (t : Tables) → convert-change k m f v t .said .refusal ≡ 0
 unfolding convert-change
 convert-accepted k m f v t = by-cases (in-place k m t) (λ h. rw (h, convert-change)) (λ h. rw (h, convert-change))
 
@@ -161,7 +161,7 @@ converted c k m f v t p =
     (convert-after k m f v t (p .valid) (p .is-granted) (p .mode) (p .right)) (omega (arith, convert-count t (p .valid) k m f v (p .is-granted) (p .mode) (p .right)))
 
 -- RELEASE
-pub release-accepted : (k f : ℕ) (v : List ℕ) (t : Tables) → release-change k f v t .said .refusal ≡ 0
+release-accepted : (k f : ℕ) (v : List ℕ) (t : Tables) → release-change k f v t .said .refusal ≡ 0
 unfolding release-change
 release-accepted k f v t = refl
 
@@ -172,7 +172,7 @@ let-go c k f v t p =
     (release-after k f v t (p .valid) (p .is-granted) (p .right)) (rw (release-accepted k f v t) (omega (arith, release-count t (p .valid) k f v (p .is-granted) (p .right))))
 
 -- CANCEL
-pub cancel-accepted : (k : ℕ) (t : Tables) → cancel-change k t .said .refusal ≡ 0
+cancel-accepted : (k : ℕ) (t : Tables) → cancel-change k t .said .refusal ≡ 0
 unfolding cancel-change
 cancel-accepted k t = by-cases (converting (lock t k)) (λ h. rw (h, cancel-change)) (λ h. rw (h, cancel-change))
 
@@ -187,7 +187,7 @@ given-up c k t p =
     (cancel-after k t (p .valid) (p .is-blocked)) (rw (cancel-answer k t) (omega (arith, cancel-count t (p .valid) k (p .is-blocked))))
 
 -- PURGE
-pub purge-accepted : (c : ℕ) (t : Tables) → purge-change c t .said .refusal ≡ 0
+purge-accepted : (c : ℕ) (t : Tables) → purge-change c t .said .refusal ≡ 0
 unfolding purge-change
 purge-accepted c t = refl
 
@@ -198,7 +198,7 @@ cleared c t p =
     (omega (arith, purge-count t (p .valid) c (p .client-low)))
 
 -- BREAK
-pub break-accepted : (t : Tables) → break t .said .refusal ≡ 0
+break-accepted : (t : Tables) → break t .said .refusal ≡ 0
 unfolding break
 break-accepted t = go (victim t)
   where
@@ -211,7 +211,7 @@ unfolding requests-accepted releases-accepted requests-cancelled locks-purged po
 broken t val = accepted-kept to-break t (break t) _ (break-accepted t) (break-after t val) (omega (arith, break-count t val))
 
 -- POLL
-pub poll-accepted : (c : ℕ) (t : Tables) → poll-change c t .said .refusal ≡ 0
+poll-accepted : (c : ℕ) (t : Tables) → poll-change c t .said .refusal ≡ 0
 unfolding poll-change
 poll-accepted c t = go (first-that (λ k. eqb (lock t k .client) c) (t .notices))
   where

@@ -7,6 +7,7 @@ pub mod PurgeKeepsSound
 pub mod ChainLengths
 pub mod AcceptedCalls
 pub mod EveryCall
+pub mod SmallNumbers
 pub mod DeadlockVictim
 pub mod QueueProperties
 pub mod QueueTheorem

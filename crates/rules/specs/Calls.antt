@@ -12,15 +12,10 @@ use Rattle.tables.specs.Grants.{holders, fits, admits}
 use Rattle.tables.specs.Sound.{client-right}
 use Rattle.rules.specs.Queues.{sweep, free-lock, settle, find}
 use Rattle.rules.specs.Deadlock.{victim}
+pub use Rattle.rules.specs.declared.Said.{Said}
 
 -- WHAT A CALL SAYS: a refusal, or 0 where it is accepted; its answer; a lock's number, or a further count; and room for one number more. What it
--- doesn't say is zero.
-pub record Said : Type 0 where
-  pub refusal : ℕ
-  pub answer : ℕ
-  pub number : ℕ
-  pub extra : ℕ
-
+-- doesn't say is zero. The record is the code's struct, `Said`.
 abbrev pub accepted : ℕ → ℕ → Said
 accepted a k = record { refusal = 0; answer = a; number = k; extra = 0 }
 
@@ -237,9 +232,10 @@ deny k t =
       | false ↦ sweep r (move r k (denied-lock (lock t k)) t)
     ]
 
+-- the denied lock is the answer, and stands as a lock's number too, as in any other answer
 unfoldable pub deny-victim : ℕ → Tables → Step
 deny-victim zero t = accepted-step 0 0 t
-deny-victim (suc k) t = accepted-step (suc k) 0 (deny (suc k) t)
+deny-victim (suc k) t = accepted-step (suc k) (suc k) (deny (suc k) t)
 
 unfoldable pub break : Tables → Step
 break t = deny-victim (victim t) t
