@@ -6,11 +6,11 @@ use Prim.Native.Nat.{ℕ, _+_, _≤_}
 use native.Mathlib.Omega.{arith}
 use lib.ListN.{length, length-append}
 use borrow.Author.Tests.{eqb-true, eq-eqb}
-use Rattle.tables.specs.Lists.{within, count, from}
+use Rattle.tables.specs.Lists.{count, from}
 use Rattle.tables.specs.State.{grants, converts, waits, free-locks, denied, of-locks}
 use Rattle.tables.specs.Layout.{of-header, flat-map, resources-in, locks-in, word-in, link-in, follow, lock-link}
 use Rattle.tables.proofs.Cases.{by-equal}
-use Rattle.tables.proofs.Counts.{within-le, le-within, count-nil, count-same, count-other, count-step, count-from, bit-one}
+use Rattle.tables.proofs.Counts.{le-within, count-nil, count-same, count-other, count-step, count-from, from-in}
 use Rattle.check_laws.specs.Check.{home-on, home-steps, queues-walk, homes-fine}
 use Rattle.check_laws.proofs.ChainSteps.{Passed, steps-passed, passed-steps}
 use Rattle.check_laws.proofs.ResourceWalk.{queue-in, Walked, walk-met, walk-is}
@@ -36,9 +36,6 @@ pub record Homes (ws : List ℕ) : Type 0 where
 
 in-from : (n r : ℕ) → 1 ≤ r → r ≤ n → 1 ≤ count r (from 1 n)
 in-from n r p q = rw (count-from n r, le-within n r p q) (omega arith)
-
-pub from-in : (n r : ℕ) → 1 ≤ count r (from 1 n) → (1 ≤ r) × (r ≤ n)
-from-in n r m = within-le n r (bit-one (within n r) (rw (count-from n r) at m))
 
 module _ (ws : List ℕ) (some : 1 ≤ locks-in ws) where
   three-length : (r : ℕ) → length (three-in ws r) ≡ length (queue-in ws r grants) + length (queue-in ws r converts) + length (queue-in ws r waits)

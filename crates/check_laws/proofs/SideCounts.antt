@@ -13,14 +13,14 @@ use Rattle.tables.specs.State.{blocked-lock, noticed, Queue, grants, converts, 
 use Rattle.tables.specs.Layout.{of-header, queue-head, flat-map, resources-in, locks-in, word-in, read-lock, lock-link, onward, of-resource}
 use Rattle.tables.specs.Sound.{client-right, modes-right}
 use Rattle.tables.proofs.Cases.{by-cases, and-left, parts}
-use Rattle.tables.proofs.Counts.{count-same, count-step, count-keep, kept-once}
+use Rattle.tables.proofs.Counts.{count-same, count-step, count-keep, kept-once, from-in}
 use Rattle.tables.proofs.Pigeonhole.{same-length}
 use Rattle.tables.proofs.FollowedChains.{follow-agree}
 use Rattle.check_laws.specs.Check.{on-named, fields-fine, links-fine, lock-fine, home-on, home-steps, homes-fine, blocked-at, noticed-at, sum-over}
 use Rattle.check_laws.proofs.ChainSteps.{member}
 use Rattle.check_laws.proofs.ResourceWalk.{link-of, head-of, queue-in}
 use Rattle.check_laws.proofs.Heads.{home-low, home-state, home-fine, queue-member}
-use Rattle.check_laws.proofs.Homes.{free-in, denied-in, three-in, homes-in, Homes, homes-met, denied-steps, from-in}
+use Rattle.check_laws.proofs.Homes.{free-in, denied-in, three-in, homes-in, Homes, homes-met, denied-steps}
 use Rattle.check_laws.proofs.Once.{state-of, right-at, counted}
 
 -- A PART OF A LIST: all, none, of two lists, of many

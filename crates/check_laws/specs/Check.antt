@@ -110,30 +110,26 @@ home-steps ws s r k = steps (lock-link ws 0) (home-on ws s r) (locks-in ws) k
 
 -- a chain of holders, where each held mode must fit the set of those before it: the number of steps, as above, and the set of all the modes (the
 -- record is the code's struct)
-unfoldable pub held-steps : List ℕ → ℕ → ℕ → ℕ → ℕ → ℕ → HolderCount
-held-steps ws s r zero zero set = record { met = 0; modes = set }
-held-steps ws s r zero (suc k) set = record { met = 1; modes = set }
-held-steps ws s r (suc n) zero set = record { met = 0; modes = set }
-held-steps ws s r (suc n) (suc k) set =
+unfoldable pub mode-steps : List ℕ → ℕ → ℕ → (ℕ → ℕ → Bool) → ℕ → ℕ → ℕ → HolderCount
+mode-steps ws s r fit zero zero set = record { met = 0; modes = set }
+mode-steps ws s r fit zero (suc k) set = record { met = 1; modes = set }
+mode-steps ws s r fit (suc n) zero set = record { met = 0; modes = set }
+mode-steps ws s r fit (suc n) (suc k) set =
     let m = read-lock ws (suc k) .held in
-    let rest = held-steps ws s r n (word-in ws (of-lock (suc k) 0)) (with-mode set m) in
-    cond (home-on ws s r (suc k) && fits-set set m) (record { met = suc (rest .met); modes = rest .modes }) (record { met = suc (suc n); modes = set })
+    let rest = mode-steps ws s r fit n (word-in ws (of-lock (suc k) 0)) (with-mode set m) in
+    cond (home-on ws s r (suc k) && fit set m) (record { met = suc (rest .met); modes = rest .modes }) (record { met = suc (suc n); modes = set })
 
 -- ONE RESOURCE. Its grant chain, from the empty set.
 unfoldable pub grant-walk : List ℕ → ℕ → HolderCount
-grant-walk ws r = held-steps ws state-granted r (locks-in ws) (word-in ws (of-resource r 1)) 0
+grant-walk ws r = mode-steps ws state-granted r fits-set (locks-in ws) (word-in ws (of-resource r 1)) 0
 
 -- the locks behind the convert head, which holds h, starting from the set of the granted modes: each must fit h and those before it; the set leaves h
 -- out
-unfoldable pub tail-steps : List ℕ → ℕ → ℕ → ℕ → ℕ → ℕ → HolderCount
-tail-steps ws r h zero zero set = record { met = 0; modes = set }
-tail-steps ws r h zero (suc k) set = record { met = 1; modes = set }
-tail-steps ws r h (suc n) zero set = record { met = 0; modes = set }
-tail-steps ws r h (suc n) (suc k) set =
-    let m = read-lock ws (suc k) .held in
-    let rest = tail-steps ws r h n (word-in ws (of-lock (suc k) 0)) (with-mode set m) in
-    cond (home-on ws state-converting r (suc k) && fits-set (with-mode set h) m) (record { met = suc (rest .met); modes = rest .modes })
-    (record { met = suc (suc n); modes = set })
+unfoldable pub fits-beside : ℕ → ℕ → ℕ → Bool
+fits-beside h set m = fits-set (with-mode set h) m
+
+abbrev pub tail-steps : List ℕ → ℕ → ℕ → ℕ → ℕ → ℕ → HolderCount
+tail-steps ws r h n k set = mode-steps ws state-converting r (fits-beside h) n k set
 
 -- its convert chain: the set is that of the held modes other than the head's
 unfoldable pub convert-from : List ℕ → ℕ → ℕ → ℕ → HolderCount

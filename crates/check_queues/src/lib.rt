@@ -23,9 +23,9 @@ ghost use Rattle.tables.specs.State.{noticed, «state-waiting», «most-locks»
 ghost use Rattle.tables.specs.Layout.{«of-resource», «word-in», «resources-in», «locks-in», «read-lock»};
 ghost use Rattle.table_fields.specs.Sizes.{Sized};
 ghost use Rattle.table_names.specs.Names.{named};
-ghost use Rattle.check_laws.specs.Check.{«home-steps», «tail-steps», «convert-from», «convert-walk», «heads-wait»};
+ghost use Rattle.check_laws.specs.Check.{«home-steps», «fits-beside», «tail-steps», «convert-from», «convert-walk», «heads-wait»};
 ghost use Rattle.check_resources.specs.Passes.{Fine};
-ghost use Rattle.check_queues.specs.QueueWalks.{over, «grants-over», «queues-over», «fits-beside», Walked, Granting, Heads, Counted};
+ghost use Rattle.check_queues.specs.QueueWalks.{over, «grants-over», «queues-over», Walked, Granting, Heads, Counted};
 
 // What the walk along the grant chain finds: how many locks, or one more than there are; the set of their modes; how
 // many belong on the notice chain.
