@@ -1,4 +1,4 @@
--- How a caller reads an answer that is one number of 64 bits, whatever call it is of. include/zamgyorud.h has the same as macros.
+-- How a caller reads an answer that is one number of 64 bits, whatever call it is of. include/zamgyorud.h has the same as inline functions.
 use mathlib.Core.Bool.{cond}
 use Prim.Native.Nat.{ℕ, _-_, _/_, _%_, _^_}
 use lib.Dec.{leb}

@@ -16,8 +16,8 @@ use Rattle.tables.proofs.Counts.{le-within}
 use Rattle.tables.specs.Validity.{Core}
 use Rattle.tables.proofs.ReadBack.{lock-read}
 use Rattle.rules.specs.Calls.{own}
-use Rattle.table_fields.specs.Sizes.{Sized}
-use Rattle.table_fields.proofs.StateWords.{locks-is, core-sized}
+use Rattle.table_fields.proofs.StateWords.{locks-is}
+use Rattle.table_chains.proofs.ChainWalks.{some-sized}
 use Rattle.table_chains.specs.Contracts.{Some, Tells}
 
 outside : (n k : ℕ) → n < k → within n k ≡ false
@@ -25,11 +25,8 @@ outside n zero h = refl
 outside n (suc k) h = le-ltb k n (omega arith)
 
 module _ (ws : List ℕ) where
-  pub core-sized : Some Core ws → Sized ws
-  core-sized s = core-sized (s .state) ws (s .is) (s .good)
-
   pub second-word : Some Core ws → 1 < length ws
-  second-word s = omega (arith, core-sized s .long)
+  second-word s = omega (arith, some-sized s .long)
 
   module _ (c k : ℕ) where
     pub own-range : (k ≡ 0 → ⊥) → k ≤ getD ws 1 0 → (1 ≤ k) × (k ≤ locks-in ws)
@@ -54,4 +51,4 @@ module _ (ws : List ℕ) where
               rw (le-within (length (t .locks)) k low high, same);
         }
 
-pub ruleset owning = (needs, core-sized, second-word, own-range, own-none, own-high, own-is)
+pub ruleset owning = (needs, some-sized, second-word, own-range, own-none, own-high, own-is)

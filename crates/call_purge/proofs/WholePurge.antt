@@ -16,13 +16,12 @@ use Rattle.tables.specs.State.{Tables, lock, resource, grants, converts, waits,
 use Rattle.tables.specs.Layout.{words, slots}
 use Rattle.tables.specs.Grants.{holders}
 use Rattle.tables.proofs.Cases.{by-cases, by-equal, clash, eqb-same}
-use Rattle.tables.proofs.Counts.{within-le, count-same, count-step, count-append, count-from, bit-one, any-intro, by-append, kept-in, count-kept}
+use Rattle.tables.proofs.Counts.{within-le, count-same, count-step, count-append, count-from, bit-one, any-intro, by-append, kept-in, count-kept, keep-cong, any-has}
 use Rattle.tables.specs.Validity.{used, StateOk, Core}
 use Rattle.tables.proofs.Valid.{absent-lock}
 use Rattle.tables.proofs.ChainMembers.{chain-has, in-holder, on-waits}
 use Rattle.rules.specs.Entries.{lent}
 use Rattle.rules.specs.Calls.{accepted, locks-of, purge-lock, purge-locks, stands-on, settle-all, purge-change}
-use Rattle.rules.proofs.QueueTheorem.{keep-cong}
 use Rattle.rules.specs.Accepted.{Purgeable}
 use Rattle.table_fields.specs.Sizes.{resource-places}
 use Rattle.table_chains.specs.Contracts.{Changes}
@@ -53,14 +52,6 @@ none-marked (suc n) zero = refl
 none-marked (suc n) (suc s) = none-marked n s
 
 -- WHERE THE CLIENT STANDS: on the resources of its locks
-any-has : (p : ℕ → Bool) (xs : List ℕ) → any p xs ≡ true → (j : ℕ) × (1 ≤ count j xs) × (p j ≡ true)
-unfolding any
-any-has p [] h = clash false h refl
-any-has p (x ∷ xs) h =
-    by-cases (p x)
-    (λ e. (x, rw count-same (omega arith), e))
-    (λ e. let i = any-has p xs (rw e at h) in (i .0, omega (arith, i .1, count-step (i .0) x xs), i .2))
-
 same-truth : (a b : Bool) → (a ≡ true → b ≡ true) → (b ≡ true → a ≡ true) → a ≡ b
 same-truth true b f g = sym (f refl)
 same-truth false b f g = by-cases b (λ e. clash false (g e) refl) (λ e. sym e)

@@ -20,7 +20,7 @@ use Rattle.table_fields.proofs.StateWords.{locks-is}
 use Rattle.rules.specs.Calls.{unless, own, cancel-refusal, purge-refusal, poll-refusal}
 use Rattle.rules.specs.Entries.{look-refusal}
 use Rattle.table_chains.specs.Contracts.{Some, Tells}
-use Rattle.call_arguments.proofs.OwnLock.{core-sized}
+use Rattle.table_chains.proofs.ChainWalks.{some-sized}
 use Rattle.call_refusals.specs.Rests.{granted-refusal}
 
 -- purge and poll
@@ -66,7 +66,7 @@ module _ (ws : List ℕ) (c k : ℕ) where
       pub own-there : Some Core ws → Sized ws × ((1 ≤ k) × (k ≤ locks-in ws))
       own-there s =
           let r = range (s .state) (s .good) (s .is) in
-          (core-sized ws s, (r .0, rw (locks-is (s .state) ws (s .is)) (r .1)))
+          (some-sized s, (r .0, rw (locks-is (s .state) ws (s .is)) (r .1)))
 
       module _ (l : Lock) (el : l ≡ read-lock ws k) where
         says : (f : Lock → Bool) (b : Bool) → f l ≡ b → (t : Tables) → Core t → ws ≡ words t → f (lock t k) ≡ b

@@ -11,11 +11,10 @@ use Rattle.tables.specs.Lists.{count, any, keep}
 use Rattle.tables.specs.State.{Tables, lock, resource, converting, waiting, blocked-lock, converts, waits, queue}
 use Rattle.tables.specs.Grants.{holders}
 use Rattle.tables.proofs.Cases.{by-cases, by-equal, clash, or-left, or-right, eqb-same}
-use Rattle.tables.proofs.Counts.{count-nil, count-same, count-other, count-append, by-append}
+use Rattle.tables.proofs.Counts.{count-nil, count-same, count-other, count-append, by-append, any-has}
 use Rattle.tables.specs.Validity.{Core, line}
 use Rattle.tables.proofs.ChainMembers.{state-within, chain-has, on-converts, on-waits, blocked-place}
 use Rattle.rules.specs.Deadlock.{before, ahead, obstacles}
-use Rattle.rules.proofs.WalkSearch.{any-has}
 use Rattle.deadlock_graph.specs.Owners.{in-way}
 use Rattle.deadlock_graph.proofs.SameVictim.{Alike}
 

@@ -15,11 +15,10 @@ use Rattle.tables.specs.State.{Tables, lock, resource, converting, blocked-lock
 use Rattle.tables.specs.Layout.{of-resource, of-lock, resources-in, word-in, onward}
 use Rattle.tables.specs.Grants.{holders}
 use Rattle.tables.proofs.Cases.{by-cases, by-equal, clash, and-left, and-right, or-left}
-use Rattle.tables.proofs.Counts.{count-nil, count-same, count-other, count-append, by-append}
+use Rattle.tables.proofs.Counts.{count-nil, count-same, count-other, count-append, by-append, any-has}
 use Rattle.tables.specs.Validity.{Core, line}
 use Rattle.tables.proofs.ChainMembers.{on-converts}
 use Rattle.rules.specs.Deadlock.{before, ahead, obstacles, owner, leads}
-use Rattle.rules.proofs.WalkSearch.{any-has}
 use Rattle.table_fields.specs.Sizes.{Sized}
 use Rattle.table_chains.specs.Contracts.{Some}
 use Rattle.table_chains.specs.Walking.{Walking}

@@ -15,6 +15,7 @@ use Rattle.tables.specs.State.{Resource, Tables, lock, resource, Queue, grants,
 use Rattle.tables.specs.Layout.{of-resource, of-lock, queue-head, words, locks-in, word-in, read-lock}
 use Rattle.tables.specs.Grants.{holders}
 use Rattle.tables.proofs.Cases.{and-left}
+use Rattle.tables.proofs.Links.{first-of, first-after}
 use Rattle.tables.proofs.ReadBack.{lock-read}
 use Rattle.tables.specs.Validity.{Core}
 use Rattle.table_fields.specs.Sizes.{Sized}
@@ -22,7 +23,7 @@ use Rattle.table_fields.proofs.StateWords.{resources-is, locks-is}
 use Rattle.table_chains.specs.Contracts.{Some, Tells, Resourced}
 use Rattle.table_chains.proofs.ChainWalks.{some-sized, queue-first, here-sized, here-low, here-high}
 use Rattle.list_walker.specs.Order.{locks-on, first-on, queues-past, first-past, Queued, next-on, PlaceOn, SomePlaceOn, CountedOn}
-use Rattle.list_walker.proofs.ListsInARow.{first-of, first-after, at-on, at-inside, at-end, at-next}
+use Rattle.list_walker.proofs.ListsInARow.{at-on, at-inside, at-end, at-next}
 use Rattle.list_walker.proofs.ResourceLocks.{Split, split-next, split-past, none-zero, no-lock-zero, resource-on, once-on, few-on, queued-at, queued-range, queued-resourced, split-here}
 
 -- first_past: by the numbers of the state, and of the three heads

@@ -17,6 +17,7 @@ use Rattle.tables.specs.Validity.{used, StateOk, Core}
 use Rattle.tables.proofs.Cases.{by-cases}
 use Rattle.tables.proofs.Counts.{within-le, count-same, first-in}
 use Rattle.tables.proofs.ChainMembers.{on-chain}
+use Rattle.tables.proofs.Pigeonhole.{length-from}
 use Rattle.tables.proofs.Soundness.{sound-valid}
 use Rattle.rules.specs.Queues.{find}
 use Rattle.rules.specs.Deadlock.{victim}
@@ -24,7 +25,7 @@ use Rattle.rules.specs.Calls.{Said, accepted, refused, Step, unless, ref
 use Rattle.rules.specs.Entries.{Lent, Call, to-request, to-convert, to-release, to-cancel, to-purge, to-break, to-poll, step-of, written-back, if-sound, entry, call-entry, start-accepts, start-if, start-entry, look-refusal, read-value, read-if, read-entry, lock-entry, listed, list-locks, list-if, list-entry}
 use Rattle.rules.specs.Images.{image-refusal, image-into, image-entry, load-refusal, load-into, load-entry}
 use Rattle.rules.specs.Numbers.{Small, reading-said, listing-said, imaged-said, NumbersSmall}
-use Rattle.rules.proofs.ChainLengths.{length-keep, length-from, chain-short}
+use Rattle.rules.proofs.ChainLengths.{length-keep, chain-short}
 
 small-accepted : (a k : ℕ) → a < 2 ^ 16 → k < 2 ^ 16 → Small (accepted a k)
 small-accepted a k p q = record { refusal = omega arith; answer = p; number = q; extra = omega arith; silent = λ z. absurd (z refl) }
