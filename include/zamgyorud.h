@@ -62,11 +62,12 @@ extern "C" {
 #define ZAMGYORUD_VERSION_MINOR 1
 #define ZAMGYORUD_VERSION_PATCH 0
 
-/* Limits: of R, of L, of a client's number, of a name's bytes. */
+/* The most that R, L and a client's number can be; the most bytes of a name; the bytes of a value. */
 #define ZAMGYORUD_MOST_RESOURCES 256
 #define ZAMGYORUD_MOST_LOCKS 1024
 #define ZAMGYORUD_MOST_CLIENT 255
-#define ZAMGYORUD_MOST_NAME 64
+#define ZAMGYORUD_NAME_BYTES 64
+#define ZAMGYORUD_VALUE_BYTES 32
 
 /* Lengths, for constant r and l: of the words in words, of the slots and of an image in bytes, of the memory for zamgyorud_tables_in in words. The
  * functions of the same names, below, take any numbers. */
@@ -74,7 +75,6 @@ extern "C" {
 #define ZAMGYORUD_SLOTS_LEN(r, l) (96 * (size_t)(r))
 #define ZAMGYORUD_IMAGE_LEN(r, l) (4 * ZAMGYORUD_WORDS_LEN(r, l) + ZAMGYORUD_SLOTS_LEN(r, l))
 #define ZAMGYORUD_MEMORY_LEN(r, l) (ZAMGYORUD_WORDS_LEN(r, l) + ZAMGYORUD_SLOTS_LEN(r, l) / 4)
-#define ZAMGYORUD_VALUE_LEN 32
 
 /* The bytes of stack that a call needs at most, with some margin: measured on x86-64 (tests/stack_test.c), not proved. A signal handler that runs on
  * the same stack comes on top, and so does the loader, at the first call of a function of the shared library. Load and holder of an image of

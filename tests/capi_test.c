@@ -187,7 +187,7 @@ static void test_refusals(void)
     REFUSES(zamgyorud_tables_purge(&tables, 0), 3);
     REFUSES(zamgyorud_tables_poll(&tables, 256), 3);
     unchanged();
-    name[ZAMGYORUD_MOST_NAME] = 0;
+    name[ZAMGYORUD_NAME_BYTES] = 0;
     GIVES(request(ZAMGYORUD_MOST_CLIENT, ZAMGYORUD_MODE_EX, 0, name), 1, 1);
     GIVES(request(1, ZAMGYORUD_MODE_NL, 0, "b"), 1, 2);
     GIVES(request(1, ZAMGYORUD_MODE_NL, 0, "c"), 1, 3);
@@ -201,7 +201,7 @@ static void test_refusals(void)
 /* Values, after test_takeover: client 2 holds EX on vip-7 with lock 2. */
 static void test_values(void)
 {
-    uint8_t stored[ZAMGYORUD_VALUE_LEN], value[40], sevens[40];
+    uint8_t stored[ZAMGYORUD_VALUE_BYTES], value[40], sevens[40];
 
     memset(sevens, 7, sizeof sevens);
     for (uint8_t i = 0; i < sizeof stored; i++)

@@ -18,7 +18,7 @@
 static uint32_t memory[ZAMGYORUD_MEMORY_LEN(MOST_R, MOST_L)];
 static uint8_t image[ZAMGYORUD_IMAGE_LEN(MOST_R, MOST_L)];
 static struct zamgyorud_entry entries[MOST_L];
-static uint8_t value[ZAMGYORUD_VALUE_LEN];
+static uint8_t value[ZAMGYORUD_VALUE_BYTES];
 static struct zamgyorud_tables tables;
 static uint32_t resources;
 static uint32_t locks;
