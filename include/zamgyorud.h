@@ -57,9 +57,9 @@ extern "C" {
 #endif
 
 /* The version of this header and of the library that comes with it. */
-#define ZAMGYORUD_VERSION "0.1.0"
+#define ZAMGYORUD_VERSION "0.2.0"
 #define ZAMGYORUD_VERSION_MAJOR 0
-#define ZAMGYORUD_VERSION_MINOR 1
+#define ZAMGYORUD_VERSION_MINOR 2
 #define ZAMGYORUD_VERSION_PATCH 0
 
 /* The most that R, L and a client's number can be; the most bytes of a name; the bytes of a value. */
