@@ -1,8 +1,9 @@
 // One resource's queues: each lock on them is fine, the held modes are compatible, and no head can be granted.
+use check_chains::WAIT_CHAIN;
+use check_chains::met;
 use check_laws::HolderCount;
 use check_locks::stands_converting;
 use check_locks::stands_granted;
-use check_locks::stands_waiting;
 use check_resources::bit;
 use table_fields::COMPLETION_NONE;
 use table_fields::LOCK_ASKED;
@@ -218,38 +219,15 @@ fn convert_walk(words: &[u32], r: u32, granted: u32) -> HolderCount
 }
 
 // How many locks the wait chain of r has; one more than there are if it does not end, or has a lock that does not
-// belong there. The walk has an inner loop for runs of records, as those of `check_chains` have.
-pub fn waiting_met(words: &[u32], r: u32) -> u32
+// belong there.
+fn waiting_met(words: &[u32], r: u32) -> u32
     requires { ⌜ Sized (now words) ⌝ }
     requires { ⌜ (1 ≤ r) × (r ≤ resources-in (now words)) ⌝ }
     requires { ⌜ named (now words) r ≡ true ⌝ }
     ensures { λ x. ⌜ (x ≡ home-steps (now (words .entry)) state-waiting r (word-in (now (words .entry)) (of-resource r 3))) × (x ≤ locks-in (now (words .entry)) + 1) ⌝ }
 {
-    let n = words[LOCKS];
-    let mut k = resource_word(words, r, RESOURCE_WAIT);
-    let mut met = 0;
-    while k != 0 {
-        loop {
-            if n <= met {
-                return n + 1;
-            }
-            if n < k {
-                return n + 1;
-            }
-            if !stands_waiting(words, r, k) {
-                return n + 1;
-            }
-            let beside = k + 1;
-            let next = lock_word(words, k, LOCK_NEXT);
-            met += 1;
-            if next != beside {
-                k = next;
-                break;
-            }
-            k = beside;
-        }
-    }
-    met
+    let first = resource_word(words, r, RESOURCE_WAIT);
+    met(words, WAIT_CHAIN, r, LOCK_NEXT, first)
 }
 
 // The convert head is kept out by the others' modes. If there is no convert head, the wait head is kept out by the
