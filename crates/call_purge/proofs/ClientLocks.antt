@@ -2,7 +2,7 @@
 use mathlib.Core.Path.{_≡_, refl, sym, _∙_, ap}
 use mathlib.Core.Bool.{Bool, true, false}
 use mathlib.Core.List.{List, [], _∷_}
-use Prim.Native.Nat.{ℕ, zero, suc, _+_, _≤_, _<_, _^_}
+use Prim.Native.Nat.{ℕ, _+_, _≤_, _<_, _^_}
 use native.Mathlib.Omega.{arith}
 use lib.ListN.{length, set}
 use lib.Dec.{eqb}
@@ -14,8 +14,8 @@ use Rattle.tables.specs.State.{Tables, lock, most-locks}
 use Rattle.tables.specs.Layout.{words, slots, locks-in, read-lock}
 use Rattle.tables.proofs.Cases.{by-cases}
 use Rattle.tables.proofs.Counts.{within-le, le-within, count-same, count-step}
-use Rattle.tables.specs.Validity.{used, StateOk, Core}
-use Rattle.tables.proofs.Valid.{used-within}
+use Rattle.tables.specs.Validity.{Core}
+use Rattle.tables.proofs.Valid.{housed}
 use Rattle.rules.specs.Calls.{locks-of, purge-lock, purge-locks}
 use Rattle.table_fields.specs.Sizes.{Sized, resource-places}
 use Rattle.table_fields.proofs.StateWords.{locks-is, core-sized}
@@ -23,7 +23,7 @@ use Rattle.table_chains.specs.Contracts.{Changes}
 use Rattle.queues.specs.Contracts.{Locked, SomeTables}
 use Rattle.call_purge.specs.PurgedLocks.{of-client, purge-own, mark-own, count-own, purge-all, mark-locks, mark-all, count-all, Frees}
 use Rattle.call_purge.proofs.NumbersLeft.{ahead, ahead-start, ahead-end, ahead-in, ahead-out, ahead-past, ahead-cong}
-use Rattle.call_purge.proofs.OneLock.{Freed, lock-freed, lock-sized, lock-low, lock-high, lock-told}
+use Rattle.call_purge.proofs.OneLock.{Freed, lock-freed, locked-sized, locked-low, locked-high, lock-told}
 
 -- ONE LOCK
 module _ (c k : ℕ) (t : Tables) where
@@ -64,18 +64,7 @@ module _ (c k : ℕ) (t : Tables) where
 
 -- a lock's resource has a place among the marks
 resource-few : (k : ℕ) (t : Tables) → Core t → lock t k .resource < resource-places
-resource-few k t co = go (lock t k .state) (co .lock-ok k)
-  where
-    inside : used t (lock t k .resource) ≡ true → lock t k .resource < resource-places
-    inside u = omega (arith, within-le (length (t .resources)) (lock t k .resource) (used-within t (lock t k .resource) u) .1, co .resources-high)
-
-    go : (n : ℕ) → StateOk (used t) (lock t k) n → lock t k .resource < resource-places
-    go zero ok = rw ok (omega arith)
-    go (suc zero) ok = inside (ok .place .in-use)
-    go (suc (suc zero)) ok = inside (ok .place .in-use)
-    go (suc (suc (suc zero))) ok = inside (ok .place .in-use)
-    go (suc (suc (suc (suc zero)))) ok = omega (arith, ok .nowhere)
-    go (suc (suc (suc (suc (suc n))))) ok = absurd ok
+resource-few k t co = omega (arith, housed t (lock t k) (lock t k .state) (co .lock-ok k), co .resources-high)
 
 -- purge_own
 module _ (c k : ℕ) (a sa : List ℕ) (l : Lock) (el : l ≡ read-lock a k) where
@@ -104,7 +93,7 @@ module _ (c k : ℕ) (a sa : List ℕ) (l : Lock) (el : l ≡ read-lock a k) whe
         rw (own-purged c k t h, own-marked c k t h m, own-counted c k t h) (w .0, w .1, ap (λ (i : ℕ). set m i true) z, refl);
   }
 
-pub ruleset own-laws = (needs, lock-sized, lock-low, lock-high, own-place, own-none, own-one)
+pub ruleset own-laws = (needs, locked-sized, locked-low, locked-high, own-place, own-none, own-one)
 
 -- THE LOOP: the client's locks from k on
 unfoldable pub left : ℕ → ℕ → Tables → List ℕ
@@ -195,8 +184,8 @@ pub record Going (c last k : ℕ) (a sa : List ℕ) (m₀ : List Bool) (b sb : L
   pub locks-are : locks-in b ≡ last
   pub then : (t : Tables) → Core t → a ≡ words t → sa ≡ slots t → Goes c last k t m₀ b sb m n
 
-pub core-sized : (a sa : List ℕ) → SomeTables Core a sa → Sized a
-core-sized a sa s = core-sized (s .state) a (s .is) (s .good)
+pub lent-sized : (a sa : List ℕ) → SomeTables Core a sa → Sized a
+lent-sized a sa s = core-sized (s .state) a (s .is) (s .good)
 
 module _ (c last : ℕ) (a sa : List ℕ) (m₀ : List Bool) where
   pub purge-starts : SomeTables Core a sa → length m₀ ≡ resource-places → last ≡ locks-in a → Going c last 1 a sa m₀ a sa m₀ 0
@@ -210,7 +199,7 @@ module _ (c last : ℕ) (a sa : List ℕ) (m₀ : List Bool) where
         marks-size = refl;
         wide = w;
         few = omega arith;
-        last-few = omega (arith, core-sized a sa s .few-locks);
+        last-few = omega (arith, lent-sized a sa s .few-locks);
         locks-are = sym e;
         then = λ t co is iss. record {
           here = t;
@@ -299,4 +288,4 @@ module _ (c last : ℕ) (a sa : List ℕ) (m₀ : List Bool) where
                   marks = rw (w .2) (v .marks m ∙ q .marks);
                 }
 
-pub ruleset purges-laws = (needs, core-sized, purge-starts, purge-locked, purge-fits, purge-again, purge-ends)
+pub ruleset purges-laws = (needs, lent-sized, purge-starts, purge-locked, purge-fits, purge-again, purge-ends)

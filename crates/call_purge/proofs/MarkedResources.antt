@@ -21,7 +21,7 @@ use Rattle.table_chains.specs.Contracts.{Changes, Resourced}
 use Rattle.queues.specs.Contracts.{SomeTables}
 use Rattle.call_purge.specs.SettledResources.{marked, settle-if, settle-marked}
 use Rattle.call_purge.proofs.NumbersLeft.{ahead, ahead-start, ahead-end, ahead-in, ahead-out}
-use Rattle.call_purge.proofs.ClientLocks.{core-sized}
+use Rattle.call_purge.proofs.ClientLocks.{lent-sized}
 
 -- ONE RESOURCE
 if-settled : (b : Bool) (r : ℕ) (t : Tables) → b ≡ true → settle-if b r t ≡ settle r t
@@ -131,7 +131,7 @@ module _ (m : List Bool) (a sa : List ℕ) where
           record { state = g .lent .state; good = there (g .lent .state) (g .lent .good) (g .lent .is); is = g .lent .is; slots-are = g .lent .slots-are }
 
       last-few : last ≤ most-resources
-      last-few = omega (arith, core-sized b sb (g .lent) .few-resources, g .resources-are)
+      last-few = omega (arith, lent-sized b sb (g .lent) .few-resources, g .resources-are)
 
       pub settle-place : r < length m
       settle-place = omega (arith, last-few, g .wide)
@@ -167,4 +167,4 @@ module _ (m : List Bool) (a sa : List ℕ) where
                 };
           }
 
-pub ruleset settles-laws = (needs, core-sized, settle-starts, settle-resourced, settle-place, settle-next, settle-again, settle-ends)
+pub ruleset settles-laws = (needs, lent-sized, settle-starts, settle-resourced, settle-place, settle-next, settle-again, settle-ends)

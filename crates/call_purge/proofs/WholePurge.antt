@@ -15,8 +15,8 @@ use Rattle.tables.specs.Lists.{within, count, any, from}
 use Rattle.tables.specs.State.{Tables, lock, resource, grants, converts, waits, queue}
 use Rattle.tables.specs.Layout.{words, slots}
 use Rattle.tables.specs.Grants.{holders}
-use Rattle.tables.proofs.Cases.{by-cases, by-equal, clash, eqb-same}
-use Rattle.tables.proofs.Counts.{within-le, count-same, count-step, count-append, count-from, bit-one, any-intro, by-append, kept-in, count-kept, keep-cong, any-has}
+use Rattle.tables.proofs.Cases.{by-cases, by-equal, eqb-same, same-truth}
+use Rattle.tables.proofs.Counts.{within-le, count-same, count-step, count-append, count-from, bit-one, any-intro, by-append, kept-in, count-kept, keep-cong, any-has, getD-same}
 use Rattle.tables.specs.Validity.{used, StateOk, Core}
 use Rattle.tables.proofs.Valid.{absent-lock}
 use Rattle.tables.proofs.ChainMembers.{chain-has, in-holder, on-waits}
@@ -45,17 +45,7 @@ mark-told t s (k ∷ ks) m h =
     (λ e. rw (eq-eqb r s (sym e), e, getD-set-same m r true false (rw e at h)) (by-cases (getD m r false) (λ b. rw b) (λ b. rw b)))
     (λ n. rw (ne-eqb r s (λ e. n (sym e)), getD-set-other m r s true false n))
 
-none-marked : (n s : ℕ) → marked (replicate n false) s ≡ false
-unfolding marked
-none-marked zero s = refl
-none-marked (suc n) zero = refl
-none-marked (suc n) (suc s) = none-marked n s
-
 -- WHERE THE CLIENT STANDS: on the resources of its locks
-same-truth : (a b : Bool) → (a ≡ true → b ≡ true) → (b ≡ true → a ≡ true) → a ≡ b
-same-truth true b f g = sym (f refl)
-same-truth false b f g = by-cases b (λ e. clash false (g e) refl) (λ e. sym e)
-
 module _ (c : ℕ) (t : Tables) (co : Core t) (s : ℕ) (some : s ≢ 0) where
   stands : (k : ℕ) → within (length (t .locks)) k ≡ true → eqb (lock t k .client) c ≡ true → lock t k .resource ≡ s → stands-on c t s ≡ true
   unfolding stands-on holders
@@ -113,14 +103,14 @@ module _ (c : ℕ) (t : Tables) (co : Core t) where
   all-kept = purges-kept (locks-of c t) t co (λ j m. kept-in (λ k. eqb (lock t k .client) c) (length (t .locks)) j m .0)
 
   marks-tell : (m : List Bool) → m ≡ mark-all c (replicate resource-places false) t → (s : ℕ) → within (length (t .resources)) s ≡ true → marked m s ≡ stands-on c t s
-  unfolding mark-all
+  unfolding mark-all marked
   marks-tell m e s w =
       let low = within-le (length (t .resources)) s w in
       let high = co .resources-high in
       let none = replicate resource-places false in
       ap (λ (x : List Bool). marked x s) e
       ∙ mark-told t s (locks-of c t) none (rw (length-replicate resource-places false) (omega arith))
-      ∙ rw (none-marked resource-places s) (stands-told c t co s (λ z. omega arith))
+      ∙ rw (getD-same false resource-places s) (stands-told c t co s (λ z. omega arith))
 
   settles : (m : List Bool) → m ≡ mark-all c (replicate resource-places false) t → settle-marked m (purge-all c t) ≡ purge-change c t .tables
   unfolding purge-change settle-marked purge-all

@@ -6,18 +6,16 @@ use Prim.Native.Nat.{ℕ, _≤_, _<_, _^_}
 use native.Mathlib.Omega.{arith}
 use lib.ListN.{length}
 use lib.Dec.{eqb}
-use borrow.Author.Tests.{eqb-true}
 use borrow.Author.Needs.{needs}
 use Rattle.modes.specs.Modes.{compatible}
 use Rattle.tables.specs.Lists.{within, count}
 use Rattle.tables.specs.declared.Lock.{Lock}
-use Rattle.tables.specs.State.{Tables, lock, converting, blocked-lock, blocked}
+use Rattle.tables.specs.State.{Tables, lock, blocked-lock, blocked}
 use Rattle.tables.specs.Layout.{of-lock, resources-in, locks-in, word-in, read-lock, of-resource}
-use Rattle.tables.proofs.Cases.{by-cases}
 use Rattle.tables.proofs.Counts.{within-le}
 use Rattle.tables.specs.Validity.{used, Core}
-use Rattle.tables.proofs.Valid.{ok-at, used-within}
-use Rattle.tables.proofs.ChainMembers.{state-within, on-chain, chain-has}
+use Rattle.tables.proofs.Valid.{used-within, blocked-lock-place}
+use Rattle.tables.proofs.ChainMembers.{on-chain, chain-has, blocked-within}
 use Rattle.rules.specs.Deadlock.{owner}
 use Rattle.table_fields.specs.Sizes.{Sized}
 use Rattle.table_fields.proofs.StateWords.{resources-is, locks-is}
@@ -104,24 +102,14 @@ module _ (ws : List ℕ) (k : ℕ) where
       let w = within-le (length (s .state .locks)) k (blocked-there s (b .stands) .0) in
       record { some = s; low = w .0; high = omega (arith, w .1, locks-told ws s) }
 
-  blocked-within : (t : Tables) → blocked-lock (lock t k) ≡ true → within (length (t .locks)) k ≡ true
-  blocked-within t h =
-      by-cases (converting (lock t k))
-      (λ g. state-within t k 1 (eqb-true _ 2 g))
-      (λ g. state-within t k 2 (eqb-true _ 3 (rw g at h)))
-
   pub is-blocked : Some Core ws → blocked-lock (lock (seen ws) k) ≡ true → Blocked ws k
   is-blocked s h =
       let h′ : blocked-lock (lock (s .state) k) ≡ true = rw (same-lock ws s k) at h in
-      record { some = s; stands = rw (some-alike ws s .stopped) (omega (arith, chain-has (s .state) (s .good .linked) blocked k (blocked-within (s .state) h′) h′)) }
+      record { some = s; stands = rw (some-alike ws s .stopped) (omega (arith, chain-has (s .state) (s .good .linked) blocked k (blocked-within (s .state) k h′) h′)) }
 
   -- its resource is one
   blocked-used : (s : Some Core ws) → blocked-lock (lock (s .state) k) ≡ true → used (s .state) (lock (s .state) k .resource) ≡ true
-  blocked-used s h =
-      let ok = s .good .lock-ok k in
-      by-cases (converting (lock (s .state) k))
-      (λ g. ok-at (used (s .state)) (lock (s .state) k) 2 ok g .place .in-use)
-      (λ g. ok-at (used (s .state)) (lock (s .state) k) 3 ok (rw g at h) .place .in-use)
+  blocked-used s h = blocked-lock-place (used (s .state)) (lock (s .state) k) (s .good .lock-ok k) h .in-use
 
   pub blocked-home : Blocked ws k → (1 ≤ lock (seen ws) k .resource) × (lock (seen ws) k .resource ≤ resources-in ws)
   blocked-home b =

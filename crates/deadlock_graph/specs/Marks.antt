@@ -1,15 +1,12 @@
 -- Marks on the nodes of a graph.
 use mathlib.Core.Path.{_≡_}
-use mathlib.Core.Bool.{Bool, true, false, cond}
+use mathlib.Core.Bool.{Bool, true, cond}
 use mathlib.Core.List.{List, [], _∷_}
 use Prim.Native.Nat.{ℕ, suc}
-use lib.ListN.{length, getD}
+use lib.ListN.{length}
 use Rattle.rules.specs.Walks.{Walk}
 use Rattle.table_fields.specs.Sizes.{lock-places}
-
--- x has its mark
-unfoldable pub marked : List Bool → ℕ → Bool
-marked m x = getD m x false
+pub use Rattle.table_chains.specs.Marks.{marked}
 
 -- how many of the nodes have none
 unfoldable pub unmarked : List ℕ → List Bool → ℕ

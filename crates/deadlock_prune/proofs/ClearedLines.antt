@@ -17,7 +17,7 @@ use Rattle.tables.specs.Grants.{holders}
 use Rattle.tables.proofs.Cases.{by-cases, by-equal, clash, and-left, and-right, or-left}
 use Rattle.tables.proofs.Counts.{count-nil, count-same, count-other, count-append, by-append, any-has}
 use Rattle.tables.specs.Validity.{Core, line}
-use Rattle.tables.proofs.ChainMembers.{on-converts}
+use Rattle.tables.proofs.ChainMembers.{on-converts, line-blocked}
 use Rattle.rules.specs.Deadlock.{before, ahead, obstacles, owner, leads}
 use Rattle.table_fields.specs.Sizes.{Sized}
 use Rattle.table_chains.specs.Contracts.{Some}
@@ -29,7 +29,7 @@ use Rattle.deadlock_graph.specs.Marks.{marked, Cleared}
 use Rattle.deadlock_graph.proofs.SameVictim.{ahead-alike}
 use Rattle.deadlock_graph.proofs.SeenChains.{queue-seen}
 use Rattle.deadlock_graph.proofs.LockWords.{some-alike, asked-told, is-blocked, blocked-at}
-use Rattle.deadlock_graph.proofs.LineAhead.{before-here, before-past, any-counted, line-blocked, line-here, ahead-line, line-alike}
+use Rattle.deadlock_graph.proofs.LineAhead.{before-here, before-past, any-counted, line-here, ahead-line, line-alike}
 use Rattle.deadlock_graph.proofs.Marks.{mark-same, mark-kept, clear-behind}
 use Rattle.deadlock_prune.specs.Clearing.{is-busy, hinders, busy-modes, Busy, Clearing, AllCleared, AfterConversions}
 use Rattle.deadlock_prune.proofs.BusyOwners.{mark-place}

@@ -3,14 +3,14 @@ use mathlib.Core.Path.{_≡_, refl, sym, _∙_}
 use mathlib.Core.Logic.{_≢_}
 use mathlib.Core.Bool.{Bool, true, false}
 use mathlib.Core.List.{List, [], _∷_}
-use Prim.Native.Nat.{ℕ, zero, suc, _+_, _≤_, _<_, _^_}
+use Prim.Native.Nat.{ℕ, _+_, _≤_, _<_, _^_}
 use native.Mathlib.Omega.{arith}
 use lib.ListN.{getD, set, replicate, length-replicate}
 use borrow.Author.Needs.{needs}
 use Rattle.tables.specs.Lists.{count, first-that}
 use Rattle.tables.specs.Layout.{of-header, of-lock, locks-in, word-in, onward}
 use Rattle.tables.proofs.Cases.{by-cases, clash}
-use Rattle.tables.proofs.Counts.{count-same, count-step}
+use Rattle.tables.proofs.Counts.{count-same, count-step, getD-same}
 use Rattle.tables.specs.Validity.{Core}
 use Rattle.rules.specs.Deadlock.{leads, deadlocked, victim}
 use Rattle.rules.proofs.DeadlockVictim.{deadlocked-walk}
@@ -69,13 +69,8 @@ pub ruleset cycle-laws = (needs, cycle-place, cycle-none, cycle-searches, cycle-
 
 -- ---- the first on the blocked chain that is
 
-none-ranked : (n k : ℕ) → _≡_ {A = ℕ} (getD (replicate n 0) k 0) 0
-none-ranked zero k = refl
-none-ranked (suc n) zero = refl
-none-ranked (suc n) (suc k) = none-ranked n k
-
 pub none-ranked-yet : Unranked (replicate lock-places 0)
-none-ranked-yet = record { wide = length-replicate {A = ℕ} lock-places 0; each = none-ranked lock-places }
+none-ranked-yet = record { wide = length-replicate {A = ℕ} lock-places 0; each = getD-same {A = ℕ} 0 lock-places }
 
 -- at the lock k of the chain, c the cleared locks
 pub record Seeking (ws m : List ℕ) (d k : ℕ) (c : List Bool) : Type 0 where
@@ -152,14 +147,9 @@ pub ruleset seek-laws = (needs, some-sized, walk-sized, walk-low, walk-high, wal
 
 -- ---- the victim
 
-none-marked : (n x : ℕ) → marked (replicate n false) x ≡ false
-unfolding marked
-none-marked zero x = refl
-none-marked (suc n) zero = refl
-none-marked (suc n) (suc x) = none-marked n x
-
 pub none-cleared : (step : ℕ → ℕ → Bool) (nodes : List ℕ) → Cleared step nodes (replicate lock-places false)
-none-cleared step nodes = record { wide = length-replicate lock-places false; none = λ x h. clash (marked (replicate lock-places false) x) h (none-marked lock-places x) }
+unfolding marked
+none-cleared step nodes = record { wide = length-replicate lock-places false; none = λ x h. clash (marked (replicate lock-places false) x) h (getD-same false lock-places x) }
 
 first-none : (p : ℕ → Bool) (xs : List ℕ) → ((j : ℕ) → 1 ≤ count j xs → p j ≡ false) → first-that p xs ≡ 0
 unfolding first-that

@@ -41,7 +41,7 @@ strong-used u l (suc (suc (suc zero))) ok h = ok .place .in-use
 strong-used u l (suc (suc (suc (suc zero)))) ok h = absurd (omega (arith, ok .holds, leb-true 4 (l .held) h))
 strong-used u l (suc (suc (suc (suc (suc n))))) ok h = absurd ok
 
-spoils-only : stores 2 ≡ false
+pub spoils-only : stores 2 ≡ false
 unfolding stores
 spoils-only = refl
 
