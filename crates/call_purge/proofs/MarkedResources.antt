@@ -19,7 +19,8 @@ use Rattle.table_fields.specs.Sizes.{resource-places}
 use Rattle.table_fields.proofs.StateWords.{resources-is}
 use Rattle.table_chains.specs.Contracts.{Changes, Resourced}
 use Rattle.queues.specs.Contracts.{SomeTables}
-use Rattle.call_purge.specs.SettledResources.{marked, settle-if, settle-marked}
+use Rattle.table_chains.specs.Marks.{marked}
+use Rattle.call_purge.specs.SettledResources.{settle-if, settle-marked}
 use Rattle.call_purge.proofs.NumbersLeft.{ahead, ahead-start, ahead-end, ahead-in, ahead-out}
 use Rattle.call_purge.proofs.ClientLocks.{lent-sized}
 

@@ -30,7 +30,8 @@ use Rattle.answers.specs.declared.Purged.the-variants as purged-cases
 use Rattle.answers.specs.Answers.{purged}
 use Rattle.answers.specs.Contracts.{Makes}
 use Rattle.call_purge.specs.PurgedLocks.{purge-all, mark-locks, mark-all, count-all, Frees}
-use Rattle.call_purge.specs.SettledResources.{marked, settle-marked}
+use Rattle.table_chains.specs.Marks.{marked}
+use Rattle.call_purge.specs.SettledResources.{settle-marked}
 use Rattle.call_purge.proofs.OneLock.{lock-freed}
 use Rattle.call_purge.proofs.MarkedResources.{Kept}
 

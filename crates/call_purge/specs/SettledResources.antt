@@ -7,7 +7,7 @@ use Rattle.tables.specs.Lists.{keep, from}
 use Rattle.tables.specs.State.{Tables}
 use Rattle.rules.specs.Queues.{settle}
 use Rattle.rules.specs.Calls.{settle-all}
-pub use Rattle.table_chains.specs.Marks.{marked}
+use Rattle.table_chains.specs.Marks.{marked}
 
 unfoldable pub settle-if : Bool → ℕ → Tables → Tables
 settle-if b r t = elim b [ true ↦ settle r t | false ↦ t ]

@@ -18,7 +18,8 @@ ghost use Rattle.queues.specs.Contracts.{Locked, SomeTables};
 ghost use Rattle.answers.specs.Answers.{purged};
 ghost use Rattle.answers.specs.Contracts.{Makes};
 ghost use Rattle.call_purge.specs.PurgedLocks.{spoil, «purge-own», «mark-own», «count-own», «purge-all», «mark-all», «count-all», Frees};
-ghost use Rattle.call_purge.specs.SettledResources.{marked, «settle-if», «settle-marked»};
+ghost use Rattle.table_chains.specs.Marks.{marked};
+ghost use Rattle.call_purge.specs.SettledResources.{«settle-if», «settle-marked»};
 
 // Flag 2: the value is made not valid.
 const SPOIL: u32 = 2;

@@ -6,7 +6,7 @@ use Prim.Native.Nat.{ℕ, suc}
 use lib.ListN.{length}
 use Rattle.rules.specs.Walks.{Walk}
 use Rattle.table_fields.specs.Sizes.{lock-places}
-pub use Rattle.table_chains.specs.Marks.{marked}
+use Rattle.table_chains.specs.Marks.{marked}
 
 -- how many of the nodes have none
 unfoldable pub unmarked : List ℕ → List Bool → ℕ

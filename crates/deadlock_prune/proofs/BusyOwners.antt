@@ -21,7 +21,7 @@ use Rattle.deadlock_graph.specs.Contracts.{seen}
 use Rattle.deadlock_graph.specs.Owners.{Owned, owner-places}
 use Rattle.table_chains.specs.Walking.{At, Walking}
 use Rattle.table_chains.proofs.ChainWalks.{some-sized, walk-splits, walk-ends, blocked-walks, walk-sized, walk-low, walk-high, walk-stands, walk-less, walk-on}
-use Rattle.deadlock_graph.specs.Marks.{marked}
+use Rattle.table_chains.specs.Marks.{marked}
 use Rattle.deadlock_graph.proofs.SeenChains.{blocked-seen}
 use Rattle.deadlock_graph.proofs.LockWords.{owner-place}
 use Rattle.deadlock_prune.specs.Clearing.{is-busy, BusyNoted, Busy}

@@ -25,7 +25,8 @@ use Rattle.table_chains.specs.Walking.{Walking}
 use Rattle.table_chains.proofs.ChainWalks.{some-sized, walk-splits, walk-ends, converts-walk, waits-walk, walk-sized, walk-low, walk-high, walk-less, walk-on}
 use Rattle.table_chains.proofs.LockLimits.{asked-mode}
 use Rattle.deadlock_graph.specs.Contracts.{seen, Blocked}
-use Rattle.deadlock_graph.specs.Marks.{marked, Cleared}
+use Rattle.table_chains.specs.Marks.{marked}
+use Rattle.deadlock_graph.specs.Marks.{Cleared}
 use Rattle.deadlock_graph.proofs.SameVictim.{ahead-alike}
 use Rattle.deadlock_graph.proofs.SeenChains.{queue-seen}
 use Rattle.deadlock_graph.proofs.LockWords.{some-alike, asked-told, is-blocked, blocked-at}

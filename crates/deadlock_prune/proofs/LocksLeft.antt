@@ -19,7 +19,8 @@ use Rattle.table_chains.specs.Contracts.{Some}
 use Rattle.table_chains.specs.Walking.{Walking}
 use Rattle.table_chains.proofs.ChainWalks.{some-sized, walk-splits, walk-ends, blocked-walks, walk-short, walk-sized, walk-low, walk-high, walk-stands, walk-less, walk-on}
 use Rattle.deadlock_graph.specs.Contracts.{seen}
-use Rattle.deadlock_graph.specs.Marks.{marked, unmarked, Cleared}
+use Rattle.table_chains.specs.Marks.{marked}
+use Rattle.deadlock_graph.specs.Marks.{unmarked, Cleared}
 use Rattle.deadlock_graph.proofs.SeenChains.{blocked-seen}
 use Rattle.deadlock_graph.proofs.Marks.{unmarked-le}
 use Rattle.deadlock_prune.specs.Clearing.{Uncleared}

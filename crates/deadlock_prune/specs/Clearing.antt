@@ -13,7 +13,8 @@ use Rattle.rules.specs.Deadlock.{owner, leads}
 use Rattle.table_chains.specs.Contracts.{Some}
 use Rattle.deadlock_graph.specs.Contracts.{seen}
 use Rattle.deadlock_graph.specs.Owners.{in-way, owner-places}
-use Rattle.deadlock_graph.specs.Marks.{marked, unmarked, Cleared}
+use Rattle.table_chains.specs.Marks.{marked}
+use Rattle.deadlock_graph.specs.Marks.{unmarked, Cleared}
 
 -- the owner of j is busy
 unfoldable pub is-busy : Tables → List Bool → ℕ → Bool

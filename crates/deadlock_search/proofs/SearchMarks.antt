@@ -13,7 +13,8 @@ use Rattle.tables.proofs.Counts.{count-nil, count-other}
 use Rattle.rules.specs.Walks.{reaches, Walk, step, through}
 use Rattle.rules.proofs.WalkSearch.{search-complete}
 use Rattle.table_fields.specs.Sizes.{lock-places}
-use Rattle.deadlock_graph.specs.Marks.{marked, unmarked, Cleared}
+use Rattle.table_chains.specs.Marks.{marked}
+use Rattle.deadlock_graph.specs.Marks.{unmarked, Cleared}
 use Rattle.deadlock_graph.proofs.Marks.{mark-same, mark-other, Keeping, mark-kept, join}
 use Rattle.deadlock_search.specs.SearchMarks.{Passed, Tried, Grown, StartNode, Followed, Searched}
 

@@ -20,7 +20,7 @@ use Rattle.deadlock_graph.specs.Contracts.{seen, Blocked}
 use Rattle.deadlock_graph.specs.Owners.{Owned, owner-places}
 use Rattle.table_chains.specs.Walking.{At}
 use Rattle.table_chains.proofs.ChainWalks.{some-sized}
-use Rattle.deadlock_graph.specs.Marks.{marked}
+use Rattle.table_chains.specs.Marks.{marked}
 use Rattle.deadlock_graph.proofs.SameVictim.{Alike, ahead-alike}
 use Rattle.deadlock_graph.proofs.LockWords.{some-alike, resource-told, blocked-at, blocked-is, is-blocked, blocked-sized, blocked-low, blocked-high}
 use Rattle.deadlock_search.specs.Ranks.{rank-of, Ranked}

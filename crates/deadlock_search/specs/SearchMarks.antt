@@ -7,7 +7,7 @@ use lib.ListN.{length}
 use Rattle.tables.specs.Lists.{count}
 use Rattle.rules.specs.Walks.{Walk}
 use Rattle.table_fields.specs.Sizes.{lock-places}
-use Rattle.deadlock_graph.specs.Marks.{marked}
+use Rattle.table_chains.specs.Marks.{marked}
 
 -- y is not t, and has been entered
 pub record Passed (t : ℕ) (m : List Bool) (y : ℕ) : Type 0 where
