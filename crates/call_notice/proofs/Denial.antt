@@ -13,7 +13,7 @@ use Rattle.tables.specs.Layout.{words, slots, read-lock}
 use Rattle.tables.proofs.Cases.{by-cases, clash}
 use Rattle.tables.proofs.Counts.{first-in}
 use Rattle.tables.proofs.SlotChanges.{slots-move}
-use Rattle.tables.specs.Validity.{used, LockOk, Core, Valid}
+use Rattle.tables.specs.Validity.{used, LockOk, as-denied, Core, Valid}
 use Rattle.tables.proofs.Valid.{resources-length, core-move}
 use Rattle.tables.proofs.ChainMembers.{on-chain}
 use Rattle.rules.specs.Queues.{sweep}
@@ -39,7 +39,7 @@ module _ (k : ℕ) (t : Tables) (p : Cancellable k t) where
   denied-ok : LockOk (used t) (denied-lock (lock t k))
   denied-ok =
       let q = blocked-there k t p in
-      record { client-low = q .client-low; client-high = q .client-high; nowhere = refl; holds = refl; asks = refl; notice = refl }
+      as-denied refl (record { client-low = q .client-low; client-high = q .client-high; nowhere = refl; holds = refl; asks = refl; notice = refl })
 
   movable : Movable (lock t k .resource) k (denied-lock (lock t k)) t
   movable = record { core = p .valid .core; in-range = blocked-range k t p; near-old = λ z. refl; near-new = λ z. absurd (z refl); ok = denied-ok }

@@ -15,7 +15,8 @@ use Rattle.tables.specs.Layout.{words, slots, locks-in, read-lock}
 use Rattle.tables.proofs.Cases.{by-cases, clash}
 use Rattle.tables.proofs.Counts.{first-in}
 use Rattle.tables.proofs.SlotChanges.{slots-move}
-use Rattle.tables.specs.Validity.{used, Granted, StateOk, LockOk, Core, Valid}
+use Rattle.tables.specs.Validity.{used, Granted, LockOk, as-granted, Core, Valid}
+use Rattle.tables.proofs.StateCases.{StateOk, ok-numbered}
 use Rattle.tables.proofs.Valid.{absent-lock}
 use Rattle.tables.proofs.ChainMembers.{on-chain}
 use Rattle.table_fields.specs.Sizes.{Sized}
@@ -55,12 +56,12 @@ module _ (k : ℕ) (t : Tables) (p : Noticed k t) where
 
   module _ (n : lock t k .completion ≢ 2) where
     old : Granted (used t) (lock t k) × (lock t k .state ≡ 1)
-    old = granted-noticed (used t) (lock t k) (lock t k .state) (p .core .lock-ok k) some-notice n
+    old = granted-noticed (used t) (lock t k) (lock t k .state) (ok-numbered (p .core .lock-ok k)) some-notice n
 
     read-ok : LockOk (used t) (notice-read (lock t k))
     read-ok =
         let q = old .0 .place in
-        subst (StateOk (used t) (notice-read (lock t k))) (sym (old .1))
+        as-granted (old .1)
         (record {
           place = record { in-use = q .in-use; client-low = q .client-low; client-high = q .client-high; held-mode = q .held-mode; asked-mode = q .asked-mode };
           asks = old .0 .asks;

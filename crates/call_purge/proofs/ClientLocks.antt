@@ -15,6 +15,7 @@ use Rattle.tables.specs.Layout.{words, slots, locks-in, read-lock}
 use Rattle.tables.proofs.Cases.{by-cases}
 use Rattle.tables.proofs.Counts.{within-le, le-within, count-same, count-step}
 use Rattle.tables.specs.Validity.{Core}
+use Rattle.tables.proofs.StateCases.{StateOk, ok-numbered}
 use Rattle.tables.proofs.Valid.{housed}
 use Rattle.rules.specs.Calls.{locks-of, purge-lock, purge-locks}
 use Rattle.table_fields.specs.Sizes.{Sized, resource-places}
@@ -64,7 +65,7 @@ module _ (c k : ℕ) (t : Tables) where
 
 -- a lock's resource has a place among the marks
 resource-few : (k : ℕ) (t : Tables) → Core t → lock t k .resource < resource-places
-resource-few k t co = omega (arith, housed t (lock t k) (lock t k .state) (co .lock-ok k), co .resources-high)
+resource-few k t co = omega (arith, housed t (lock t k) (lock t k .state) (ok-numbered (co .lock-ok k)), co .resources-high)
 
 -- purge_own
 module _ (c k : ℕ) (a sa : List ℕ) (l : Lock) (el : l ≡ read-lock a k) where

@@ -12,6 +12,7 @@ use Rattle.tables.specs.State.{Tables, no-lock, lock}
 use Rattle.tables.specs.Layout.{words, slots, locks-in, read-lock}
 use Rattle.tables.proofs.Cases.{clash}
 use Rattle.tables.specs.Validity.{used, Core}
+use Rattle.tables.proofs.StateCases.{StateOk, ok-numbered}
 use Rattle.tables.proofs.Valid.{used-within, lock-other, locks-length, resources-length}
 use Rattle.rules.specs.Queues.{free-lock}
 use Rattle.rules.specs.Calls.{stores, spoils, strong, with-value, leave-value, purge-lock}
@@ -44,7 +45,7 @@ pub record Freed (k : ℕ) (t u : Tables) : Type 0 where
 
 module _ (k : ℕ) (t : Tables) (p : Locked k t) where
   used-there : strong (lock t k .held) ≡ true → used t (lock t k .resource) ≡ true
-  used-there = strong-used (used t) (lock t k) (lock t k .state) (p .core .lock-ok k)
+  used-there = strong-used (used t) (lock t k) (lock t k .state) (ok-numbered (p .core .lock-ok k))
 
   spoil-quiet : Quiet t (spoil k t)
   unfolding spoil strong

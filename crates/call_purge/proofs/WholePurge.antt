@@ -17,7 +17,8 @@ use Rattle.tables.specs.Layout.{words, slots}
 use Rattle.tables.specs.Grants.{holders}
 use Rattle.tables.proofs.Cases.{by-cases, by-equal, eqb-same, same-truth}
 use Rattle.tables.proofs.Counts.{within-le, count-same, count-step, count-append, count-from, bit-one, any-intro, by-append, kept-in, count-kept, keep-cong, any-has, getD-same}
-use Rattle.tables.specs.Validity.{used, StateOk, Core}
+use Rattle.tables.specs.Validity.{used, Core}
+use Rattle.tables.proofs.StateCases.{StateOk, ok-numbered}
 use Rattle.tables.proofs.Valid.{absent-lock}
 use Rattle.tables.proofs.ChainMembers.{chain-has, in-holder, on-waits}
 use Rattle.rules.specs.Entries.{lent}
@@ -50,7 +51,7 @@ mark-told t s (k ∷ ks) m h =
 module _ (c : ℕ) (t : Tables) (co : Core t) (s : ℕ) (some : s ≢ 0) where
   stands : (k : ℕ) → within (length (t .locks)) k ≡ true → eqb (lock t k .client) c ≡ true → lock t k .resource ≡ s → stands-on c t s ≡ true
   unfolding stands-on holders
-  stands k w h e = go (lock t k .state) refl (co .lock-ok k)
+  stands k w h e = go (lock t k .state) refl (ok-numbered (co .lock-ok k))
     where
       on : 1 ≤ count k (resource t s .grant) + count k (resource t s .convert) + count k (resource t s .wait) → stands-on c t s ≡ true
       on m = any-intro (λ k. eqb (lock t k .client) c) (holders t s ++ resource t s .wait) k (rw (count-append, count-append) m) h

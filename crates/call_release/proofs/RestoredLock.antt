@@ -13,7 +13,7 @@ use Rattle.tables.specs.State.{Tables, lock, granted, converting, waiting, hold
 use Rattle.tables.specs.Layout.{words, slots, locks-in, read-lock}
 use Rattle.tables.proofs.Cases.{by-cases, or-right}
 use Rattle.tables.proofs.SlotChanges.{slots-move}
-use Rattle.tables.specs.Validity.{used, Place, LockOk}
+use Rattle.tables.specs.Validity.{used, Place, LockOk, as-granted}
 use Rattle.tables.proofs.Valid.{ok-at, used-within, resources-length, Fits, core-move}
 use Rattle.tables.proofs.ChainMembers.{state-within}
 use Rattle.table_fields.specs.Sizes.{Sized}
@@ -41,12 +41,12 @@ module _ (k e : ℕ) (t : Tables) (p : Restorable k e t) where
 
   restored-ok : LockOk (used t) (restored e (lock t k))
   restored-ok =
-      record {
+      as-granted refl (record {
         place = record { in-use = place .in-use; client-low = place .client-low; client-high = place .client-high; held-mode = place .held-mode; asked-mode = omega arith };
         asks = refl;
         notice = p .notice;
         not-denied = p .not-denied;
-      }
+      })
 
   movable : Movable (lock t k .resource) k (restored e (lock t k)) t
   movable = record { core = p .core; in-range = in-range; near-old = λ z. refl; near-new = λ z. refl; ok = restored-ok }

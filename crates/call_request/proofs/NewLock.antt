@@ -10,7 +10,7 @@ use Rattle.tables.specs.State.{Tables, lock, move}
 use Rattle.tables.specs.Layout.{slots}
 use Rattle.tables.specs.Grants.{admits}
 use Rattle.tables.proofs.SlotChanges.{slots-move}
-use Rattle.tables.specs.Validity.{used, LockOk}
+use Rattle.tables.specs.Validity.{used, LockOk, as-granted, as-waiting}
 use Rattle.rules.specs.Calls.{no-queue, holding, queued, request-on}
 use Rattle.table_chains.specs.Contracts.{Some, Tells, Movable, Moving, Moved, Resourced}
 use Rattle.answers.proofs.Steps.{stepped}
@@ -39,21 +39,21 @@ module _ (r k c m f : ℕ) where
     enters-held : Movable r k (holding r c m) t
     enters-held =
         enters-on (holding r c m) refl
-        (record {
+        (as-granted refl (record {
           place = record { in-use = p .in-use; client-low = p .client-low; client-high = p .client-high; held-mode = p .asks .mode; asked-mode = omega arith };
           asks = refl;
           notice = omega arith;
           not-denied = omega arith;
-        })
+        }))
 
     enters-queued : Movable r k (queued r c m) t
     enters-queued =
         enters-on (queued r c m) refl
-        (record {
+        (as-waiting refl (record {
           place = record { in-use = p .in-use; client-low = p .client-low; client-high = p .client-high; held-mode = omega arith; asked-mode = p .asks .mode };
           notice = refl;
           holds = refl;
-        })
+        }))
 
   module _ (a : List ℕ) where
     pub enter-held : (l : Lock) → l ≡ holding r c m → Some (Enters r k c m f) a → Moving k l a

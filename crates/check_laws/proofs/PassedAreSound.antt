@@ -13,7 +13,8 @@ use Rattle.tables.specs.Layout.{of-header, of-resource, of-lock, slot-width, re
 use Rattle.tables.specs.Grants.{no-grantable-head}
 use Rattle.tables.specs.Sound.{sizes-right, zeros-right, resource-index, lock-index, indices-right, chain-ends, chains-end, resource-right, stands-right, home-right, fields-right, lock-right, linked-right, holders-compatible, state-right, sound}
 use Rattle.tables.proofs.Cases.{by-cases, eqb-same, and-left, and-right, and-intro, parts}
-use Rattle.tables.specs.Validity.{used, Place, StateOk}
+use Rattle.tables.specs.Validity.{used, Place}
+use Rattle.tables.proofs.StateCases.{StateOk}
 use Rattle.tables.proofs.ReadState.{resources-read, lock-of, used-in}
 use Rattle.tables.proofs.Conditions.{each-at, each-intro}
 use Rattle.tables.proofs.Fields.{fields-are}

@@ -15,7 +15,8 @@ use Rattle.tables.specs.Sound.{sizes-right, ends, chain-ends, resource-right, f
 use Rattle.tables.proofs.Cases.{by-cases, and-left, and-right, and-intro, or-right, parts}
 use Rattle.tables.proofs.Counts.{le-within, all-intro, bit-one}
 use Rattle.tables.proofs.Links.{counted-on, each-on}
-use Rattle.tables.specs.Validity.{used, Place, StateOk}
+use Rattle.tables.specs.Validity.{used, Place}
+use Rattle.tables.proofs.StateCases.{StateOk, ok-named}
 use Rattle.tables.proofs.Valid.{ok-at, modes-low}
 use Rattle.tables.specs.Threads.{Within}
 use Rattle.tables.proofs.ReadState.{lock-of, used-in}
@@ -141,7 +142,7 @@ module _ (ws ss : List ℕ) (h : sound ws ss ≡ true) where
       }
     where
       nowhere : (k : ℕ) → StateOk (used (read ws ss)) (read-lock ws k) (read-lock ws k .state) → read-lock ws k .state ≡ 0 → read-lock ws k .resource ≡ 0
-      nowhere k o e = ap (λ (l : Lock). l .resource) (ok-at (used (read ws ss)) (read-lock ws k) 0 o (eq-eqb _ 0 e))
+      nowhere k o e = ap (λ (l : Lock). l .resource) (ok-at (used (read ws ss)) (read-lock ws k) 0 (ok-named o) (eq-eqb _ 0 e))
 
   denied-passes : Passed (link-in ws (of-locks denied)) (home-on ws 4 0) (locks-in ws) (word-in ws (of-header 4))
   unfolding read read-chain
@@ -151,7 +152,7 @@ module _ (ws ss : List ℕ) (h : sound ws ss ≡ true) where
         tested = all-intro (home-on ws 4 0) (read ws ss .denied) (λ k m.
             let i = inside (of-locks denied) (omega arith) k m in
             let b : eqb (read-lock ws k .state) 4 ≡ true = bit-one _ (rw (counts denied (omega arith) k (i .0) (i .1)) at m) in
-            on-home ws 4 0 k (i .1) (eqb-true _ 4 b) (ok-at (used (read ws ss)) (read-lock ws k) 4 (ok k (i .0) (i .1)) b .nowhere) (lock-passes k (i .0) (i .1)));
+            on-home ws 4 0 k (i .1) (eqb-true _ 4 b) (ok-at (used (read ws ss)) (read-lock ws k) 4 (ok-named (ok k (i .0) (i .1))) b .nowhere) (lock-passes k (i .0) (i .1)));
       }
 
   module _ (r : ℕ) (low : 1 ≤ r) (high : r ≤ resources-in ws) where

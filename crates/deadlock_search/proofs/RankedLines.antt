@@ -14,7 +14,8 @@ use Rattle.tables.specs.State.{Tables, lock, resource, converts, waits, most-lo
 use Rattle.tables.specs.Layout.{of-resource, of-lock, resources-in, locks-in, word-in, onward}
 use Rattle.tables.proofs.Cases.{by-cases, by-equal}
 use Rattle.tables.proofs.Counts.{within-le}
-use Rattle.tables.specs.Validity.{used, StateOk, Core, line}
+use Rattle.tables.specs.Validity.{used, Core, line}
+use Rattle.tables.proofs.StateCases.{StateOk, ok-numbered}
 use Rattle.tables.proofs.Valid.{used-within}
 use Rattle.tables.proofs.ChainMembers.{line-once, blocked-place}
 use Rattle.table_fields.specs.Sizes.{Sized, lock-places}
@@ -177,7 +178,7 @@ module _ {ws m₀ m : List ℕ} {r : ℕ} (i : RankedBelow ws m₀ m r) where
 
   resource-few : (k : ℕ) → lock (seen ws) k .resource ≤ resources-in ws
   resource-few k =
-      rw (some-alike ws (i .some) .locks k, resources-told ws (i .some)) (go (lock t k .state) (i .some .good .lock-ok k))
+      rw (some-alike ws (i .some) .locks k, resources-told ws (i .some)) (go (lock t k .state) (ok-numbered (i .some .good .lock-ok k)))
     where
       go : (n : ℕ) → StateOk (used t) (lock t k) n → lock t k .resource ≤ length (t .resources)
       go zero ok = rw ok (omega arith)

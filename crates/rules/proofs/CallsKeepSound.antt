@@ -1,5 +1,5 @@
 -- Every call but request and purge keeps a state sound, and what it does to the free locks.
-use mathlib.Core.Path.{_≡_, refl, sym, ap, _∙_, subst}
+use mathlib.Core.Path.{_≡_, refl, sym, ap, _∙_}
 use mathlib.Core.Logic.{_≢_}
 use mathlib.Core.Bool.{Bool, true, false, _&&_, cond}
 use mathlib.Core.List.{List, [], _∷_, _++_}
@@ -16,7 +16,8 @@ use Rattle.tables.specs.State.{Resource, Tables, no-lock, denied-lock, no-resou
 use Rattle.tables.specs.Grants.{holders, fits, convert-grantable, empty}
 use Rattle.tables.proofs.Cases.{by-cases, by-equal, clash, eqb-same, and-left, and-right, or-left, or-right, nor-left, nor-right}
 use Rattle.tables.proofs.Counts.{count-nil, first-in, head-in, null-nil}
-use Rattle.tables.specs.Validity.{used, Place, StateOk, LockOk, Core, line, idle, Settled, Valid, Near}
+use Rattle.tables.specs.Validity.{used, Place, LockOk, Core, line, idle, Settled, Valid, Near, as-free, as-granted, as-converting, as-denied}
+use Rattle.tables.proofs.StateCases.{StateOk, ok-numbered}
 use Rattle.tables.proofs.Valid.{ok-at, holder-place, used-within, lock-same, lock-other, resource-same, locks-length, resources-length, used-zero, Fits, core-move}
 use Rattle.tables.proofs.ChainMembers.{state-within, on-chain, chain-has, fits-true, true-fits, settled-other, line-blocked}
 use Rattle.rules.specs.Queues.{sweep, free-lock, settle}
@@ -114,17 +115,17 @@ module _ (t : Tables) (c : Core t) (r k : ℕ) (e : lock t k .resource ≡ r) (r
   pub freed-settle : within (length (t .resources)) r ≡ true → After t (settle r (free-lock k t)) (k ∷ t .free-locks)
   freed-settle v =
       rw is-move
-      (then-settle t c r k no-lock rest w (λ z. e) (λ z. absurd (z refl)) refl (λ z. clash false z refl) _ (free-gained r k no-lock t stands refl) v)
+      (then-settle t c r k no-lock rest w (λ z. e) (λ z. absurd (z refl)) (as-free refl) (λ z. clash false z refl) _ (free-gained r k no-lock t stands refl) v)
 
   pub freed-sweep : empty (resource (move r k no-lock t) r) ≡ false → After t (sweep r (free-lock k t)) (k ∷ t .free-locks)
   freed-sweep v =
       rw is-move
-      (then-sweep t c r k no-lock rest w (λ z. e) (λ z. absurd (z refl)) refl (λ z. clash false z refl) _ (free-gained r k no-lock t stands refl) v)
+      (then-sweep t c r k no-lock rest w (λ z. e) (λ z. absurd (z refl)) (as-free refl) (λ z. clash false z refl) _ (free-gained r k no-lock t stands refl) v)
 
   pub freed-stop : Settled (move r k no-lock t) r → After t (free-lock k t) (k ∷ t .free-locks)
   freed-stop v =
       rw is-move
-      (then-stop t c r k no-lock rest w (λ z. e) (λ z. absurd (z refl)) refl (λ z. clash false z refl) _ (free-gained r k no-lock t stands refl) v)
+      (then-stop t c r k no-lock rest w (λ z. e) (λ z. absurd (z refl)) (as-free refl) (λ z. clash false z refl) _ (free-gained r k no-lock t stands refl) v)
 
 -- RELEASE
 pub release-after : (k f : ℕ) (v : List ℕ) (t : Tables) → Valid t → granted (lock t k) ≡ true → (stores f ≡ true → length v ≡ value-width) →
@@ -184,12 +185,12 @@ waiter-gone t val k m h g c =
 
 restored-ok : (u : ℕ → Bool) (l : Lock) (n : ℕ) → Place u l → n ≤ 3 → n ≢ 2 → LockOk u (restored n l)
 restored-ok u l n p a b =
-    record {
+    as-granted refl (record {
       place = record { in-use = p .in-use; client-low = p .client-low; client-high = p .client-high; held-mode = p .held-mode; asked-mode = omega arith };
       asks = refl;
       notice = a;
       not-denied = b;
-    }
+    })
 
 restored-after : (n : ℕ) → n ≤ 3 → n ≢ 2 → (k : ℕ) (t : Tables) → Valid t → converting (lock t k) ≡ true →
     After t (sweep (lock t k .resource) (move (lock t k .resource) k (restored n (lock t k)) t)) (t .free-locks)
@@ -288,21 +289,21 @@ taken-after : (k : ℕ) (t : Tables) → Valid t → noticed (lock t k) ≡ true
 unfolding take-notice
 taken-after k t val h w =
     by-cases (eqb (lock t k .completion) 2)
-    (λ d. let s = noticed-denied (used t) (lock t k) (lock t k .state) (val .core .lock-ok k) (eqb-true (lock t k .completion) 2 d) in
+    (λ d. let s = noticed-denied (used t) (lock t k) (lock t k .state) (ok-numbered (val .core .lock-ok k)) (eqb-true (lock t k .completion) 2 d) in
     let ok = ok-at (used t) (lock t k) 4 (val .core .lock-ok k) (rw s) in
     rw (d, take-notice) (freed-stop t (val .core) 0 k (ok .nowhere) (λ q i. val .settled q) (rw s) w (nothing-at-zero _)))
     (λ d. rw (d, take-notice) (read d))
   where
     read : eqb (lock t k .completion) 2 ≡ false → After t (move (lock t k .resource) k (notice-read (lock t k)) t) (t .free-locks)
     read d =
-        let s = noticed-granted (used t) (lock t k) (lock t k .state) (val .core .lock-ok k) (eqb-false _ 0 (not-true _ h)) (eqb-false _ 2 d) in
+        let s = noticed-granted (used t) (lock t k) (lock t k .state) (ok-numbered (val .core .lock-ok k)) (eqb-false _ 0 (not-true _ h)) (eqb-false _ 2 d) in
         let r = lock t k .resource in
         let m = notice-read (lock t k) in
         let old = ok-at (used t) (lock t k) 1 (val .core .lock-ok k) (rw s) in
         let p = old .place in
         let g : granted m ≡ true = rw s in
         let b : blocked-lock m ≡ false = rw s in
-        let ok : LockOk (used t) m = subst (StateOk (used t) m) (sym s) (record {
+        let ok : LockOk (used t) m = as-granted s (record {
           place = record { in-use = p .in-use; client-low = p .client-low; client-high = p .client-high; held-mode = p .held-mode; asked-mode = p .asked-mode };
           asks = old .asks;
           notice = omega arith;
@@ -338,7 +339,7 @@ deny-after k t val b =
     let m = denied-lock (lock t k) in
     rw (h, deny)
     (then-sweep t (val .core) (lock t k .resource) k m (λ q i. val .settled q) (state-within t k 2 s) (λ z. refl) (λ z. absurd (z refl))
-    (record { client-low = p .client-low; client-high = p .client-high; nowhere = refl; holds = refl; asks = refl; notice = refl })
+    (as-denied refl (record { client-low = p .client-low; client-high = p .client-high; nowhere = refl; holds = refl; asks = refl; notice = refl }))
     (λ z. clash false z refl) _ (free-kept (lock t k .resource) k m t (rw s) refl) (waiter-gone t val k m a refl refl)))
 
 pub break-after : (t : Tables) → Valid t → After t (break t .tables) (t .free-locks)
@@ -369,12 +370,12 @@ in-place-after k m b f v t val g low right h =
     let s = eqb-true (lock t k .state) 1 g in
     let w : within (length (t0 .locks)) k ≡ true = rw (q .locks-are) (state-within t k 0 s) in
     let near : Near r (lock t0 k) = λ z. rw (q .lock-is k) in
-    let ok : LockOk (used t0) l = record {
+    let ok : LockOk (used t0) l = as-granted refl (record {
       place = record { in-use = rw (q .used-is r) (p .in-use); client-low = p .client-low; client-high = p .client-high; held-mode = low; asked-mode = omega arith };
       asks = refl;
       notice = omega arith;
       not-denied = omega arith;
-    } in
+    }) in
     let fit : holds l ≡ true → Fits t0 r k m = λ z j n. rw (q .lock-is j) (convert-fits k m t (val .core) g h j n) in
     quiet-after t t0 _ (t0 .free-locks) (t .free-locks) q (q .free-is)
     (then-sweep t0 (q .core) r k l (λ s n. q .settled s (val .settled s)) w near (λ z. refl) ok fit _ (free-kept r k l t0 (rw (q .lock-is k, s)) refl)
@@ -409,10 +410,10 @@ queue-after k m t val g low h =
     p = ok-at (used t) (lock t k) 1 (c .lock-ok k) g .place
 
     ok : LockOk (used t) l
-    ok = record {
+    ok = as-converting refl (record {
       place = record { in-use = p .in-use; client-low = p .client-low; client-high = p .client-high; held-mode = p .held-mode; asked-mode = low };
       notice = refl;
-    }
+    })
 
     fit : holds l ≡ true → Fits t r k (lock t k .held)
     fit z j i q e = c .agree j k i q (or-left _ _ g) e

@@ -13,7 +13,7 @@ use Rattle.tables.specs.Grants.{admits}
 use Rattle.tables.proofs.Cases.{by-cases, clash}
 use Rattle.tables.proofs.Counts.{count-nil, count-from}
 use Rattle.tables.proofs.Numbered.{started-lock, started-resource}
-use Rattle.tables.specs.Validity.{used, line, idle, Valid}
+use Rattle.tables.specs.Validity.{used, line, idle, Valid, as-free}
 use Rattle.rules.specs.Queues.{find}
 use Rattle.rules.specs.Deadlock.{victim}
 use Rattle.rules.specs.Calls.{Said, refused, Step, refused-or, resource-for, with-resource, request-on, request-change, request-refusal, request, in-place, convert-change, convert-refusal, convert, release-change, release-refusal, release, cancel-change, cancel-refusal, cancel, purge-change, purge-refusal, purge, deny-victim, break, poll-notice, poll-change, poll-refusal, poll}
@@ -70,7 +70,7 @@ module _ (r l : ℕ) where
           locks-high = rw (sizes .0) d;
           linked = started-linked;
           spare = started-spare;
-          lock-ok = λ k. rw (started-lock r l k) refl;
+          lock-ok = λ k. rw (started-lock r l k) (as-free refl);
           resource-ok = λ s. rw (started-resource r l s) (record { name-length = omega arith; value-length = no-value-length; flag = omega arith; unused = λ z. refl; unused-value = λ z. refl });
           names = λ s s′ n u. clash (used (started r l) s) u (unused s);
           agree = λ j k n h. clash false (rw (started-lock r l j) at h) refl;

@@ -19,7 +19,8 @@ use Rattle.tables.proofs.Counts.{within-le, le-within, count-same, count-from, 
 use Rattle.tables.specs.Threads.{Present}
 use Rattle.tables.proofs.Written.{valid-readable, valid-sound}
 use Rattle.tables.proofs.ReadBack.{resources-word, locks-word, word-read, chain-read, lock-read}
-use Rattle.tables.specs.Validity.{used, StateOk, Valid, line, idle}
+use Rattle.tables.specs.Validity.{used, Valid, line, idle}
+use Rattle.tables.proofs.StateCases.{StateOk, ok-numbered}
 use Rattle.tables.proofs.Valid.{used-within}
 use Rattle.tables.proofs.ChainMembers.{true-fits, on-chain, holder-within, on-queue, three-queues}
 use Rattle.tables.proofs.Links.{next-here}
@@ -96,7 +97,7 @@ module _ (t : Tables) (val : Valid t) where
     -- by its state
     one-chain : bit (eqb (lock t k .state) 0) + bit (eqb (lock t k .state) 4) + bit (on-queue (lock t k) && within (length (t .resources)) (lock t k .resource)) ≡ 1
     unfolding on-queue
-    one-chain = go (lock t k .state) refl (val .core .lock-ok k)
+    one-chain = go (lock t k .state) refl (ok-numbered (val .core .lock-ok k))
       where
         go : (s : ℕ) → lock t k .state ≡ s → StateOk (used t) (lock t k) s
             → bit (eqb s 0) + bit (eqb s 4) + bit ((eqb s 1 || (eqb s 2 || eqb s 3)) && within (length (t .resources)) (lock t k .resource)) ≡ 1

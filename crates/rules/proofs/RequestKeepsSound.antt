@@ -14,7 +14,7 @@ use Rattle.tables.specs.State.{Resource, Tables, no-lock, lock, resource, holds
 use Rattle.tables.specs.Grants.{fits, admits}
 use Rattle.tables.proofs.Cases.{by-cases, clash, eqb-same, and-right, and-intro}
 use Rattle.tables.proofs.Counts.{count-same, remove-head, count-from, nil-of-counts, same-eq, same-refl, first-passes, first-none}
-use Rattle.tables.specs.Validity.{used, LockOk, Core, line, idle, Settled, Valid, Near}
+use Rattle.tables.specs.Validity.{used, LockOk, as-granted, as-waiting, Core, line, idle, Settled, Valid, Near}
 use Rattle.tables.proofs.Valid.{ok-at, absent, used-within, lock-same, resource-same, locks-length, Fits, core-move}
 use Rattle.tables.proofs.ChainMembers.{and-bit, on-chain, chain-has, chain-once, on-grants, on-converts, on-waits, fits-true, wait-fits}
 use Rattle.rules.specs.Queues.{find}
@@ -57,12 +57,12 @@ module _ (t : Tables) (co : Core t) (r k c m : ℕ) (ks : List ℕ) (rest : (s :
   unfolding admits
   enter-granted h =
       let l = holding r c m in
-      let ok : LockOk (used t) l = record {
+      let ok : LockOk (used t) l = as-granted refl (record {
         place = record { in-use = u; client-low = low; client-high = high; held-mode = mode; asked-mode = omega arith };
         asks = refl;
         notice = omega arith;
         not-denied = omega arith;
-      } in
+      }) in
       let fit : holds l ≡ true → Fits t r k m = λ z. fits-true t (co .linked) r k m (sym alone ∙ and-right (null (resource t r .convert)) _ h) in
       let c1 = core-move r k l t co w near (λ z. refl) ok fit in
       then-stop t co r k l rest w near (λ z. refl) ok fit ks (takes l refl)
@@ -84,11 +84,11 @@ module _ (t : Tables) (co : Core t) (r k c m : ℕ) (ks : List ℕ) (rest : (s :
       l = queued r c m
 
       ok : LockOk (used t) l
-      ok = record {
+      ok = as-waiting refl (record {
         place = record { in-use = u; client-low = low; client-high = high; held-mode = omega arith; asked-mode = mode };
         notice = refl;
         holds = refl;
-      }
+      })
 
       fit : holds l ≡ true → Fits t r k 0
       fit z = clash false z refl

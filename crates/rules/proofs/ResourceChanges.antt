@@ -13,7 +13,8 @@ use Rattle.tables.specs.State.{Resource, Tables, no-value, no-resource, lock, r
 use Rattle.tables.specs.Grants.{holders, fits, convert-grantable, empty}
 use Rattle.tables.proofs.Cases.{by-cases, by-equal, clash, eqb-same, and-left, and-right}
 use Rattle.tables.proofs.Counts.{length-put, nth-put-same, nth-put-other, count-front, count-front-other, count-nil, null-nil}
-use Rattle.tables.specs.Validity.{used, StateOk, ResourceOk, Core, line, idle, Settled}
+use Rattle.tables.specs.Validity.{used, ResourceOk, Core, line, idle, Settled}
+use Rattle.tables.proofs.StateCases.{StateOk, ok-numbered}
 use Rattle.tables.proofs.Valid.{used-within, ok-map}
 use Rattle.tables.proofs.ChainMembers.{state-within, chain-has}
 use Rattle.rules.specs.Calls.{stores, spoils, with-value, leave-value}
@@ -26,7 +27,7 @@ empty-chains x h =
 
 -- nobody stands on an empty resource
 pub nobody : (t : Tables) → Core t → (r : ℕ) → empty (resource t r) ≡ true → within (length (t .resources)) r ≡ true → (j : ℕ) → lock t j .resource ≢ r
-nobody t c r h w j e = go (lock t j .state) refl (c .lock-ok j)
+nobody t c r h w j e = go (lock t j .state) refl (ok-numbered (c .lock-ok j))
   where
     none : (x : LockChain) (n : ℕ) → lock t j .state ≡ suc n → belongs x (lock t j) ≡ true → chain t x ≡ [] → ⊥
     none x n s b z = omega (arith, chain-has t (c .linked) x j (state-within t j n s) b, ap (count j) z, count-nil j)

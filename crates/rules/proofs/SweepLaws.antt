@@ -13,7 +13,7 @@ use Rattle.tables.specs.State.{Tables, lock, resource, converting, waiting, shi
 use Rattle.tables.specs.Grants.{convert-grantable, wait-grantable, empty}
 use Rattle.tables.proofs.Cases.{by-cases, eqb-same}
 use Rattle.tables.proofs.Counts.{count-append, remove-absent, remove-head, remove-append, shift-off, head-in, head-once}
-use Rattle.tables.specs.Validity.{Core, line, idle, Settled, Near}
+use Rattle.tables.specs.Validity.{Core, line, idle, Settled, Near, as-granted}
 use Rattle.tables.proofs.Valid.{used-within, resource-same, locks-length, resources-length, core-move}
 use Rattle.tables.proofs.ChainMembers.{fits-true, blocked-place, settled-other, line-once, not-granted, wait-behind, wait-head}
 use Rattle.rules.specs.Queues.{granted-lock, grant-lock, grant-while, grant-converts, grant-waits, sweep}
@@ -24,12 +24,12 @@ module _ (t : Tables) (c : Core t) where
   grant-core r k m g =
       let b = blocked-place t c r k m in
       core-move r k (granted-lock (lock t k)) t c (b .2) (λ z. b .1) (λ z. b .1)
-      (record {
+      (as-granted refl (record {
         place = record { in-use = b .0 .in-use; client-low = b .0 .client-low; client-high = b .0 .client-high; held-mode = b .0 .asked-mode; asked-mode = omega arith };
         asks = refl;
         notice = omega arith;
         not-denied = omega arith;
-      })
+      }))
       (λ z. rw (b .1) (fits-true t (c .linked) r k (lock t k .asked) g))
 
   -- a blocked lock is granted: it leaves its chain

@@ -9,7 +9,8 @@ use borrow.Author.Tests.{eqb-true, eq-eqb, ne-eqb, leb-true, le-leb}
 use Rattle.tables.specs.State.{Lock, Tables, last-client, last-mode}
 use Rattle.tables.specs.Sound.{client-right, modes-right, on-resource, fields-right}
 use Rattle.tables.proofs.Cases.{by-equal, clash, and-intro, or-left, or-right, parts}
-use Rattle.tables.specs.Validity.{used, Place, StateOk}
+use Rattle.tables.specs.Validity.{used, Place}
+use Rattle.tables.proofs.StateCases.{StateOk}
 
 on-used : (t : Tables) (l : Lock) → on-resource t l ≡ used t (l .resource)
 unfolding on-resource used

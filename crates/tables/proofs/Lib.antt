@@ -14,6 +14,7 @@ pub mod Frame
 pub mod WordSteps
 pub mod HomeChange
 pub mod MoveSteps
+pub mod StateCases
 pub mod Valid
 pub mod ChainMembers
 pub mod ThreadedChains

@@ -15,7 +15,8 @@ use Rattle.tables.specs.Grants.{empty}
 use Rattle.tables.specs.Sound.{indices-right, ends, chain-ends, all-zero, free-resource-right, used-resource-right, resource-right, stands-right, home-right, lock-right, sound}
 use Rattle.tables.proofs.Cases.{by-cases, by-equal, clash, eqb-same, parts}
 use Rattle.tables.proofs.Counts.{within-le, le-within, count-same, count-other, count-nil, count-step, count-from, from-in}
-use Rattle.tables.specs.Validity.{used, StateOk, LockOk}
+use Rattle.tables.specs.Validity.{used}
+use Rattle.tables.proofs.StateCases.{StateOk}
 use Rattle.tables.proofs.Valid.{ok-at, absent, used-within}
 use Rattle.tables.specs.Threads.{Within}
 use Rattle.tables.proofs.FollowedChains.{follow-null, chain-ends-any}
@@ -274,7 +275,7 @@ module _ (t : Tables) (k : ℕ) where
         let z : count k (resource t (lock t k .resource) .wait) ≡ bit (eqb s 3) = on-queue (lock t k .resource) (omega arith) waits ∙ (rw (same-r, and-true, e)) in
         omega (arith, sum-one (on-queues t k) (from 1 (length (t .resources))) (lock t k .resource) one elsewhere)
 
-    lock-ok : LockOk (used t) (lock t k)
+    lock-ok : StateOk (used t) (lock t k) (lock t k .state)
     unfolding lock-right
     lock-ok = fields-are t (lock t k) (lock t k .state) refl (search parts)
 

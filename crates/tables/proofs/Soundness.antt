@@ -16,7 +16,8 @@ use Rattle.tables.specs.Grants.{holders, empty}
 use Rattle.tables.specs.Sound.{free-resource-right, name-unique, used-resource-right, holders-compatible, sound}
 use Rattle.tables.proofs.Cases.{by-cases, clash, eqb-same, parts}
 use Rattle.tables.proofs.Counts.{within-le, le-within, count-nil, all-at, null-length}
-use Rattle.tables.specs.Validity.{used, Place, StateOk, LockOk, ResourceOk, Linked, Core, line, idle, Settled, Valid}
+use Rattle.tables.specs.Validity.{used, Place, LockOk, ResourceOk, Linked, Core, line, idle, Settled, Valid, as-free}
+use Rattle.tables.proofs.StateCases.{StateOk, ok-numbered, ok-named}
 use Rattle.tables.proofs.Valid.{ok-at, holder-place, absent, absent-lock, used-within}
 use Rattle.tables.proofs.ChainMembers.{holder-in, no-head-idle}
 use Rattle.tables.specs.Threads.{Each}
@@ -35,8 +36,8 @@ module _ (ws ss : List ℕ) (h : sound ws ss ≡ true) where
   lock-is : (k : ℕ) → LockOk (used (read ws ss)) (lock (read ws ss) k)
   lock-is k =
       by-cases (within (locks-in ws) k)
-      (λ w. let m = within-le (locks-in ws) k w in fields-are (read ws ss) (lock (read ws ss) k) (lock (read ws ss) k .state) refl (fields-tested ws ss h k (m .0) (m .1)))
-      (λ w. rw (absent-lock (read ws ss) k (rw (locks-read ws ss) w)) refl)
+      (λ w. let m = within-le (locks-in ws) k w in ok-named (fields-are (read ws ss) (lock (read ws ss) k) (lock (read ws ss) k .state) refl (fields-tested ws ss h k (m .0) (m .1))))
+      (λ w. rw (absent-lock (read ws ss) k (rw (locks-read ws ss) w)) (as-free refl))
 
   -- its chains
   counted : (c : LockChain) → Within (resources-in ws) (locks-in ws) (head (of-locks c)) → (k : ℕ) → count k (chain (read ws ss) c) ≡ bit (within (locks-in ws) k && belongs c (lock (read ws ss) k))
@@ -254,7 +255,7 @@ module _ (ws ss : List ℕ) (h : sound ws ss ≡ true) where
   word-is (of-resource (suc r) (suc (suc (suc (suc (suc (suc (suc zero)))))))) i = resource-zeros ws ss h (suc r) (i .0) (i .1) .1
   word-is (of-resource (suc r) (suc (suc (suc (suc (suc (suc (suc (suc f))))))))) i = absurd (omega arith)
   word-is (of-lock zero f) i = absurd (omega arith)
-  word-is (of-lock (suc k) zero) i = home-link k (i .1) (lock (read ws ss) (suc k) .state) refl (lock-is (suc k))
+  word-is (of-lock (suc k) zero) i = home-link k (i .1) (lock (read ws ss) (suc k) .state) refl (ok-numbered (lock-is (suc k)))
   word-is (of-lock (suc k) (suc zero)) i = side-link k (i .1) blocked (omega arith) (blocked-off ws ss h (suc k) (i .0) (i .1))
   word-is (of-lock (suc k) (suc (suc zero))) i = side-link k (i .1) notices (omega arith) (notice-off ws ss h (suc k) (i .0) (i .1))
   word-is (of-lock (suc k) (suc (suc (suc zero)))) i = field k (i .1) (λ (l : Lock). l .resource)

@@ -17,6 +17,7 @@ use Rattle.tables.specs.Sound.{sizes-right, zeros-right, resource-index,
 use Rattle.tables.proofs.Cases.{by-cases, by-equal, clash, eqb-same, and-intro, or-left, or-right}
 use Rattle.tables.proofs.Counts.{within-le, le-within, all-intro, nil-of-counts, null-nil, null-some}
 use Rattle.tables.specs.Validity.{used, Core, Valid}
+use Rattle.tables.proofs.StateCases.{StateOk, ok-numbered}
 use Rattle.tables.proofs.Valid.{ok-at, housed}
 use Rattle.tables.proofs.ChainMembers.{and-bit, on-chain, on-grants, on-converts, on-waits, in-holder, idle-no-head}
 use Rattle.tables.proofs.Blocks.{length-blocks}
@@ -127,7 +128,7 @@ module _ (t : Tables) (c : Core t) where
           let a = names-lock (of-lock k 0) (p, q, omega arith) (lock-next (home (lock t k)) k) in
           let b = names-lock (of-lock k 1) (p, q, omega arith) (lock-next blocked k) in
           let d = names-lock (of-lock k 2) (p, q, omega arith) (lock-next notices k) in
-          let e = names-resource (of-lock k 3) (p, q, omega arith) (housed t (lock t k) (lock t k .state) (c .lock-ok k)) in
+          let e = names-resource (of-lock k 3) (p, q, omega arith) (housed t (lock t k) (lock t k .state) (ok-numbered (c .lock-ok k))) in
           rw (a, b, d, e)
 
   -- every chain ends
@@ -227,7 +228,7 @@ module _ (t : Tables) (c : Core t) where
     lock-is : lock-right t k ≡ true
     unfolding lock-right home-right
     lock-is =
-        rw (stands-is free-locks, stands-is denied, are-fields t (lock t k) (lock t k .state) (c .lock-ok k))
+        rw (stands-is free-locks, stands-is denied, are-fields t (lock t k) (lock t k .state) (ok-numbered (c .lock-ok k)))
         (and-intro _ true (each-intro _ (length (t .resources)) (λ r p q. rw (stands-is (queue r grants), stands-is (queue r converts), stands-is (queue r waits)))) refl)
 
     off-zero : (x : LockChain) → In t (cell (of-locks x) k) → content t (cell (of-locks x) k) ≡ next k (0 ∷ chain t x) → linked-right (words t) t x k ≡ true

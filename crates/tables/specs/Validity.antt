@@ -3,11 +3,11 @@ use mathlib.Core.Path.{_≡_}
 use mathlib.Core.Logic.{_≢_}
 use mathlib.Core.Bool.{Bool, true, false, _&&_, not}
 use mathlib.Core.List.{List, [], _∷_, _++_}
-use Prim.Native.Nat.{ℕ, zero, suc, _≤_}
+use Prim.Native.Nat.{ℕ, _≤_}
 use lib.ListN.{length}
 use Rattle.modes.specs.Modes.{compatible}
 use Rattle.tables.specs.Lists.{within, count, bit, null}
-use Rattle.tables.specs.State.{Lock, Resource, Tables, most-resources, most-locks, last-client, last-mode, name-width, value-width, no-value, no-lock, lock, resource, holds, LockChain, chain, belongs}
+use Rattle.tables.specs.State.{Lock, Resource, Tables, most-resources, most-locks, last-client, last-mode, name-width, value-width, no-value, no-lock, lock, resource, holds, LockChain, chain, belongs, state-granted, state-converting, state-waiting, state-denied, completion-none, completion-denied, completion-conversion-denied}
 use Rattle.tables.specs.Grants.{convert-grantable, empty}
 
 -- a resource in use has a name
@@ -25,16 +25,16 @@ pub record Place (u : ℕ → Bool) (l : Lock) : Type 0 where
 pub record Granted (u : ℕ → Bool) (l : Lock) : Type 0 where
   pub place : Place u l
   pub asks : l .asked ≡ 0
-  pub notice : l .completion ≤ 3
-  pub not-denied : l .completion ≢ 2
+  pub notice : l .completion ≤ completion-conversion-denied
+  pub not-denied : l .completion ≢ completion-denied
 
 pub record Converting (u : ℕ → Bool) (l : Lock) : Type 0 where
   pub place : Place u l
-  pub notice : l .completion ≡ 0
+  pub notice : l .completion ≡ completion-none
 
 pub record Waiting (u : ℕ → Bool) (l : Lock) : Type 0 where
   pub place : Place u l
-  pub notice : l .completion ≡ 0
+  pub notice : l .completion ≡ completion-none
   pub holds : l .held ≡ 0
 
 pub record Denied (l : Lock) : Type 0 where
@@ -43,19 +43,15 @@ pub record Denied (l : Lock) : Type 0 where
   pub nowhere : l .resource ≡ 0
   pub holds : l .held ≡ 0
   pub asks : l .asked ≡ 0
-  pub notice : l .completion ≡ 2
+  pub notice : l .completion ≡ completion-denied
 
--- the states in their order: free, granted, converting, waiting, denied; there is no other. Clauses on the number, since proofs go by cases on it.
-abbrev pub StateOk : (ℕ → Bool) → Lock → ℕ → Type 0
-StateOk u l zero = l ≡ no-lock
-StateOk u l (suc zero) = Granted u l
-StateOk u l (suc (suc zero)) = Converting u l
-StateOk u l (suc (suc (suc zero))) = Waiting u l
-StateOk u l (suc (suc (suc (suc zero)))) = Denied l
-StateOk u l (suc (suc (suc (suc (suc n))))) = ⊥
-
-abbrev pub LockOk : (ℕ → Bool) → Lock → Type 0
-LockOk u l = StateOk u l (l .state)
+-- a lock is in one of the five states, and has that state's fields
+pub data LockOk (u : ℕ → Bool) (l : Lock) : Type 0 where
+  as-free : l ≡ no-lock → LockOk u l
+  as-granted : l .state ≡ state-granted → Granted u l → LockOk u l
+  as-converting : l .state ≡ state-converting → Converting u l → LockOk u l
+  as-waiting : l .state ≡ state-waiting → Waiting u l → LockOk u l
+  as-denied : l .state ≡ state-denied → Denied l → LockOk u l
 
 pub record ResourceOk (x : Resource) : Type 0 where
   pub name-length : length (x .name) ≤ name-width
