@@ -13,10 +13,11 @@ use Rattle.tables.specs.State.{Tables, lock, resource, converting, grants, conv
 use Rattle.tables.specs.Layout.{read}
 use Rattle.tables.specs.Grants.{holders, admits}
 use Rattle.tables.specs.Sound.{sound}
-use Rattle.tables.specs.Validity.{used, StateOk, Core}
+use Rattle.tables.specs.Validity.{used, Core}
 use Rattle.tables.proofs.Cases.{by-cases}
 use Rattle.tables.proofs.Counts.{within-le, count-same, first-in}
 use Rattle.tables.proofs.ChainMembers.{on-chain}
+use Rattle.tables.proofs.StateCases.{StateOk, ok-numbered}
 use Rattle.tables.proofs.Pigeonhole.{length-from}
 use Rattle.tables.proofs.Soundness.{sound-valid}
 use Rattle.rules.specs.Queues.{find}
@@ -123,7 +124,7 @@ module _ (t : Tables) (c : Core t) where
       go zero e = answer-small 0 (omega arith)
       go (suc k) e =
           small-accepted (lock t (suc k) .completion) (suc k)
-          (completion-small (used t) (lock t (suc k)) (lock t (suc k) .state) (c .lock-ok (suc k))) (number-small notices (suc k) (first-in _ (t .notices) k e))
+          (completion-small (used t) (lock t (suc k)) (lock t (suc k) .state) (ok-numbered (c .lock-ok (suc k)))) (number-small notices (suc k) (first-in _ (t .notices) k e))
 
   step-small : (call : Call) → Small (step-of call t .said)
   unfolding request convert release cancel purge poll request-refusal convert-refusal release-refusal cancel-refusal purge-refusal poll-refusal release-change

@@ -8,6 +8,7 @@ use Rattle.tables.specs.State.{Tables, lock, last-client, last-mode}
 use Rattle.tables.specs.Layout.{of-lock, word-in, onward, read-lock}
 use Rattle.tables.specs.Threads.{Each}
 use Rattle.tables.specs.Validity.{used, Core}
+use Rattle.tables.proofs.StateCases.{ok-numbered}
 use Rattle.tables.proofs.Valid.{modes-low, client-low}
 use Rattle.tables.proofs.Links.{each-map}
 use Rattle.tables.proofs.ReadBack.{lock-read}
@@ -18,13 +19,13 @@ use Rattle.table_chains.proofs.ChainWalks.{some-sized}
 
 module _ (t : Tables) (core : Core t) (k : ℕ) where
   pub client-few : lock t k .client < suc last-client
-  client-few = omega (arith, client-low (used t) (lock t k) (lock t k .state) (core .lock-ok k))
+  client-few = omega (arith, client-low (used t) (lock t k) (lock t k .state) (ok-numbered (core .lock-ok k)))
 
   pub held-few : lock t k .held < suc last-mode
-  held-few = omega (arith, modes-low (used t) (lock t k) (lock t k .state) (core .lock-ok k) .0)
+  held-few = omega (arith, modes-low (used t) (lock t k) (lock t k .state) (ok-numbered (core .lock-ok k)) .0)
 
   pub asked-few : lock t k .asked < suc last-mode
-  asked-few = omega (arith, modes-low (used t) (lock t k) (lock t k .state) (core .lock-ok k) .1)
+  asked-few = omega (arith, modes-low (used t) (lock t k) (lock t k .state) (ok-numbered (core .lock-ok k)) .1)
 
 -- a lock in the words
 pub at-sized : {ws : List ℕ} {k : ℕ} → At ws k → Sized ws
