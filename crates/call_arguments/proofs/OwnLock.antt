@@ -1,5 +1,5 @@
 -- Whose lock a number is, from the words of a state.
-use mathlib.Core.Path.{_≡_, refl, _∙_, ap}
+use mathlib.Core.Path.{_≡_, refl, _∙_}
 use mathlib.Core.Bool.{false, _&&_, not}
 use mathlib.Core.List.{List}
 use Prim.Native.Nat.{ℕ, zero, suc, _≤_, _<_}
@@ -14,11 +14,11 @@ use Rattle.tables.specs.State.{lock}
 use Rattle.tables.specs.Layout.{locks-in, read-lock}
 use Rattle.tables.proofs.Counts.{le-within}
 use Rattle.tables.specs.Validity.{Core}
-use Rattle.tables.proofs.ReadBack.{lock-read}
 use Rattle.rules.specs.Calls.{own}
-use Rattle.table_fields.proofs.StateWords.{locks-is}
+use Rattle.table_fields.proofs.StateWords.{locks-is, lock-record}
 use Rattle.table_chains.proofs.ChainWalks.{some-sized}
 use Rattle.table_chains.specs.Contracts.{Some, Tells}
+use Rattle.table_chains.proofs.ChainWalks.{some-sized}
 
 outside : (n k : ℕ) → n < k → within n k ≡ false
 outside n zero h = refl
@@ -47,7 +47,7 @@ module _ (ws : List ℕ) where
           then = λ t core is.
               let high : k ≤ length (t .locks) = omega (arith, locks-is t ws is) in
               let low : 1 ≤ k = omega arith in
-              let same : l ≡ lock t k = e ∙ ap (λ (v : List ℕ). read-lock v k) is ∙ lock-read t k low high in
+              let same : l ≡ lock t k = e ∙ lock-record t ws is k low high in
               rw (le-within (length (t .locks)) k low high, same);
         }
 

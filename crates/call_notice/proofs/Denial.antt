@@ -24,11 +24,11 @@ use Rattle.table_chains.specs.Contracts.{Some, Turns, Tells, Movable, Moving, M
 use Rattle.queues.proofs.ResourceRecord.{slots-sweep}
 use Rattle.answers.specs.Answers.{denial, broken}
 use Rattle.rules.specs.Entries.{Lent, lent, outcome}
+use Rattle.table_fields.proofs.StateWords.{lock-is}
 use Rattle.answers.specs.declared.Broken.the-variants as broken-cases
 use Rattle.answers.specs.Contracts.{MakesWords}
 use Rattle.call_release.specs.Contracts.{Restorable, restore}
 use Rattle.answers.proofs.Steps.{stepped}
-use Rattle.call_release.proofs.LentLock.{lock-is}
 use Rattle.call_release.proofs.RestoredLock.{slots-restore, blocked-there, blocked-range, blocked-resource, restorable-at, cancel-sized, cancel-low, cancel-high}
 
 -- STATES. The blocked lock k, denied
@@ -70,7 +70,7 @@ slots-deny k t =
 -- deny
 module _ (k : ℕ) (a : List ℕ) (l : Lock) (el : l ≡ read-lock a k) where
   l-is : (t : Tables) → Cancellable k t → a ≡ words t → l ≡ lock t k
-  l-is t p is = lock-is k t (p .valid .core) (blocked-range k t p) a is l el
+  l-is t p is = lock-is t a is k (blocked-range k t p) l el
 
   module _ (q : l .state ≡ 2) where
     restorable : (t : Tables) → Cancellable k t → a ≡ words t → Restorable k 3 t

@@ -12,15 +12,15 @@ use Rattle.tables.specs.Layout.{of-header, of-lock, words, word-in, read-lock}
 use Rattle.tables.proofs.Counts.{first-cong}
 use Rattle.tables.specs.Validity.{Core}
 use Rattle.tables.proofs.ChainMembers.{on-chain}
+use Rattle.table_fields.proofs.StateWords.{lock-is}
 use Rattle.table_chains.specs.Contracts.{Some, Tells}
 use Rattle.table_chains.specs.Walking.{first-with}
 use Rattle.table_chains.proofs.ChainWalks.{some-sized, walk-sized, walk-low, walk-high, walk-less, notices-walks, notices-onward, Seeking, seeking-starts, seeking-found, seeking-ends}
-use Rattle.call_release.proofs.LentLock.{lock-is}
 use Rattle.call_notice.specs.Contracts.{first-notice}
 
 client-there : (t : Tables) → Core t → (ws : List ℕ) → ws ≡ words t → (j : ℕ) → 1 ≤ count j (t .notices) → word-in ws (of-lock j 4) ≡ lock t j .client
 unfolding read-lock
-client-there t core ws is j m = ap (λ (o : Lock). o .client) (lock-is j t core (on-chain t (core .linked) notices j m .0) ws is (read-lock ws j) refl)
+client-there t core ws is j m = ap (λ (o : Lock). o .client) (lock-is t ws is j (on-chain t (core .linked) notices j m .0) (read-lock ws j) refl)
 
 -- first_notice
 module _ (c : ℕ) (ws : List ℕ) (start : ℕ) (e : start ≡ word-in ws (of-header 6)) where

@@ -9,26 +9,25 @@ use lib.Dec.{eqb}
 use lib.ListN.{length}
 use Rattle.tables.specs.Lists.{count, first-that, from, same, within}
 use Rattle.tables.specs.State.{Tables, lock, resource, Queue, grants, converts, queue, queue-of}
-use Rattle.tables.specs.Layout.{of-resource, of-lock, queue-head, words, slots, read, locks-in, word-in, onward}
+use Rattle.tables.specs.Layout.{of-resource, of-lock, queue-head, words, read, locks-in, word-in, onward}
 use Rattle.tables.specs.Grants.{holders}
 use Rattle.tables.specs.Sound.{sound}
 use Rattle.tables.proofs.Cases.{by-cases}
 use Rattle.tables.proofs.Counts.{count-same, count-step, count-append, count-from, bit-one, first-in, first-here, first-later, first-cong}
-use Rattle.tables.proofs.ReadBack.{word-read}
-use Rattle.tables.proofs.Soundness.{sound-valid, sound-words, sound-slots}
-use Rattle.tables.specs.Validity.{Core}
+use Rattle.tables.proofs.Written.{Writes, sound-written}
+use Rattle.tables.proofs.ChainMembers.{holder-range}
 use Rattle.rules.specs.Queues.{find}
 use Rattle.rules.specs.Images.{holder-of, ex}
 use Rattle.table_fields.specs.Sizes.{Sized}
-use Rattle.table_fields.proofs.StateWords.{locks-is, core-sized}
+use Rattle.table_fields.proofs.StateWords.{locks-is, core-sized, word-is}
 use Rattle.table_names.specs.Names.{find-in}
 use Rattle.table_names.specs.Contracts.{Named}
-use Rattle.table_names.proofs.StateNames.{core-named, find-is}
+use Rattle.table_names.proofs.StateNames.{sound-named, sound-find}
 use Rattle.table_chains.specs.Contracts.{Some, Tells, Resourced}
 use Rattle.table_chains.specs.Walking.{first-with}
 use Rattle.table_chains.proofs.ChainWalks.{walk-sized, walk-low, walk-high, walk-less, seeking-starts, seeking-found, seeking-on, seeking-ends, queue-onward, here-sized, here-low, here-high, here-grants, here-converts}
 use Rattle.queues.specs.Holders.{held-in}
-use Rattle.queues.proofs.QueueReads.{lock-there, held-there}
+use Rattle.queues.proofs.QueueReads.{held-there}
 use Rattle.entry_holder.specs.Contracts.{ex-lock}
 
 -- the first that passes a test on two lists in a row
@@ -68,7 +67,7 @@ module _ (ws : List ℕ) (r : ℕ) (t : Tables) (p : Resourced r t) (is : ws ≡
   ex-there : (k : ℕ) → k ≡ ex-lock r t → (k ≡ 0 → ⊥) → (1 ≤ k) × (k ≤ length (t .locks))
   unfolding ex-lock
   ex-there zero e n = absurd (n refl)
-  ex-there (suc k) e n = lock-there r t p ws is (suc k) (first-in (λ k. eqb (lock t k .held) ex) (holders t r) k (sym e))
+  ex-there (suc k) e n = holder-range t (p .core .linked) r (suc k) (first-in (λ k. eqb (lock t k .held) ex) (holders t r) k (sym e))
 
 module _ (ws : List ℕ) (r x : ℕ) (head : x ≡ word-in ws (of-resource r 1)) (k : ℕ) (ek : k ≡ first-with ws 0 6 ex x) where
   pub ex-granted : (k ≡ 0 → ⊥) → Tells (Resourced r) (ex-lock r) ws k
@@ -90,12 +89,6 @@ module _ (ws : List ℕ) (r x : ℕ) (head : x ≡ word-in ws (of-resource r 1))
 pub ruleset ex-locking = (needs, here-sized, here-low, here-high, here-grants, here-converts, ex-granted, ex-converting)
 
 -- ex_holder
-named-of : (t : Tables) (ws ss : List ℕ) → Core t → ws ≡ words t → ss ≡ slots t → Named ws ss
-named-of t ws ss core e f = rw (e, f) (core-named t core)
-
-find-of : (t : Tables) (ws ss n : List ℕ) → Core t → ws ≡ words t → ss ≡ slots t → find-in ws ss n ≡ find n t
-find-of t ws ss n core e f = rw (e, f) (find-is t core n)
-
 find-there : (n : List ℕ) (t : Tables) (r : ℕ) → r ≡ find n t → (r ≡ 0 → ⊥) → within (length (t .resources)) r ≡ true
 unfolding find
 find-there n t zero e f = absurd (f refl)
@@ -104,15 +97,15 @@ find-there n t (suc r) e f =
     (rw (count-from (length (t .resources)) (suc r)) at (first-in (λ r. same (resource t r .name) n) (from 1 (length (t .resources))) r (sym e)))
 
 module _ (ws ss n : List ℕ) (h : sound ws ss ≡ true) where
-  core : Core (read ws ss)
-  core = sound-valid ws ss h .core
+  w : Writes ws ss (read ws ss)
+  w = sound-written ws ss h
 
   pub holder-named : Named ws ss
-  holder-named = named-of (read ws ss) ws ss core (sound-words ws ss h) (sound-slots ws ss h)
+  holder-named = sound-named ws ss h
 
   module _ (r : ℕ) (er : r ≡ find-in ws ss n) where
     found : r ≡ find n (read ws ss)
-    found = er ∙ find-of (read ws ss) ws ss n core (sound-words ws ss h) (sound-slots ws ss h)
+    found = er ∙ sound-find n ws ss h
 
     pub holder-none : r ≡ 0 → 0 ≡ holder-of (find n (read ws ss)) (read ws ss)
     unfolding holder-of holders resource first-that lock
@@ -120,14 +113,14 @@ module _ (ws ss n : List ℕ) (h : sound ws ss ≡ true) where
 
     module _ (some : r ≡ 0 → ⊥) where
       there : Resourced r (read ws ss)
-      there = record { core = core; in-range = find-there n (read ws ss) r found some }
+      there = record { core = w .valid .core; in-range = find-there n (read ws ss) r found some }
 
       pub holder-resourced : Some (Resourced r) ws
-      holder-resourced = record { state = read ws ss; good = there; is = sound-words ws ss h }
+      holder-resourced = record { state = read ws ss; good = there; is = w .is }
 
       module _ (k : ℕ) (told : Tells (Resourced r) (ex-lock r) ws k) where
         k-is : k ≡ ex-lock r (read ws ss)
-        k-is = told .then (read ws ss) there (sound-words ws ss h)
+        k-is = told .then (read ws ss) there (w .is)
 
         lock-is : lock (read ws ss) k .client ≡ holder-of (find n (read ws ss)) (read ws ss)
         unfolding holder-of ex-lock
@@ -139,18 +132,18 @@ module _ (ws ss n : List ℕ) (h : sound ws ss ≡ true) where
 
         module _ (one : k ≡ 0 → ⊥) where
           range : (1 ≤ k) × (k ≤ length (read ws ss .locks))
-          range = ex-there ws r (read ws ss) there (sound-words ws ss h) k k-is one
+          range = ex-there ws r (read ws ss) there (w .is) k k-is one
 
           pub holder-sized : Sized ws
-          holder-sized = core-sized (read ws ss) ws (sound-words ws ss h) core
+          holder-sized = core-sized (read ws ss) ws (w .is) (w .valid .core)
 
           pub holder-low : 1 ≤ k
           holder-low = range .0
 
           pub holder-high : k ≤ locks-in ws
-          holder-high = rw (locks-is (read ws ss) ws (sound-words ws ss h)) (range .1)
+          holder-high = rw (locks-is (read ws ss) ws (w .is)) (range .1)
 
           pub holder-client : (x : ℕ) → x ≡ word-in ws (of-lock k 4) → x ≡ holder-of (find n (read ws ss)) (read ws ss)
-          holder-client x e = e ∙ ap (λ (w : List ℕ). word-in w (of-lock k 4)) (sound-words ws ss h) ∙ word-read (read ws ss) (of-lock k 4) (range .0, range .1, omega arith) ∙ lock-is
+          holder-client x e = e ∙ word-is (read ws ss) ws (w .is) (of-lock k 4) (range .0, range .1, omega arith) ∙ lock-is
 
 pub ruleset ex-holding = (needs, holder-named, holder-none, holder-resourced, holder-nobody, holder-sized, holder-low, holder-high, holder-client)

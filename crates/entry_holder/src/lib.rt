@@ -10,12 +10,13 @@ use table_fields::wide;
 ghost use mathlib.Core.Path.{_≡_};
 ghost use mathlib.Core.Bool.{true};
 ghost use Prim.Native.Nat.{_≤_, _<_};
+ghost use lib.ListN.{getD};
 ghost use Rattle.tables.specs.Lists.{same};
 ghost use Rattle.tables.specs.State.{«name-width»};
 ghost use Rattle.tables.specs.Layout.{«resource-width», «lock-width», «of-resource», «of-lock», «resources-in», «locks-in», «word-in», read};
 ghost use Rattle.tables.specs.Sound.{sound};
 ghost use Rattle.rules.specs.Queues.{find};
-ghost use Rattle.rules.specs.Images.{«image-words», ex, «holder-of», «holder-entry»};
+ghost use Rattle.rules.specs.Images.{«image-size», «image-words», ex, «holder-of», «holder-entry»};
 ghost use Rattle.table_names.specs.Names.{«name-in», «find-in»};
 ghost use Rattle.table_names.specs.Contracts.{Short, Named};
 ghost use Rattle.table_chains.specs.Contracts.{Some, Tells, Resourced};
@@ -25,12 +26,20 @@ ghost use Rattle.entry_holder.specs.Contracts.{HasAllWords, «ex-lock»}
 // The takeover program gets a refusal as this plus its number.
 const REFUSED: u32 = 256;
 
-// The words of the image's tables, as `table_fields` gives those of tables.
+// The word at that place among the words of the image's tables. Those below read through it, as `table_fields` reads words.
+fn word(image: &[u8], at: usize) -> u32
+    requires { ⌜ HasAllWords (now image) ⌝ }
+    requires { ⌜ at < image-size (now image) ⌝ }
+    ensures { λ x. ⌜ x ≡ getD (image-words (now (image .entry))) at 0 ⌝ }
+{
+    word_at(image, WORD_BYTES * at)
+}
+
 fn resource_count(image: &[u8]) -> u32
     requires { ⌜ HasAllWords (now image) ⌝ }
     ensures { λ x. ⌜ x ≡ resources-in (image-words (now (image .entry))) ⌝ }
 {
-    word_at(image, WORD_BYTES * table_fields::RESOURCES)
+    word(image, table_fields::RESOURCES)
 }
 
 fn resource_word(image: &[u8], r: u32, field: usize) -> u32
@@ -40,7 +49,7 @@ fn resource_word(image: &[u8], r: u32, field: usize) -> u32
     ensures { λ x. ⌜ x ≡ word-in (image-words (now (image .entry))) (of-resource r field) ⌝ }
 {
     let start = table_fields::HEADER_WORDS + table_fields::RESOURCE_WORDS * (r as usize - 1);
-    word_at(image, WORD_BYTES * (start + field))
+    word(image, start + field)
 }
 
 fn lock_word(image: &[u8], k: u32, field: usize) -> u32
@@ -53,7 +62,7 @@ fn lock_word(image: &[u8], k: u32, field: usize) -> u32
     let start = table_fields::HEADER_WORDS
         + table_fields::RESOURCE_WORDS * resources
         + table_fields::LOCK_WORDS * (k as usize - 1);
-    word_at(image, WORD_BYTES * (start + field))
+    word(image, start + field)
 }
 
 fn name_length(image: &[u8], r: u32) -> usize

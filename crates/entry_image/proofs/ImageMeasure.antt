@@ -7,32 +7,33 @@ use native.Mathlib.Omega.{arith}
 use borrow.Author.Needs.{needs}
 use borrow.Author.Tests.{leb-true, le-leb, eqb-true, eq-eqb, not-false}
 use lib.Dec.{leb}
-use lib.ListN.{length, take, drop, replicate, length-drop, length-append, length-replicate}
-use lib.Seq.{take-all, take-at, length-take-le}
+use lib.ListN.{length, take, drop, replicate, length-drop, length-append, length-replicate, getD}
+use lib.Seq.{take-all, take-at}
 use Rattle.tables.specs.State.{most-resources, most-locks}
 use Rattle.tables.specs.Layout.{slot-width, resources-in, locks-in, header-width, resource-width, lock-width}
 use Rattle.tables.specs.Sound.{sound}
-use Rattle.tables.proofs.Blocks.{getD-map-from}
 use Rattle.tables.proofs.Cases.{by-cases, clash, parts}
 use Rattle.tables.proofs.Conditions.{resources-low, resources-high, locks-low, locks-high, words-sized}
 use Rattle.rules.specs.Images.{word-from, image-size, image-words, image-slots, image-sound}
 use Rattle.table_bytes.specs.Bytes.{decoded}
-use Rattle.table_bytes.proofs.Loops.{length-decoded}
+use Rattle.table_bytes.proofs.Loops.{length-decoded, decoded-at}
 use Rattle.entry_image.specs.Contracts.{measures, Measured, Decoded}
+use Rattle.table_names.proofs.FourBytes.{front-long}
 
 module _ (bs : List ℕ) where
-  -- the first two words
-  pub first-word : resources-in (image-words bs) ≡ word-from bs 0
-  unfolding image-words
-  first-word = getD-map-from (λ i. word-from bs (4 * i)) 0 (image-size bs) 0 (omega arith)
-
-  pub second-word : locks-in (image-words bs) ≡ word-from bs 4
-  unfolding image-words
-  second-word = getD-map-from (λ i. word-from bs (4 * i)) 0 (image-size bs) 1 (omega arith)
-
   pub words-decoded : image-words bs ≡ decoded bs (image-size bs)
   unfolding image-words decoded
   words-decoded = refl
+
+  -- a word, where it stands in the bytes; the first two
+  pub image-word : (i : ℕ) → i < image-size bs → getD (image-words bs) i 0 ≡ word-from bs (4 * i)
+  image-word i h = ap (λ (ws : List ℕ). getD ws i 0) words-decoded ∙ decoded-at bs (image-size bs) i h
+
+  pub first-word : resources-in (image-words bs) ≡ word-from bs 0
+  first-word = image-word 0 (omega arith)
+
+  pub second-word : locks-in (image-words bs) ≡ word-from bs 4
+  second-word = image-word 1 (omega arith)
 
   -- R and L are in range, and the length is right
   pub record Measure : Type 0 where
@@ -173,18 +174,15 @@ pub ruleset judging = (needs, sound-told)
 
 -- load and holder: the front of a buffer has room for just the words, and then holds them
 module _ (n size : ℕ) (h : n ≤ size) where
-  front-long : length (take n (replicate {A = ℕ} size 0)) ≡ n
-  front-long = length-take-le n (replicate {A = ℕ} size 0) (rw length-replicate h)
-
   pub front-room : n ≡ length (take n (replicate {A = ℕ} size 0))
-  front-room = sym front-long
+  front-room = front-long n (replicate {A = ℕ} size 0) (rw length-replicate h)
 
   pub front-inside : (bs : List ℕ) → Measured bs n → 4 * length (take n (replicate {A = ℕ} size 0)) ≤ length bs
-  front-inside bs m = rw front-long (m .inside)
+  front-inside bs m = rw (← front-room) (m .inside)
 
   module _ (bs zs : List ℕ) (e : zs ≡ decoded bs (length (take n (replicate {A = ℕ} size 0)))) where
     front-is : zs ≡ decoded bs n
-    front-is = e ∙ ap (decoded bs) front-long
+    front-is = e ∙ ap (decoded bs) (sym front-room)
 
     zs-long : length zs ≡ n
     zs-long = ap length front-is ∙ length-decoded bs n

@@ -91,7 +91,7 @@ fn is_sound(image: &[u8], decoded: &[u32]) -> bool
 }
 
 // The words d become the words s, which are as many.
-fn copy_words(d: &mut [u32], s: &[u32])
+pub fn copy_words(d: &mut [u32], s: &[u32])
     requires { ⌜ length (now d) ≡ length (now s) ⌝ }
     ensures { λ _. ⌜ now (d .exit) ≡ now (s .entry) ⌝ }
 {

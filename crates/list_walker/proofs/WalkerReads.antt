@@ -16,10 +16,9 @@ use Rattle.tables.specs.Layout.{of-resource, of-lock, queue-head, words, locks-
 use Rattle.tables.specs.Grants.{holders}
 use Rattle.tables.proofs.Cases.{and-left}
 use Rattle.tables.proofs.Links.{first-of, first-after}
-use Rattle.tables.proofs.ReadBack.{lock-read}
 use Rattle.tables.specs.Validity.{Core}
 use Rattle.table_fields.specs.Sizes.{Sized}
-use Rattle.table_fields.proofs.StateWords.{resources-is, locks-is}
+use Rattle.table_fields.proofs.StateWords.{locks-is, lock-record}
 use Rattle.table_chains.specs.Contracts.{Some, Tells, Resourced}
 use Rattle.table_chains.proofs.ChainWalks.{some-sized, queue-first, here-sized, here-low, here-high}
 use Rattle.list_walker.specs.Order.{locks-on, first-on, queues-past, first-past, Queued, next-on, PlaceOn, SomePlaceOn, CountedOn}
@@ -110,7 +109,7 @@ module _ (ws : List ℕ) (k : ℕ) where
   queued-high s = rw (locks-is (s .state) ws (s .is)) (queued-range k (s .state) (s .good) .1)
 
   pub queued-record : (t : Tables) → Queued k t → ws ≡ words t → read-lock ws k ≡ lock t k
-  queued-record t p is = ap (λ (v : List ℕ). read-lock v k) is ∙ lock-read t k (queued-range k t p .0) (queued-range k t p .1)
+  queued-record t p is = lock-record t ws is k (queued-range k t p .0) (queued-range k t p .1)
 
   module _ (n : ℕ) (en : n ≡ word-in ws (of-lock k 0)) where
     split : (t : Tables) (p : Queued k t) → ws ≡ words t → Split k n (locks-on (lock t k .resource) t) (queues-past (lock t k .state) (resource t (lock t k .resource)))

@@ -1,10 +1,9 @@
 -- Reading a resource's queues from the words of a state.
 use mathlib.Core.Path.{_≡_, refl, sym, _∙_, ap, ap₂}
-use mathlib.Core.Bool.{Bool, true, false}
-use mathlib.Core.List.{List, [], _∷_, _++_}
+use mathlib.Core.Bool.{Bool, false}
+use mathlib.Core.List.{List, [], _∷_}
 use Prim.Native.Nat.{ℕ, zero, suc, _<_, _≤_}
 use native.Mathlib.Omega.{arith}
-use lib.ListN.{length}
 use lib.Dec.{eqb}
 use borrow.Author.Needs.{needs}
 use borrow.Author.Tests.{eq-eqb, ne-eqb}
@@ -12,20 +11,21 @@ use Rattle.modes.specs.Sets.{fits-set}
 use Rattle.modes.proofs.Laws.{fits-none}
 use Rattle.tables.specs.Lists.{count, first, null}
 use Rattle.tables.specs.State.{Tables, lock, resource, Queue, grants, converts, waits, queue, of-locks, queue-of}
-use Rattle.tables.specs.Layout.{Address, of-resource, of-lock, queue-head, content, words, word-in, onward}
+use Rattle.tables.specs.Layout.{of-resource, of-lock, queue-head, words, word-in, onward}
 use Rattle.tables.specs.Grants.{holders, fits, admits}
-use Rattle.tables.proofs.Counts.{within-le, count-same, by-append}
-use Rattle.tables.specs.Threads.{Each, In, Threaded}
-use Rattle.tables.proofs.ReadBack.{word-read}
+use Rattle.tables.proofs.Counts.{count-same}
+use Rattle.tables.specs.Threads.{Each, Threaded}
 use Rattle.tables.proofs.ThreadedChains.{each-counted, core-threaded}
 use Rattle.tables.specs.Validity.{line}
-use Rattle.tables.proofs.ChainMembers.{on-chain}
+use Rattle.tables.proofs.ChainMembers.{holder-range}
+use Rattle.tables.proofs.Links.{first-of, first-after}
 use Rattle.table_fields.proofs.StateWords.{resources-is, locks-is, core-sized}
 use Rattle.table_chains.specs.Contracts.{Some, Tells, Resourced}
 use Rattle.table_chains.proofs.ChainWalks.{queue-present, queue-onward, queue-first, here-sized, here-low, here-high, here-grants, here-converts}
 use Rattle.table_chains.proofs.LockLimits.{held-few, walk-modes}
 use Rattle.queues.specs.Holders.{with-holders, others, held-in}
 use Rattle.queues.proofs.HeldSets.{holders-append, holders-small, fits-holders, holders-same}
+use Rattle.table_fields.proofs.StateWords.{word-is}
 
 pub null-first : (xs : List ℕ) → count 0 xs ≡ 0 → eqb (first xs) 0 ≡ null xs
 null-first [] h = refl
@@ -34,31 +34,15 @@ null-first (suc x ∷ xs) h = ne-eqb (suc x) 0 (omega arith)
 
 -- the resource r of a state, by its words
 module _ (r : ℕ) (t : Tables) (p : Resourced r t) (ws : List ℕ) (is : ws ≡ words t) where
-  word-here : (a : Address) → In t a → word-in ws a ≡ content t a
-  word-here a h = ap (λ (w : List ℕ). word-in w a) is ∙ word-read t a h
-
   pub threaded : (q : Queue) → Threaded t (of-locks (queue r q))
   threaded q = core-threaded t (p .core) (of-locks (queue r q)) (queue-present r t p q)
 
-  none-zero : (q : Queue) → count 0 (queue-of q (resource t r)) ≡ 0
-  none-zero grants = p .core .linked (queue r grants) 0
-  none-zero converts = p .core .linked (queue r converts) 0
-  none-zero waits = p .core .linked (queue r waits) 0
-
   pub head-null : (q : Queue) → eqb (word-in ws (of-resource r (queue-head q))) 0 ≡ null (queue-of q (resource t r))
-  head-null q = ap (λ (x : ℕ). eqb x 0) (queue-first r t p q ws is) ∙ null-first (queue-of q (resource t r)) (none-zero q)
+  head-null q = ap (λ (x : ℕ). eqb x 0) (queue-first r t p q ws is) ∙ null-first (queue-of q (resource t r)) (p .core .linked (queue r q) 0)
 
   -- those who hold a mode there
-  pub lock-there : (j : ℕ) → 1 ≤ count j (holders t r) → (1 ≤ j) × (j ≤ length (t .locks))
-  unfolding holders
-  lock-there j m =
-      within-le (length (t .locks)) j
-      (by-append j (resource t r .grant) (resource t r .convert) m
-      (λ h. on-chain t (p .core .linked) (queue r grants) j h .0)
-      (λ h. on-chain t (p .core .linked) (queue r converts) j h .0))
-
   pub held-there : (j : ℕ) → 1 ≤ count j (holders t r) → held-in ws j ≡ lock t j .held
-  held-there j m = word-here (of-lock j 6) (lock-there j m .0, lock-there j m .1, omega arith)
+  held-there j m = word-is t ws is (of-lock j 6) (let i = holder-range t (p .core .linked) r j m in (i .0, i .1, omega arith))
 
 -- the set of the modes that others hold
 module _ (r k : ℕ) (t : Tables) (p : Resourced r t) where
@@ -116,14 +100,6 @@ module _ (ws : List ℕ) (r m : ℕ) (x : ℕ) (ex : x ≡ word-in ws (of-resour
 pub ruleset admits-laws = (needs, here-sized, here-low, here-high, admits-not, admits-if)
 
 -- next_up
-first-of : (xs ys : List ℕ) → (first xs ≡ 0 → ⊥) → first (xs ++ ys) ≡ first xs
-first-of [] ys n = absurd (n refl)
-first-of (x ∷ xs) ys n = refl
-
-first-after : (xs ys : List ℕ) → null xs ≡ true → first (xs ++ ys) ≡ first ys
-first-after [] ys h = refl
-first-after (x ∷ xs) ys h = absurd (let z : _≡_ {A = ℕ} 0 1 = cc in omega arith)
-
 module _ (ws : List ℕ) (r : ℕ) (x : ℕ) (ex : x ≡ word-in ws (of-resource r 2)) where
   pub next-converts : (x ≡ 0 → ⊥) → Tells (Resourced r) (λ t. first (line t r)) ws x
   unfolding line
@@ -138,7 +114,7 @@ module _ (ws : List ℕ) (r : ℕ) (x : ℕ) (ex : x ≡ word-in ws (of-resource
   next-waits n y ey = record {
     then = λ t p is.
         ey ∙ queue-first r t p waits ws is
-        ∙ sym (first-after (resource t r .convert) (resource t r .wait) (sym (none-or ws r 0 x ex t p is) ∙ eq-eqb x 0 n));
+        ∙ sym (first-after (resource t r .convert) (resource t r .wait) (p .core .linked (queue r converts) 0) (sym (ex ∙ queue-first r t p converts ws is) ∙ n));
   }
 
 pub ruleset next-laws = (needs, here-sized, here-low, here-high, next-converts, next-waits)

@@ -1,7 +1,7 @@
 pub mod CellWalks
 pub mod HeadCells
 pub mod ChainCells
-pub mod StateRecords
+pub mod FoundSound
 pub mod ChainWalks
 pub mod LockLimits
 pub mod LockMoves

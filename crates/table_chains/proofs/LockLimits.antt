@@ -1,7 +1,7 @@
 -- The limits that every lock keeps to, whatever its state, and what the words say of one.
 use mathlib.Core.Path.{_≡_, refl, _∙_, ap}
 use mathlib.Core.List.{List}
-use Prim.Native.Nat.{ℕ, suc, _<_}
+use Prim.Native.Nat.{ℕ, _<_}
 use native.Mathlib.Omega.{arith}
 use Rattle.tables.specs.declared.Lock.{Lock}
 use Rattle.tables.specs.State.{Tables, lock, last-client, last-mode}
@@ -11,11 +11,12 @@ use Rattle.tables.specs.Validity.{used, Core}
 use Rattle.tables.proofs.StateCases.{ok-numbered}
 use Rattle.tables.proofs.Valid.{modes-low, client-low}
 use Rattle.tables.proofs.Links.{each-map}
-use Rattle.tables.proofs.ReadBack.{lock-read}
 use Rattle.table_fields.specs.Sizes.{Sized}
+use Rattle.table_fields.proofs.StateWords.{lock-record}
 use Rattle.table_chains.specs.Walking.{At, Walking}
 use Rattle.table_fields.proofs.StateWords.{locks-is}
 use Rattle.table_chains.proofs.ChainWalks.{some-sized}
+use Rattle.tables.specs.declared.Lock.{Lock}
 
 module _ (t : Tables) (core : Core t) (k : ℕ) where
   pub client-few : lock t k .client < suc last-client
@@ -35,7 +36,7 @@ module _ (ws : List ℕ) (k : ℕ) (a : At ws k) where
   pub lock-told : read-lock ws k ≡ lock (a .some .state) k
   lock-told =
       let s = a .some in
-      ap (λ (vs : List ℕ). read-lock vs k) (s .is) ∙ lock-read (s .state) k (a .low) (omega (arith, a .high, locks-is (s .state) ws (s .is)))
+      lock-record (s .state) ws (s .is) k (a .low) (omega (arith, a .high, locks-is (s .state) ws (s .is)))
 
   -- its modes are modes
   pub held-mode : (x : ℕ) → x ≡ word-in ws (of-lock k 6) → x < 6

@@ -8,13 +8,15 @@ use lib.ListN.{length, take, drop, replicate, length-append, length-replicate}
 use lib.Seq.{take-at}
 use Rattle.tables.specs.Lists.{first-that, from, same, null}
 use Rattle.tables.specs.State.{Resource, Tables, name-width, no-resource, resource, move-resource}
-use Rattle.tables.specs.Layout.{of-resource, slot-width, words, slot, slots, word-in, slot-in, read-resource}
+use Rattle.tables.specs.Layout.{of-resource, slot-width, words, slot, slots, word-in, slot-in, read-resource, read}
 use Rattle.tables.proofs.Blocks.{length-blocks}
-use Rattle.tables.proofs.ReadBack.{resources-word, resource-read, slot-read, slot-length, word-read}
+use Rattle.tables.proofs.ReadBack.{resources-word, resource-read, slot-read, slot-length, word-read, tables-read}
 use Rattle.tables.proofs.ThreadedChains.{core-readable}
 use Rattle.tables.proofs.ResourceMoved.{resource-moved-slots}
 use Rattle.tables.proofs.Counts.{first-cong, from-in, null-nil}
+use Rattle.tables.proofs.Written.{valid-readable, for-sound}
 use Rattle.tables.specs.Validity.{Core}
+use Rattle.tables.specs.Sound.{sound}
 use Rattle.rules.specs.Queues.{find}
 use Rattle.rules.specs.Calls.{new-resource}
 use Rattle.table_names.specs.Names.{name-in, find-in}
@@ -105,3 +107,10 @@ module _ (t : Tables) (core : Core t) where
     -- a freed resource
     pub put-blank : with-slot r blank (slots t) ≡ slots (move-resource r no-resource t)
     put-blank = ap (λ (xs : List ℕ). with-slot r xs (slots t)) blank-slot ∙ put-slot no-resource
+
+-- so of sound words and slots
+pub sound-named : (ws ss : List ℕ) → sound ws ss ≡ true → Named ws ss
+sound-named = for-sound Named (λ t v. core-named t (v .core))
+
+pub sound-find : (n ws ss : List ℕ) → sound ws ss ≡ true → find-in ws ss n ≡ find n (read ws ss)
+sound-find n = for-sound (λ ws ss. find-in ws ss n ≡ find n (read ws ss)) (λ t v. find-is t (v .core) n ∙ ap (find n) (sym (tables-read t (valid-readable t v))))
