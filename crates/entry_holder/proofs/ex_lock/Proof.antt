@@ -1,4 +1,4 @@
-use Rattle.table_chains.proofs.ChainWalks.{here-converts}
+use Rattle.table_chains.proofs.ChainWalks.{here-grants, here-converts}
 use Rattle.entry_holder.proofs.ExclusiveLock.{ex-locking}
 use Rattle.entry_holder.proofs.ex_lock.Statement.{statement}
 use Rattle.entry_holder.proofs.ex_lock.Tie as tie
@@ -6,7 +6,7 @@ use Rattle.entry_holder.proofs.ex_lock.Tie as tie
 ex-from-requires-2 : tie.Need-ex-from-requires-2
 ex-from-requires-2 c κs =
     let head = c .resource-word2 .ensures in
-    let some = c .before .before .before .before .before .pre in search here-converts
+    let some = c .before .before .before .before .before .pre in search (here-grants, here-converts)
 
 pub ex-lock-spec : {M : Type 1} → statement M
 ex-lock-spec =
