@@ -4,7 +4,7 @@ use mathlib.Core.List.{List}
 use Prim.Native.Nat.{ℕ, _+_, _*_, _-_, _<_, _≤_}
 use native.Mathlib.Omega.{arith}
 use borrow.Author.Needs.{needs}
-use lib.ListN.{length, getD}
+use lib.ListN.{getD}
 use Rattle.tables.specs.Layout.{size, header-width, resource-width, lock-width, of-lock, resources-in, locks-in, word-in}
 use Rattle.tables.proofs.Blocks.{length-map-from}
 use Rattle.rules.specs.Images.{word-from, image-size, image-words}
@@ -12,12 +12,8 @@ use Rattle.entry_image.proofs.ImageMeasure.{image-word}
 use Rattle.entry_holder.specs.Contracts.{HasAllWords}
 
 module _ (bs : List ℕ) (w : HasAllWords bs) where
-  module _ (i : ℕ) (h : i < image-size bs) where
-    pub word-inside : 4 * i + 4 ≤ length bs
-    word-inside = omega (arith, w .inside)
-
-    pub word-there : (x : ℕ) → x ≡ word-from bs (4 * i) → x ≡ getD (image-words bs) i 0
-    word-there x e = e ∙ sym (image-word bs i h)
+  pub word-there : (i x : ℕ) → i < image-size bs → x ≡ word-from bs (4 * i) → x ≡ getD (image-words bs) i 0
+  word-there i x h e = e ∙ sym (image-word bs i h)
 
   size-is : image-size bs ≡ size (resources-in (image-words bs)) (locks-in (image-words bs))
   unfolding image-words
@@ -33,4 +29,4 @@ module _ (bs : List ℕ) (w : HasAllWords bs) where
     pub lock-there : (x : ℕ) → x ≡ getD (image-words bs) (header-width + resource-width * n + lock-width * (k - 1) + f) 0 → x ≡ word-in (image-words bs) (of-lock k f)
     lock-there x e = e ∙ ap (λ (m : ℕ). getD (image-words bs) (header-width + resource-width * m + lock-width * (k - 1) + f) 0) (widened ∙ read)
 
-pub ruleset places = (needs, word-inside, word-there, resource-place, lock-place, lock-there)
+pub ruleset places = (needs, resource-place, lock-place)
