@@ -3,11 +3,9 @@ use mathlib.Core.Path.{_≡_, ap, _∙_}
 use mathlib.Core.Bool.{true}
 use mathlib.Core.List.{List}
 use Prim.Native.Nat.{ℕ, _≤_, _*_}
-use native.Mathlib.Omega.{arith}
 use borrow.Author.Tests.{eq-eqb}
 use borrow.Author.Needs.{needs}
 use lib.ListN.{length, take}
-use lib.Seq.{length-take-le}
 use Rattle.tables.specs.Layout.{size, slot-width}
 use Rattle.rules.specs.Entries.{Lent, lent, Outcome, outcome, start-accepts, start-if, start-entry}
 use Rattle.answers.specs.declared.Done.{Done}
@@ -15,9 +13,10 @@ use Rattle.answers.specs.Answers.{done}
 use Rattle.play_commands.specs.declared.Command.{Command}
 use Rattle.play_lines.specs.declared.Line.{Line}
 use Rattle.play_commands.specs.Forms.{meaning, name-start, Says}
-use Rattle.play_lines.specs.InputLines.{keeps, Room, meant-kept}
+use Rattle.play_lines.specs.InputLines.{keeps, meant-kept}
 use Rattle.play_calls.specs.Plays.{Played, played}
 use Rattle.play_session.specs.Sessions.{Lengths, fresh-tables, played-resources, played-locks}
+use Rattle.play_lines.proofs.FedBytes.{gathered-long}
 
 -- start accepts lockplay's sizes
 pub started-fresh : (ws ss ds es : List ℕ) (r : Done) → Lengths ws ss → outcome (done r) (lent ds es) ≡ start-entry (lent ws ss) played-resources played-locks → lent ds es ≡ fresh-tables
@@ -37,8 +36,5 @@ module _ (xs : List ℕ) (s : Line) {r : Command} where
 
   pub gathered-played : (t : Lent) {p : Played} → Says (take (s .len) xs) r (meant-kept (keeps xs s)) → p ≡ played (meaning (take (s .len) xs) r) t → p ≡ played (meant-kept (keeps xs s)) t
   gathered-played t w q = q ∙ ap (λ m. played m t) (w .means)
-
-pub gathered-long : (xs : List ℕ) (s : Line) → Room xs s → s .len ≡ length (take (s .len) xs)
-gathered-long xs s h = rw (length-take-le (s .len) xs (omega arith))
 
 pub ruleset gathered-rules = (needs, gathered-within, gathered-played, gathered-long)
