@@ -97,11 +97,16 @@ uninstall:
 	@rm -f '$(DESTDIR)$(INCLUDEDIR)/zamgyorud.h' '$(DESTDIR)$(LIBDIR)/libzamgyorud.a' '$(DESTDIR)$(PKGCONFIGDIR)/zamgyorud.pc' \
 	    '$(DESTDIR)$(LIBDIR)/libzamgyorud.so' '$(DESTDIR)$(LIBDIR)/libzamgyorud.so.$(MAJOR)' '$(DESTDIR)$(LIBDIR)/$(notdir $(SHARED))'
 
-# A C program that calls each function of the library. Its last line is 'capi: N checks passed'.
+# The header in C and C++, a C program that calls each function of the library, and one that measures each call's stack. The second prints
+# 'capi: N checks passed' and the third 'stack: N calls as told'.
 test-c: lib
 	@$(call want,$(CC))
-	@$(CC) -std=c11 -O2 -Wall -Wextra -Werror -pedantic -I target/lib tests/capi_test.c target/lib/libzamgyorud.a -o target/lib/capi_test
-	@target/lib/capi_test
+	@$(call want,$(CXX))
+	@CC='$(CC)' CXX='$(CXX)' sh tests/header.sh
+	@for program in capi_test stack_test; do \
+	    $(CC) -std=c11 -O2 -Wall -Wextra -Wconversion -Werror -pedantic -pthread -I target/lib tests/$$program.c target/lib/libzamgyorud.a \
+	        -o target/lib/$$program && target/lib/$$program || exit 1; \
+	done
 
 # The takeover example on images that the model makes.
 test-takeover: lib

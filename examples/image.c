@@ -18,25 +18,23 @@ enum { EXIT_REFUSED = 1, EXIT_USAGE = 2, EXIT_FILE = 3 };
 #define RESOURCES 4
 #define LOCKS 8
 
-static uint32_t words[ZAMGYORUD_WORDS(RESOURCES, LOCKS)];
-static uint8_t slots[ZAMGYORUD_SLOTS(RESOURCES)];
-static uint8_t image[ZAMGYORUD_IMAGE(RESOURCES, LOCKS)];
-#define TABLES words, sizeof words / sizeof *words, slots, sizeof slots
+static uint32_t memory[ZAMGYORUD_MEMORY_LEN(RESOURCES, LOCKS)];
+static uint8_t image[ZAMGYORUD_IMAGE_LEN(RESOURCES, LOCKS)];
 
 /* Ends the program if a call was refused. */
-static void accepted(uint64_t answer) {
-    if (ZAMGYORUD_REFUSED(answer)) {
-        fprintf(stderr, "image: refused with %lu\n", (unsigned long)ZAMGYORUD_REFUSAL(answer));
+static void accepted(struct zamgyorud_answer answer) {
+    if (zamgyorud_refusal(answer) != 0) {
+        fprintf(stderr, "image: refused with %lu\n", (unsigned long)zamgyorud_refusal(answer));
         exit(EXIT_REFUSED);
     }
 }
 
 /* Writes the image of the tables to a file. */
-static void write_image(const char *path) {
+static void write_image(const struct zamgyorud_tables *tables, const char *path) {
     FILE *file;
     size_t written;
 
-    accepted(zamgyorud_image(TABLES, image, sizeof image));
+    accepted(zamgyorud_tables_image(tables, image, sizeof image));
     file = fopen(path, "wb");
     if (file == NULL) {
         perror(path);
@@ -51,16 +49,17 @@ static void write_image(const char *path) {
 
 int main(int argc, char **argv) {
     const uint8_t name[] = {'v', 'i', 'p', '-', '7'};
+    const struct zamgyorud_tables tables = zamgyorud_tables_in(memory, sizeof memory / sizeof *memory, RESOURCES, LOCKS);
 
     if (argc != 3) {
         fputs("usage: image BEFORE AFTER\n", stderr);
         return EXIT_USAGE;
     }
-    accepted(zamgyorud_start(TABLES, RESOURCES, LOCKS));
-    accepted(zamgyorud_request(TABLES, 1, ZAMGYORUD_EX, 0, name, sizeof name));
-    accepted(zamgyorud_request(TABLES, 2, ZAMGYORUD_EX, 0, name, sizeof name));
-    write_image(argv[1]);
-    accepted(zamgyorud_purge(TABLES, 1));
-    write_image(argv[2]);
+    accepted(zamgyorud_tables_start(&tables, RESOURCES, LOCKS));
+    accepted(zamgyorud_tables_request(&tables, 1, ZAMGYORUD_MODE_EX, 0, name, sizeof name));
+    accepted(zamgyorud_tables_request(&tables, 2, ZAMGYORUD_MODE_EX, 0, name, sizeof name));
+    write_image(&tables, argv[1]);
+    accepted(zamgyorud_tables_purge(&tables, 1));
+    write_image(&tables, argv[2]);
     return EXIT_SUCCESS;
 }

@@ -18,7 +18,7 @@
 enum { EXIT_REFUSED = 1, EXIT_USAGE = 2, EXIT_FILE = 3 };
 
 /* The largest image there is. A byte more is room to see that a file is longer. */
-#define MOST_IMAGE ZAMGYORUD_IMAGE(ZAMGYORUD_MOST_RESOURCES, ZAMGYORUD_MOST_LOCKS)
+#define MOST_IMAGE ZAMGYORUD_IMAGE_LEN(ZAMGYORUD_MOST_RESOURCES, ZAMGYORUD_MOST_LOCKS)
 
 static uint8_t image[MOST_IMAGE + 1];
 
@@ -40,7 +40,7 @@ static uint32_t client_number(const char *word) {
         return 0;
     }
     number = strtoul(word, &end, 10);
-    return *end == '\0' && number <= 255 ? (uint32_t)number : 0;
+    return *end == '\0' && number <= ZAMGYORUD_MOST_CLIENT ? (uint32_t)number : 0;
 }
 
 /* Reads a whole file, or as much of it as an image can have and one byte more. 1 if it worked. */
@@ -65,9 +65,9 @@ static int read_image(const char *path, size_t *length) {
 /* A refusal of holder in words. */
 static const char *in_words(uint32_t refusal) {
     switch (refusal) {
-    case ZAMGYORUD_UNSOUND:
+    case ZAMGYORUD_REFUSAL_UNSOUND:
         return "the file is no image of sound tables";
-    case ZAMGYORUD_NAME:
+    case ZAMGYORUD_REFUSAL_NAME:
         return "an address has 1 to 64 bytes";
     default:
         return "a refusal that this program doesn't know";
@@ -76,18 +76,19 @@ static const char *in_words(uint32_t refusal) {
 
 /* Tells what this unit would do about an address. 1 if the question was answered. */
 static int tell(uint32_t unit, size_t length, const char *address) {
-    uint32_t answer = zamgyorud_holder(image, length, (const uint8_t *)address, strlen(address));
+    const struct zamgyorud_held held = zamgyorud_holder(image, length, (const uint8_t *)address, strlen(address));
+    const uint32_t holder = zamgyorud_holder_client(held);
 
-    if (answer > 256) {
-        printf("%s: refused, %s\n", address, in_words(answer - 256));
+    if (zamgyorud_holder_refusal(held) != 0) {
+        printf("%s: refused, %s\n", address, in_words(zamgyorud_holder_refusal(held)));
         return 0;
     }
-    if (answer == 0) {
+    if (holder == 0) {
         printf("%s: nobody holds it; unit %lu would take it over and announce it\n", address, (unsigned long)unit);
-    } else if (answer == unit) {
+    } else if (holder == unit) {
         printf("%s: unit %lu holds it itself and goes on announcing it\n", address, (unsigned long)unit);
     } else {
-        printf("%s: client %lu holds it; unit %lu would not announce it\n", address, (unsigned long)answer, (unsigned long)unit);
+        printf("%s: client %lu holds it; unit %lu would not announce it\n", address, (unsigned long)holder, (unsigned long)unit);
     }
     return 1;
 }

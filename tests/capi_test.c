@@ -9,15 +9,17 @@
 
 #define R 4
 #define L 8
-#define WORDS ZAMGYORUD_WORDS(R, L)
-#define SLOTS ZAMGYORUD_SLOTS(R)
-#define IMAGE ZAMGYORUD_IMAGE(R, L)
+#define WORDS ZAMGYORUD_WORDS_LEN(R, L)
+#define SLOTS ZAMGYORUD_SLOTS_LEN(R, L)
+#define IMAGE ZAMGYORUD_IMAGE_LEN(R, L)
+#define MEMORY ZAMGYORUD_MEMORY_LEN(R, L)
 
-#define REFUSED(n) ((UINT64_C(1) << 63) | (n))
-#define WITH_LOCK(answer, lock) (((uint64_t)(answer) << 32) | (lock))
-
+/* A number; bytes; an accepted answer, with all its bits; a refused one; holder's two answers. */
 #define IS(actual, expected) check(__LINE__, #actual, (actual), (expected))
 #define SAME(a, b, bytes) check(__LINE__, #a " as " #b, memcmp((a), (b), (bytes)) == 0, 1)
+#define GIVES(answer, result, lock) accepted(__LINE__, #answer, (answer), (result), (lock))
+#define REFUSES(answer, refusal) refused(__LINE__, #answer, (answer), (refusal))
+#define HOLDS(answer, refusal, client) holds(__LINE__, #answer, (answer), (refusal), (client))
 
 static unsigned passed;
 static unsigned failed;
@@ -32,58 +34,109 @@ static void check(int line, const char *what, uint64_t actual, uint64_t expected
     printf("capi: line %d: %s is %" PRIu64 ", not %" PRIu64 "\n", line, what, actual, expected);
 }
 
+static void accepted(int line, const char *what, struct zamgyorud_answer answer, uint32_t result, uint32_t lock)
+{
+    check(line, what, answer.bits, (uint64_t)lock << 16 | result);
+    check(line, what, zamgyorud_refusal(answer), 0);
+    check(line, what, zamgyorud_result(answer), result);
+    check(line, what, zamgyorud_lock(answer), lock);
+}
+
+static void refused(int line, const char *what, struct zamgyorud_answer answer, uint32_t refusal)
+{
+    check(line, what, answer.bits, UINT64_C(1) << 63 | refusal);
+    check(line, what, zamgyorud_refusal(answer), refusal);
+    check(line, what, zamgyorud_result(answer), 0);
+    check(line, what, zamgyorud_lock(answer), 0);
+}
+
+static void holds(int line, const char *what, struct zamgyorud_held held, uint32_t refusal, uint32_t client)
+{
+    check(line, what, held.bits, refusal != 0 ? 256 + refusal : client);
+    check(line, what, zamgyorud_holder_refusal(held), refusal);
+    check(line, what, zamgyorud_holder_client(held), client);
+}
+
 /* The lent tables, and a second pair to compare with or to load into. */
-static uint32_t words[WORDS];
-static uint8_t slots[SLOTS];
-static uint32_t other_words[WORDS];
-static uint8_t other_slots[SLOTS];
+static uint32_t memory[MEMORY];
+static uint32_t other_memory[MEMORY];
+static struct zamgyorud_tables tables;
+static struct zamgyorud_tables other;
 static uint8_t area[IMAGE];
 
 static void start_afresh(void)
 {
-    memset(words, 0xff, sizeof words);
-    memset(slots, 0xff, sizeof slots);
-    IS(zamgyorud_start(words, WORDS, slots, SLOTS, R, L), 0);
+    memset(memory, 0xff, sizeof memory);
+    GIVES(zamgyorud_tables_start(&tables, R, L), 0, 0);
 }
 
 static void keep(void)
 {
-    memcpy(other_words, words, sizeof words);
-    memcpy(other_slots, slots, sizeof slots);
+    memcpy(other_memory, memory, sizeof memory);
 }
 
 static void unchanged(void)
 {
-    SAME(words, other_words, sizeof words);
-    SAME(slots, other_slots, sizeof slots);
+    SAME(memory, other_memory, sizeof memory);
 }
 
-static uint64_t request(uint32_t client, uint32_t mode, uint32_t flags, const char *name)
+static struct zamgyorud_answer request(uint32_t client, uint32_t mode, uint32_t flags, const char *name)
 {
-    return zamgyorud_request(words, WORDS, slots, SLOTS, client, mode, flags, (const uint8_t *)name, strlen(name));
+    return zamgyorud_tables_request(&tables, client, mode, flags, (const uint8_t *)name, strlen(name));
 }
 
-static uint64_t convert(uint32_t client, uint32_t lock, uint32_t mode)
+static struct zamgyorud_answer convert(uint32_t client, uint32_t lock, uint32_t mode)
 {
-    return zamgyorud_convert(words, WORDS, slots, SLOTS, client, lock, mode, 0, NULL, 0);
+    return zamgyorud_tables_convert(&tables, client, lock, mode, 0, NULL, 0);
 }
 
-static uint64_t poll(uint32_t client)
+static struct zamgyorud_answer release(uint32_t client, uint32_t lock, uint32_t flags)
 {
-    return zamgyorud_poll(words, WORDS, slots, SLOTS, client);
+    return zamgyorud_tables_release(&tables, client, lock, flags, NULL, 0);
 }
 
-static uint64_t break_deadlock(void)
+/* Lengths, and tables in memory. Constants and functions say the same; where there are no tables, the functions say 0. */
+static void test_lengths(void)
 {
-    return zamgyorud_break(words, WORDS, slots, SLOTS);
+    static const uint32_t wrong[][2] = {{0, L}, {R, 0}, {257, L}, {R, 1025}, {UINT32_MAX, L}, {R, UINT32_MAX}, {0, 0}};
+    struct zamgyorud_tables none;
+
+    IS(WORDS, 112);
+    IS(SLOTS, 384);
+    IS(IMAGE, 832);
+    IS(MEMORY, 208);
+    IS(zamgyorud_words_len(R, L), WORDS);
+    IS(zamgyorud_slots_len(R, L), SLOTS);
+    IS(zamgyorud_image_len(R, L), IMAGE);
+    IS(zamgyorud_memory_len(R, L), MEMORY);
+    IS(zamgyorud_image_len(1, 1), 196);
+    IS(zamgyorud_image_len(ZAMGYORUD_MOST_RESOURCES, ZAMGYORUD_MOST_LOCKS), 69664);
+    for (size_t i = 0; i < sizeof wrong / sizeof *wrong; i++) {
+        IS(zamgyorud_words_len(wrong[i][0], wrong[i][1]), 0);
+        IS(zamgyorud_slots_len(wrong[i][0], wrong[i][1]), 0);
+        IS(zamgyorud_image_len(wrong[i][0], wrong[i][1]), 0);
+        IS(zamgyorud_memory_len(wrong[i][0], wrong[i][1]), 0);
+        none = zamgyorud_tables_in(memory, MEMORY, wrong[i][0], wrong[i][1]);
+        IS(none.words == NULL && none.words_len == 0 && none.slots == NULL && none.slots_len == 0, 1);
+    }
+    none = zamgyorud_tables_in(memory, MEMORY - 1, R, L);
+    IS(none.words == NULL && none.words_len == 0 && none.slots == NULL && none.slots_len == 0, 1);
+    REFUSES(zamgyorud_tables_start(&none, R, L), 2);
+    IS(zamgyorud_tables_sound(&none), 0);
+
+    /* the words, and right behind them the slots */
+    tables = zamgyorud_tables_in(memory, MEMORY, R, L);
+    other = zamgyorud_tables_in(other_memory, MEMORY + 1, R, L);
+    IS(tables.words == memory && tables.words_len == WORDS, 1);
+    IS(tables.slots == (uint8_t *)memory + 4 * WORDS && tables.slots_len == SLOTS, 1);
+    IS(other.words == other_memory && other.words_len == WORDS && other.slots_len == SLOTS, 1);
 }
 
 /* Started tables: all records free, chained upward. */
 static void test_start(void)
 {
     static const uint32_t header[8] = {R, L, 1, 1, 0, 0, 0, 0};
-    uint32_t expected[WORDS] = {0};
-    uint8_t zeros[SLOTS] = {0};
+    uint32_t expected[MEMORY] = {0};
 
     start_afresh();
     memcpy(expected, header, sizeof header);
@@ -91,46 +144,32 @@ static void test_start(void)
         expected[8 + 8 * (r - 1)] = r + 1;
     for (uint32_t k = 1; k < L; k++)
         expected[8 + 8 * R + 9 * (k - 1)] = k + 1;
-    SAME(words, expected, sizeof words);
-    SAME(slots, zeros, sizeof slots);
-    IS(zamgyorud_sound(words, WORDS, slots, SLOTS), 1);
+    SAME(memory, expected, sizeof memory);
+    IS(zamgyorud_tables_sound(&tables), 1);
 
     keep();
-    IS(zamgyorud_start(words, WORDS, slots, SLOTS, 0, L), REFUSED(2));
-    IS(zamgyorud_start(words, WORDS, slots, SLOTS, R, 1025), REFUSED(2));
-    IS(zamgyorud_start(words, WORDS - 1, slots, SLOTS, R, L), REFUSED(2));
-    IS(zamgyorud_start(words, WORDS, slots, SLOTS - 1, R, L), REFUSED(2));
+    REFUSES(zamgyorud_tables_start(&tables, 0, L), ZAMGYORUD_REFUSAL_SIZES);
+    REFUSES(zamgyorud_tables_start(&tables, R, 1025), 2);
+    REFUSES(zamgyorud_start(tables.words, WORDS - 1, tables.slots, SLOTS, R, L), 2);
+    REFUSES(zamgyorud_start(tables.words, WORDS, tables.slots, SLOTS - 1, R, L), 2);
     unchanged();
 }
 
-/* The lines that document 01 gives for lockplay, and the macros that take answers apart. */
+/* The lines that document 01 gives for lockplay. */
 static void test_takeover(void)
 {
-    uint64_t x;
-
     start_afresh();
-    x = request(1, ZAMGYORUD_EX, 0, "vip-7");
-    IS(x, WITH_LOCK(1, 1));
-    IS(ZAMGYORUD_REFUSED(x), 0);
-    IS(ZAMGYORUD_ANSWER(x), ZAMGYORUD_GRANTED);
-    IS(ZAMGYORUD_LOCK(x), 1);
-    x = request(2, ZAMGYORUD_EX, 0, "vip-7");
-    IS(ZAMGYORUD_ANSWER(x), ZAMGYORUD_WAITING);
-    IS(ZAMGYORUD_LOCK(x), 2);
+    GIVES(request(1, ZAMGYORUD_MODE_EX, 0, "vip-7"), ZAMGYORUD_RESULT_GRANTED, 1);
+    GIVES(request(2, ZAMGYORUD_MODE_EX, 0, "vip-7"), ZAMGYORUD_RESULT_WAITING, 2);
     keep();
-    x = request(2, ZAMGYORUD_EX, ZAMGYORUD_NO_QUEUE, "vip-7");
-    IS(ZAMGYORUD_REFUSED(x), 1);
-    IS(ZAMGYORUD_REFUSAL(x), ZAMGYORUD_BLOCKS);
-    IS(x, REFUSED(13));
+    REFUSES(request(2, ZAMGYORUD_MODE_EX, ZAMGYORUD_FLAG_NO_QUEUE, "vip-7"), ZAMGYORUD_REFUSAL_BLOCKS);
     unchanged();
-    IS(zamgyorud_purge(words, WORDS, slots, SLOTS, 1), 1);
-    x = poll(2);
-    IS(ZAMGYORUD_ANSWER(x), ZAMGYORUD_WAS_GRANTED);
-    IS(ZAMGYORUD_LOCK(x), 2);
-    IS(poll(2), 0);
+    GIVES(zamgyorud_tables_purge(&tables, 1), 1, 0);
+    GIVES(zamgyorud_tables_poll(&tables, 2), ZAMGYORUD_COMPLETION_GRANTED, 2);
+    GIVES(zamgyorud_tables_poll(&tables, 2), ZAMGYORUD_COMPLETION_NONE, 0);
 }
 
-/* What is turned down before anything else is looked at. */
+/* What is turned down before anything else is looked at, and tables that are full. */
 static void test_refusals(void)
 {
     char name[66];
@@ -139,168 +178,188 @@ static void test_refusals(void)
     keep();
     memset(name, 'n', sizeof name);
     name[65] = 0;
-    IS(request(0, ZAMGYORUD_NL, 0, "a"), REFUSED(3));
-    IS(request(256, ZAMGYORUD_NL, 0, "a"), REFUSED(3));
-    IS(request(1, 6, 0, "a"), REFUSED(4));
-    IS(request(1, ZAMGYORUD_EX, ZAMGYORUD_STORE_VALUE, "a"), REFUSED(5));
-    IS(request(1, ZAMGYORUD_EX, 0, ""), REFUSED(6));
-    IS(request(1, ZAMGYORUD_EX, 0, name), REFUSED(6));
-    IS(zamgyorud_purge(words, WORDS, slots, SLOTS, 0), REFUSED(3));
-    IS(poll(256), REFUSED(3));
+    REFUSES(request(0, ZAMGYORUD_MODE_NL, 0, "a"), ZAMGYORUD_REFUSAL_CLIENT);
+    REFUSES(request(256, ZAMGYORUD_MODE_NL, 0, "a"), 3);
+    REFUSES(request(1, 6, 0, "a"), ZAMGYORUD_REFUSAL_MODE);
+    REFUSES(request(1, ZAMGYORUD_MODE_EX, ZAMGYORUD_FLAG_STORE_VALUE, "a"), ZAMGYORUD_REFUSAL_FLAGS);
+    REFUSES(request(1, ZAMGYORUD_MODE_EX, 0, ""), ZAMGYORUD_REFUSAL_NAME);
+    REFUSES(request(1, ZAMGYORUD_MODE_EX, 0, name), 6);
+    REFUSES(zamgyorud_tables_purge(&tables, 0), 3);
+    REFUSES(zamgyorud_tables_poll(&tables, 256), 3);
     unchanged();
-    name[64] = 0;
-    IS(request(255, ZAMGYORUD_EX, 0, name), WITH_LOCK(1, 1));
+    name[ZAMGYORUD_NAME_BYTES] = 0;
+    GIVES(request(ZAMGYORUD_MOST_CLIENT, ZAMGYORUD_MODE_EX, 0, name), 1, 1);
+    GIVES(request(1, ZAMGYORUD_MODE_NL, 0, "b"), 1, 2);
+    GIVES(request(1, ZAMGYORUD_MODE_NL, 0, "c"), 1, 3);
+    GIVES(request(1, ZAMGYORUD_MODE_NL, 0, "d"), 1, 4);
+    REFUSES(request(1, ZAMGYORUD_MODE_NL, 0, "e"), ZAMGYORUD_REFUSAL_NO_RESOURCE);
+    for (uint32_t k = 5; k <= L; k++)
+        GIVES(request(1, ZAMGYORUD_MODE_NL, 0, "d"), 1, k);
+    REFUSES(request(1, ZAMGYORUD_MODE_NL, 0, "d"), ZAMGYORUD_REFUSAL_NO_LOCK);
 }
 
 /* Values, after test_takeover: client 2 holds EX on vip-7 with lock 2. */
 static void test_values(void)
 {
-    uint8_t stored[32], value[40], sevens[40];
+    uint8_t stored[ZAMGYORUD_VALUE_BYTES], value[40], sevens[40];
 
     memset(sevens, 7, sizeof sevens);
-    for (uint8_t i = 0; i < 32; i++)
+    for (uint8_t i = 0; i < sizeof stored; i++)
         stored[i] = (uint8_t)(200 + i);
     keep();
-    IS(zamgyorud_convert(words, WORDS, slots, SLOTS, 2, 2, ZAMGYORUD_PR, ZAMGYORUD_STORE_VALUE, stored, 31), REFUSED(7));
-    IS(zamgyorud_convert(words, WORDS, slots, SLOTS, 2, 2, ZAMGYORUD_PR, 3, stored, 32), REFUSED(5));
+    REFUSES(zamgyorud_tables_convert(&tables, 2, 2, ZAMGYORUD_MODE_PR, ZAMGYORUD_FLAG_STORE_VALUE, stored, 31), ZAMGYORUD_REFUSAL_VALUE);
+    REFUSES(zamgyorud_tables_convert(&tables, 2, 2, ZAMGYORUD_MODE_PR, 3, stored, 32), 5);
     unchanged();
-    IS(zamgyorud_convert(words, WORDS, slots, SLOTS, 2, 2, ZAMGYORUD_PR, ZAMGYORUD_STORE_VALUE, stored, 32), ZAMGYORUD_GRANTED);
+    GIVES(zamgyorud_tables_convert(&tables, 2, 2, ZAMGYORUD_MODE_PR, ZAMGYORUD_FLAG_STORE_VALUE, stored, 32), ZAMGYORUD_RESULT_GRANTED, 0);
 
     /* all of it, its first ten bytes, none of it, more room than it needs */
     memset(value, 7, sizeof value);
-    IS(zamgyorud_read(words, WORDS, slots, SLOTS, 2, 2, value, 32), 1);
+    GIVES(zamgyorud_tables_read(&tables, 2, 2, value, 32), 1, 0);
     SAME(value, stored, 32);
     IS(value[32], 7);
     memset(value, 7, sizeof value);
-    IS(zamgyorud_read(words, WORDS, slots, SLOTS, 2, 2, value, 10), 1);
+    GIVES(zamgyorud_tables_read(&tables, 2, 2, value, 10), 1, 0);
     SAME(value, stored, 10);
     IS(value[10], 7);
-    IS(zamgyorud_read(words, WORDS, slots, SLOTS, 2, 2, value, 0), 1);
-    IS(zamgyorud_read(words, WORDS, slots, SLOTS, 2, 2, NULL, 0), 1);
-    IS(zamgyorud_read(words, WORDS, slots, SLOTS, 2, 2, value, 40), 1);
+    GIVES(zamgyorud_tables_read(&tables, 2, 2, value, 0), 1, 0);
+    GIVES(zamgyorud_tables_read(&tables, 2, 2, NULL, 0), 1, 0);
+    GIVES(zamgyorud_tables_read(&tables, 2, 2, value, 40), 1, 0);
     SAME(value, stored, 32);
     IS(value[32], 7);
     IS(value[39], 7);
 
     /* another's lock: the area stays */
     memset(value, 7, sizeof value);
-    IS(zamgyorud_read(words, WORDS, slots, SLOTS, 3, 2, value, 32), REFUSED(8));
+    REFUSES(zamgyorud_tables_read(&tables, 3, 2, value, 32), ZAMGYORUD_REFUSAL_LOCK);
     SAME(value, sevens, sizeof value);
 
     /* the lock that the purge freed is taken first. EX goes with the other's NL; down to PW it makes the value not valid. */
-    IS(request(3, ZAMGYORUD_NL, 0, "vip-7"), WITH_LOCK(1, 1));
-    IS(convert(2, 2, ZAMGYORUD_EX), ZAMGYORUD_GRANTED);
-    IS(zamgyorud_convert(words, WORDS, slots, SLOTS, 2, 2, ZAMGYORUD_PW, ZAMGYORUD_INVALIDATE_VALUE, NULL, 0), ZAMGYORUD_GRANTED);
-    IS(zamgyorud_read(words, WORDS, slots, SLOTS, 3, 1, value, 32), 0);
+    GIVES(request(3, ZAMGYORUD_MODE_NL, 0, "vip-7"), 1, 1);
+    GIVES(convert(2, 2, ZAMGYORUD_MODE_EX), 1, 0);
+    GIVES(zamgyorud_tables_convert(&tables, 2, 2, ZAMGYORUD_MODE_PW, ZAMGYORUD_FLAG_INVALIDATE_VALUE, NULL, 0), 1, 0);
+    GIVES(zamgyorud_tables_read(&tables, 3, 1, value, 32), 0, 0);
     SAME(value, stored, 32);
 }
 
 /* A list, after test_values: PW and NL are held. CR goes with both; EX waits; NL to EX joins the convert queue. */
 static void test_list(void)
 {
-    static const struct zamgyorud_entry expected[4] = {{2, 2, ZAMGYORUD_STATE_GRANTED, ZAMGYORUD_PW, 0},
-                                                       {3, 4, ZAMGYORUD_STATE_GRANTED, ZAMGYORUD_CR, 0},
-                                                       {1, 3, ZAMGYORUD_STATE_CONVERTING, ZAMGYORUD_NL, ZAMGYORUD_EX},
-                                                       {4, 5, ZAMGYORUD_STATE_WAITING, 0, ZAMGYORUD_EX}};
+    static const struct zamgyorud_entry expected[4] = {
+        {2, 2, ZAMGYORUD_STATE_GRANTED, ZAMGYORUD_MODE_PW, 0},
+        {3, 4, ZAMGYORUD_STATE_GRANTED, ZAMGYORUD_MODE_CR, 0},
+        {1, 3, ZAMGYORUD_STATE_CONVERTING, ZAMGYORUD_MODE_NL, ZAMGYORUD_MODE_EX},
+        {4, 5, ZAMGYORUD_STATE_WAITING, 0, ZAMGYORUD_MODE_EX},
+    };
     struct zamgyorud_entry entries[5], sevens[5];
 
     IS(sizeof *entries, 20);
     memset(entries, 7, sizeof entries);
     memset(sevens, 7, sizeof sevens);
-    IS(request(4, ZAMGYORUD_CR, 0, "vip-7"), WITH_LOCK(1, 3));
-    IS(request(5, ZAMGYORUD_EX, 0, "vip-7"), WITH_LOCK(2, 4));
-    IS(convert(3, 1, ZAMGYORUD_EX), ZAMGYORUD_WAITING);
-    IS(zamgyorud_list(words, WORDS, slots, SLOTS, 2, 2, entries, 2), 4);
+    GIVES(request(4, ZAMGYORUD_MODE_CR, 0, "vip-7"), 1, 3);
+    GIVES(request(5, ZAMGYORUD_MODE_EX, 0, "vip-7"), 2, 4);
+    GIVES(convert(3, 1, ZAMGYORUD_MODE_EX), ZAMGYORUD_RESULT_WAITING, 0);
+    GIVES(zamgyorud_tables_list(&tables, 2, 2, entries, 2), 4, 0);
     SAME(entries, expected, 2 * sizeof *entries);
     SAME(entries + 2, sevens, 3 * sizeof *entries);
-    IS(zamgyorud_list(words, WORDS, slots, SLOTS, 3, 1, entries, 5), 4);
+    GIVES(zamgyorud_tables_list(&tables, 3, 1, entries, 5), 4, 0);
     SAME(entries, expected, sizeof expected);
     SAME(entries + 4, sevens, sizeof *entries);
-    IS(zamgyorud_list(words, WORDS, slots, SLOTS, 2, 2, NULL, 0), 4);
+    GIVES(zamgyorud_tables_list(&tables, 2, 2, NULL, 0), 4, 0);
     memcpy(entries, sevens, sizeof entries);
-    IS(zamgyorud_list(words, WORDS, slots, SLOTS, 5, 4, entries, 5), REFUSED(10));
-    IS(zamgyorud_list(words, WORDS, slots, SLOTS, 5, 2, entries, 5), REFUSED(8));
+    REFUSES(zamgyorud_tables_list(&tables, 5, 4, entries, 5), ZAMGYORUD_REFUSAL_STATE);
+    REFUSES(zamgyorud_tables_list(&tables, 5, 2, entries, 5), 8);
     SAME(entries, sevens, sizeof entries);
 }
 
 /* Cancels and releases, after test_list. */
 static void test_cancel_and_release(void)
 {
-    static const struct zamgyorud_entry expected[3] = {{2, 2, ZAMGYORUD_STATE_GRANTED, ZAMGYORUD_PW, 0},
-                                                       {3, 4, ZAMGYORUD_STATE_GRANTED, ZAMGYORUD_CR, 0},
-                                                       {1, 3, ZAMGYORUD_STATE_GRANTED, ZAMGYORUD_NL, 0}};
+    static const struct zamgyorud_entry expected[3] = {
+        {2, 2, ZAMGYORUD_STATE_GRANTED, ZAMGYORUD_MODE_PW, 0},
+        {3, 4, ZAMGYORUD_STATE_GRANTED, ZAMGYORUD_MODE_CR, 0},
+        {1, 3, ZAMGYORUD_STATE_GRANTED, ZAMGYORUD_MODE_NL, 0},
+    };
     struct zamgyorud_entry entries[3];
 
-    IS(zamgyorud_cancel(words, WORDS, slots, SLOTS, 2, 2), REFUSED(10));
-    IS(zamgyorud_cancel(words, WORDS, slots, SLOTS, 5, 4), ZAMGYORUD_REQUEST_CANCELLED);
-    IS(zamgyorud_cancel(words, WORDS, slots, SLOTS, 3, 1), ZAMGYORUD_CONVERSION_CANCELLED);
-    IS(zamgyorud_list(words, WORDS, slots, SLOTS, 4, 3, entries, 3), 3);
+    REFUSES(zamgyorud_tables_cancel(&tables, 2, 2), 10);
+    GIVES(zamgyorud_tables_cancel(&tables, 5, 4), ZAMGYORUD_CANCELLED_REQUEST, 0);
+    GIVES(zamgyorud_tables_cancel(&tables, 3, 1), ZAMGYORUD_CANCELLED_CONVERSION, 0);
+    GIVES(zamgyorud_tables_list(&tables, 4, 3, entries, 3), 3, 0);
     SAME(entries, expected, sizeof expected);
     keep();
-    IS(zamgyorud_release(words, WORDS, slots, SLOTS, 4, 3, ZAMGYORUD_NO_QUEUE, NULL, 0), REFUSED(5));
-    IS(zamgyorud_release(words, WORDS, slots, SLOTS, 4, 9, 0, NULL, 0), REFUSED(8));
+    REFUSES(release(4, 3, ZAMGYORUD_FLAG_NO_QUEUE), 5);
+    REFUSES(release(4, 9, 0), 8);
     unchanged();
-    IS(zamgyorud_release(words, WORDS, slots, SLOTS, 4, 3, 0, NULL, 0), 0);
-    IS(zamgyorud_release(words, WORDS, slots, SLOTS, 4, 3, 0, NULL, 0), REFUSED(8));
+    GIVES(release(4, 3, 0), 0, 0);
+    REFUSES(release(4, 3, 0), 8);
 }
 
 /* Images, after test_takeover: client 2 holds EX on vip-7. */
 static void test_images(void)
 {
     static const uint8_t front[12] = {R, 0, 0, 0, L, 0, 0, 0, 2, 0, 0, 0}; /* R, L, the first free resource */
+    static const uint8_t any[8] = {1, 2, 3, 0xf4, 5, 6, 7, 0xf8};
     const uint8_t *name = (const uint8_t *)"vip-7";
 
     memset(area, 9, sizeof area);
-    IS(zamgyorud_image(words, WORDS, slots, SLOTS, area, IMAGE - 1), REFUSED(14));
+    REFUSES(zamgyorud_tables_image(&tables, area, IMAGE - 1), ZAMGYORUD_REFUSAL_LENGTHS);
     IS(area[0], 9);
-    IS(zamgyorud_image(words, WORDS, slots, SLOTS, area, IMAGE), 0);
+    GIVES(zamgyorud_tables_image(&tables, area, IMAGE), 0, 0);
     SAME(area, front, sizeof front);
-    SAME(area + 4 * WORDS, slots, SLOTS);
+    SAME(area + 4 * WORDS, tables.slots, SLOTS);
 
-    IS(zamgyorud_holder(area, IMAGE, name, 5), 2);
-    IS(zamgyorud_holder(area, IMAGE, name, 4), 0);
-    IS(zamgyorud_holder(area, IMAGE, NULL, 0), 262);
-    IS(zamgyorud_holder(area, IMAGE - 1, name, 5), 257);
-    IS(zamgyorud_holder(NULL, 0, NULL, 0), 257);
+    HOLDS(zamgyorud_holder(area, IMAGE, name, 5), 0, 2);
+    HOLDS(zamgyorud_holder(area, IMAGE, name, 4), 0, 0);
+    HOLDS(zamgyorud_holder(area, IMAGE, NULL, 0), ZAMGYORUD_REFUSAL_NAME, UINT32_MAX);
+    HOLDS(zamgyorud_holder(area, IMAGE - 1, name, 5), ZAMGYORUD_REFUSAL_UNSOUND, UINT32_MAX);
+    HOLDS(zamgyorud_holder(NULL, 0, NULL, 0), 1, UINT32_MAX);
 
-    memset(other_words, 0xaa, sizeof other_words);
-    memset(other_slots, 0xaa, sizeof other_slots);
-    IS(zamgyorud_load(area, IMAGE, other_words, WORDS - 1, other_slots, SLOTS), REFUSED(14));
+    /* R and L, also of what is no image */
+    IS(zamgyorud_image_resources(area, IMAGE), R);
+    IS(zamgyorud_image_locks(area, IMAGE), L);
+    IS(zamgyorud_image_resources(any, 8), 0xf4030201);
+    IS(zamgyorud_image_locks(any, 8), 0xf8070605);
+    IS(zamgyorud_image_resources(area, 7), 0);
+    IS(zamgyorud_image_locks(area, 7), 0);
+    IS(zamgyorud_image_resources(NULL, 0), 0);
+    IS(zamgyorud_image_locks(NULL, 0), 0);
+
+    memset(other_memory, 0xaa, sizeof other_memory);
+    REFUSES(zamgyorud_load(area, IMAGE, other.words, WORDS - 1, other.slots, SLOTS), 14);
     area[28] = 1; /* the word of the header that is zero */
-    IS(zamgyorud_load(area, IMAGE, other_words, WORDS, other_slots, SLOTS), REFUSED(1));
-    IS(other_words[0], 0xaaaaaaaa);
-    IS(other_slots[0], 0xaa);
+    REFUSES(zamgyorud_tables_load(&other, area, IMAGE), 1);
+    IS(other.words[0], 0xaaaaaaaa);
+    IS(other.slots[0], 0xaa);
     area[28] = 0;
-    IS(zamgyorud_load(area, IMAGE, other_words, WORDS, other_slots, SLOTS), 0);
-    SAME(words, other_words, sizeof words);
-    SAME(slots, other_slots, sizeof slots);
+    GIVES(zamgyorud_tables_load(&other, area, IMAGE), 0, 0);
+    SAME(memory, other_memory, sizeof memory);
 }
 
 /* "1 holds A, 2 holds B (EX), 1 requests B, 2 requests A: break answers 3, then 0." Then a deadlock of two conversions. */
 static void test_deadlocks(void)
 {
     start_afresh();
-    IS(break_deadlock(), 0);
-    IS(request(1, ZAMGYORUD_EX, 0, "A"), WITH_LOCK(1, 1));
-    IS(request(2, ZAMGYORUD_EX, 0, "B"), WITH_LOCK(1, 2));
-    IS(request(1, ZAMGYORUD_EX, 0, "B"), WITH_LOCK(2, 3));
-    IS(request(2, ZAMGYORUD_EX, 0, "A"), WITH_LOCK(2, 4));
-    IS(break_deadlock(), 3);
-    IS(zamgyorud_cancel(words, WORDS, slots, SLOTS, 1, 3), REFUSED(9));
-    IS(poll(1), WITH_LOCK(ZAMGYORUD_REQUEST_DENIED, 3));
-    IS(poll(1), 0);
-    IS(break_deadlock(), 0);
+    GIVES(zamgyorud_tables_break(&tables), 0, 0);
+    GIVES(request(1, ZAMGYORUD_MODE_EX, 0, "A"), 1, 1);
+    GIVES(request(2, ZAMGYORUD_MODE_EX, 0, "B"), 1, 2);
+    GIVES(request(1, ZAMGYORUD_MODE_EX, 0, "B"), 2, 3);
+    GIVES(request(2, ZAMGYORUD_MODE_EX, 0, "A"), 2, 4);
+    GIVES(zamgyorud_tables_break(&tables), 3, 3);
+    REFUSES(zamgyorud_tables_cancel(&tables, 1, 3), ZAMGYORUD_REFUSAL_UNREAD);
+    GIVES(zamgyorud_tables_poll(&tables, 1), ZAMGYORUD_COMPLETION_REQUEST_DENIED, 3);
+    GIVES(zamgyorud_tables_poll(&tables, 1), 0, 0);
+    GIVES(zamgyorud_tables_break(&tables), 0, 0);
 
     start_afresh();
-    IS(request(1, ZAMGYORUD_PR, 0, "A"), WITH_LOCK(1, 1));
-    IS(request(2, ZAMGYORUD_PR, 0, "A"), WITH_LOCK(1, 2));
-    IS(convert(1, 1, ZAMGYORUD_EX), ZAMGYORUD_WAITING);
-    IS(convert(2, 2, ZAMGYORUD_EX), ZAMGYORUD_WAITING);
-    IS(break_deadlock(), 1);
-    IS(poll(2), 0);
-    IS(poll(1), WITH_LOCK(ZAMGYORUD_CONVERSION_DENIED, 1));
-    IS(zamgyorud_release(words, WORDS, slots, SLOTS, 1, 1, 0, NULL, 0), 0);
-    IS(poll(2), WITH_LOCK(ZAMGYORUD_WAS_GRANTED, 2));
+    GIVES(request(1, ZAMGYORUD_MODE_PR, 0, "A"), 1, 1);
+    GIVES(request(2, ZAMGYORUD_MODE_PR, 0, "A"), 1, 2);
+    GIVES(convert(1, 1, ZAMGYORUD_MODE_EX), 2, 0);
+    GIVES(convert(2, 2, ZAMGYORUD_MODE_EX), 2, 0);
+    GIVES(zamgyorud_tables_break(&tables), 1, 1);
+    GIVES(zamgyorud_tables_poll(&tables, 2), 0, 0);
+    GIVES(zamgyorud_tables_poll(&tables, 1), ZAMGYORUD_COMPLETION_CONVERSION_DENIED, 1);
+    GIVES(release(1, 1, 0), 0, 0);
+    GIVES(zamgyorud_tables_poll(&tables, 2), ZAMGYORUD_COMPLETION_GRANTED, 2);
 }
 
 /* Tables that aren't sound: each call but start and load is refused with 1, and nothing changes. */
@@ -310,29 +369,29 @@ static void test_unsound(void)
     struct zamgyorud_entry entries[1] = {{7, 7, 7, 7, 7}};
 
     start_afresh();
-    IS(request(1, ZAMGYORUD_EX, 0, "A"), WITH_LOCK(1, 1));
-    words[7] = 1;
+    GIVES(request(1, ZAMGYORUD_MODE_EX, 0, "A"), 1, 1);
+    tables.words[7] = 1;
     keep();
     memset(value, 7, sizeof value);
     memset(area, 9, sizeof area);
-    IS(zamgyorud_sound(words, WORDS, slots, SLOTS), 0);
-    IS(request(2, ZAMGYORUD_NL, 0, "A"), REFUSED(1));
-    IS(convert(1, 1, ZAMGYORUD_NL), REFUSED(1));
-    IS(zamgyorud_release(words, WORDS, slots, SLOTS, 1, 1, 0, NULL, 0), REFUSED(1));
-    IS(zamgyorud_cancel(words, WORDS, slots, SLOTS, 1, 1), REFUSED(1));
-    IS(zamgyorud_purge(words, WORDS, slots, SLOTS, 1), REFUSED(1));
-    IS(break_deadlock(), REFUSED(1));
-    IS(poll(1), REFUSED(1));
-    IS(zamgyorud_read(words, WORDS, slots, SLOTS, 1, 1, value, 32), REFUSED(1));
+    IS(zamgyorud_tables_sound(&tables), 0);
+    REFUSES(request(2, ZAMGYORUD_MODE_NL, 0, "A"), 1);
+    REFUSES(convert(1, 1, ZAMGYORUD_MODE_NL), 1);
+    REFUSES(release(1, 1, 0), 1);
+    REFUSES(zamgyorud_tables_cancel(&tables, 1, 1), 1);
+    REFUSES(zamgyorud_tables_purge(&tables, 1), 1);
+    REFUSES(zamgyorud_tables_break(&tables), 1);
+    REFUSES(zamgyorud_tables_poll(&tables, 1), 1);
+    REFUSES(zamgyorud_tables_read(&tables, 1, 1, value, 32), 1);
     IS(value[0], 7);
-    IS(zamgyorud_list(words, WORDS, slots, SLOTS, 1, 1, entries, 1), REFUSED(1));
+    REFUSES(zamgyorud_tables_list(&tables, 1, 1, entries, 1), 1);
     IS(entries[0].number, 7);
-    IS(zamgyorud_image(words, WORDS, slots, SLOTS, area, IMAGE), REFUSED(1));
+    REFUSES(zamgyorud_tables_image(&tables, area, IMAGE), 1);
     IS(area[0], 9);
     unchanged();
-    words[7] = 0;
-    IS(zamgyorud_sound(words, WORDS, slots, SLOTS), 1);
-    IS(zamgyorud_sound(words, WORDS, slots, SLOTS - 1), 0);
+    tables.words[7] = 0;
+    IS(zamgyorud_tables_sound(&tables), 1);
+    IS(zamgyorud_sound(tables.words, WORDS, tables.slots, SLOTS - 1), 0);
 }
 
 /* Null pointers of length 0. */
@@ -340,18 +399,19 @@ static void test_nothing_lent(void)
 {
     start_afresh();
     keep();
-    IS(zamgyorud_start(NULL, 0, NULL, 0, 1, 1), REFUSED(2));
+    REFUSES(zamgyorud_start(NULL, 0, NULL, 0, 1, 1), 2);
     IS(zamgyorud_sound(NULL, 0, NULL, 0), 0);
-    IS(zamgyorud_request(NULL, 0, NULL, 0, 1, ZAMGYORUD_NL, 0, NULL, 0), REFUSED(1));
-    IS(zamgyorud_request(words, WORDS, slots, SLOTS, 1, ZAMGYORUD_NL, 0, NULL, 0), REFUSED(6));
-    IS(zamgyorud_break(NULL, 0, NULL, 0), REFUSED(1));
-    IS(zamgyorud_image(NULL, 0, NULL, 0, NULL, 0), REFUSED(1));
-    IS(zamgyorud_load(NULL, 0, words, WORDS, slots, SLOTS), REFUSED(1));
+    REFUSES(zamgyorud_request(NULL, 0, NULL, 0, 1, ZAMGYORUD_MODE_NL, 0, NULL, 0), 1);
+    REFUSES(zamgyorud_tables_request(&tables, 1, ZAMGYORUD_MODE_NL, 0, NULL, 0), 6);
+    REFUSES(zamgyorud_break(NULL, 0, NULL, 0), 1);
+    REFUSES(zamgyorud_image(NULL, 0, NULL, 0, NULL, 0), 1);
+    REFUSES(zamgyorud_tables_load(&tables, NULL, 0), 1);
     unchanged();
 }
 
 int main(void)
 {
+    test_lengths();
     test_start();
     test_refusals();
     test_takeover();

@@ -41,10 +41,11 @@ vip-10: nobody holds it; unit 2 would take it over and announce it' 2 "$work/pai
 expect 'a lost unit' 0 'vip-7: unit 2 holds it itself and goes on announcing it' 2 "$work/lost" vip-7
 expect 'no locks' 0 'vip-7: nobody holds it; unit 1 would take it over and announce it' 1 "$work/empty" vip-7
 expect 'an unsound image' 1 'vip-7: refused, the file is no image of sound tables' 1 "$work/unsound" vip-7
-long=$(printf '%065d' 0)
-expect 'a long name' 1 "$long: refused, an address has 1 to 64 bytes
+most=$(sed -n 's/^#define ZAMGYORUD_NAME_BYTES //p' "$here/../include/zamgyorud.h")
+long=$(printf "%0$((most + 1))d" 0)
+expect 'a long name' 1 "$long: refused, an address has 1 to $most bytes
 vip-7: client 1 holds it; unit 2 would not announce it" 2 "$work/pair" "$long" vip-7
-expect 'an empty name' 1 ': refused, an address has 1 to 64 bytes' 2 "$work/pair" ''
+expect 'an empty name' 1 ": refused, an address has 1 to $most bytes" 2 "$work/pair" ''
 : > "$work/nothing"
 expect 'an empty file' 1 'vip-7: refused, the file is no image of sound tables' 1 "$work/nothing" vip-7
 head -c 200000 /dev/zero > "$work/long"

@@ -1,7 +1,8 @@
 -- What a call says, in document 01's numbers, for each case of each answer.
 use Prim.Native.Nat.{ℕ, zero, suc, _^_}
 use Rattle.tables.specs.State.{completion-none, completion-granted, completion-denied, completion-conversion-denied}
-use Rattle.rules.specs.Calls.{Said, accepted, refused}
+use Rattle.rules.specs.declared.Said.{Said}
+use Rattle.rules.specs.Calls.{accepted, refused}
 use Rattle.answers.specs.declared.Done.{Done}
 use Rattle.answers.specs.declared.Requested.{Requested}
 use Rattle.answers.specs.declared.Converted.{Converted}
@@ -63,10 +64,10 @@ abbrev pub purged : Purged → Said
 purged (purged-cases.Freed n) = accepted n 0
 purged (purged-cases.Refused n) = refused-with n
 
--- "is denied and its number answered; 0 if there is none". Locks are numbered from 1.
+-- "is denied and its number answered; 0 if there is none". Locks are numbered from 1; the denied one is also given as the lock.
 abbrev pub denial : ℕ → Said
 denial zero = never
-denial (suc k) = accepted (suc k) 0
+denial (suc k) = accepted (suc k) (suc k)
 
 abbrev pub broken : Broken → Said
 broken (broken-cases.Denied k) = denial k

@@ -1,9 +1,46 @@
-// What the calls answer. specs/Answers.antt gives document 01's numbers for each case.
+// What the calls answer, and what each answer says: document 01's numbers, as specs/Answers.antt gives them.
+use rules::Said;
+ghost use Rattle.rules.specs.Calls.{accepted};
+ghost use Rattle.answers.specs.Answers.{«refused-with», done, released, requested, converted, cancelled, purged, broken, polled, «list-said»};
+ghost use Rattle.answers.specs.Contracts.{Says};
+
+fn accepted(answer: u32, number: u32) -> Said
+    ensures { λ s. ⌜ Says (accepted answer number) s ⌝ }
+{
+    Said {
+        refusal: 0,
+        answer,
+        number,
+        extra: 0,
+    }
+}
+
+fn refused(refusal: u32) -> Said
+    ensures { λ s. ⌜ Says (refused-with refusal) s ⌝ }
+{
+    Said {
+        refusal,
+        answer: 0,
+        number: 0,
+        extra: 0,
+    }
+}
 
 // Start, image and load: done, or refused.
 pub enum Done {
     Accepted,
     Refused(u32),
+}
+
+impl Done {
+    pub fn said(self) -> Said
+        ensures { λ s. ⌜ Says (done self) s ⌝ }
+    {
+        match self {
+            Done::Accepted => accepted(0, 0),
+            Done::Refused(n) => refused(n),
+        }
+    }
 }
 
 // A request: its lock is granted, or waits.
@@ -13,6 +50,18 @@ pub enum Requested {
     Refused(u32),
 }
 
+impl Requested {
+    pub fn said(self) -> Said
+        ensures { λ s. ⌜ Says (requested self) s ⌝ }
+    {
+        match self {
+            Requested::Granted(k) => accepted(1, k),
+            Requested::Waiting(k) => accepted(2, k),
+            Requested::Refused(n) => refused(n),
+        }
+    }
+}
+
 // A conversion: granted in place, or on the convert queue.
 pub enum Converted {
     Granted,
@@ -20,10 +69,33 @@ pub enum Converted {
     Refused(u32),
 }
 
+impl Converted {
+    pub fn said(self) -> Said
+        ensures { λ s. ⌜ Says (converted self) s ⌝ }
+    {
+        match self {
+            Converted::Granted => accepted(1, 0),
+            Converted::Waiting => accepted(2, 0),
+            Converted::Refused(n) => refused(n),
+        }
+    }
+}
+
 // A release: the lock was freed.
 pub enum Released {
     Freed,
     Refused(u32),
+}
+
+impl Released {
+    pub fn said(self) -> Said
+        ensures { λ s. ⌜ Says (released self) s ⌝ }
+    {
+        match self {
+            Released::Freed => accepted(0, 0),
+            Released::Refused(n) => refused(n),
+        }
+    }
 }
 
 // A cancel: the conversion was taken back, or the request.
@@ -33,10 +105,33 @@ pub enum Cancelled {
     Refused(u32),
 }
 
+impl Cancelled {
+    pub fn said(self) -> Said
+        ensures { λ s. ⌜ Says (cancelled self) s ⌝ }
+    {
+        match self {
+            Cancelled::Conversion => accepted(1, 0),
+            Cancelled::Request => accepted(2, 0),
+            Cancelled::Refused(n) => refused(n),
+        }
+    }
+}
+
 // A purge: how many locks it freed.
 pub enum Purged {
     Freed(u32),
     Refused(u32),
+}
+
+impl Purged {
+    pub fn said(self) -> Said
+        ensures { λ s. ⌜ Says (purged self) s ⌝ }
+    {
+        match self {
+            Purged::Freed(n) => accepted(n, 0),
+            Purged::Refused(n) => refused(n),
+        }
+    }
 }
 
 // A break: the lock that was denied, if there was a deadlock.
@@ -44,6 +139,18 @@ pub enum Broken {
     Denied(u32),
     NoDeadlock,
     Refused(u32),
+}
+
+impl Broken {
+    pub fn said(self) -> Said
+        ensures { λ s. ⌜ Says (broken self) s ⌝ }
+    {
+        match self {
+            Broken::Denied(k) => accepted(k, k),
+            Broken::NoDeadlock => accepted(0, 0),
+            Broken::Refused(n) => refused(n),
+        }
+    }
 }
 
 // A poll: the client's first notice, if there was one.
@@ -55,8 +162,33 @@ pub enum Polled {
     Refused(u32),
 }
 
+impl Polled {
+    pub fn said(self) -> Said
+        ensures { λ s. ⌜ Says (polled self) s ⌝ }
+    {
+        match self {
+            Polled::Granted(k) => accepted(1, k),
+            Polled::RequestDenied(k) => accepted(2, k),
+            Polled::ConversionDenied(k) => accepted(3, k),
+            Polled::NoNotice => accepted(0, 0),
+            Polled::Refused(n) => refused(n),
+        }
+    }
+}
+
 // A list: how many locks stand on the resource.
 pub enum Listed {
     Count(u32),
     Refused(u32),
+}
+
+impl Listed {
+    pub fn said(self) -> Said
+        ensures { λ s. ⌜ Says (list-said self) s ⌝ }
+    {
+        match self {
+            Listed::Count(n) => accepted(n, 0),
+            Listed::Refused(n) => refused(n),
+        }
+    }
 }

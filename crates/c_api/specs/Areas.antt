@@ -2,10 +2,10 @@
 use mathlib.Core.List.{List, _++_}
 use Prim.Native.Nat.{ℕ, zero, suc}
 use lib.ListN.{length, take, drop}
+use Rattle.rules.specs.declared.Said.{Said}
 use Rattle.rules.specs.Entries.{Reading}
 use Rattle.rules.specs.Images.{Imaged}
-use Rattle.rules.specs.Calls.{Said}
-use Rattle.c_answers.specs.PackedAnswers.{refusal-or-answer}
+use Rattle.rules.specs.Numbers.{reading-said, imaged-said}
 
 -- an answer, and what the area that C lent then holds
 pub record Filled : Type 0 where
@@ -25,8 +25,8 @@ value-in zero value area = in-front value area
 value-in (suc n) value area = area
 
 unfoldable pub value-filled : Reading → List ℕ → Filled
-value-filled x area = filled (refusal-or-answer (x .refusal) (x .valid)) (value-in (x .refusal) (x .value) area)
+value-filled x area = filled (reading-said x) (value-in (x .refusal) (x .value) area)
 
 -- IMAGE "answers 0"
 unfoldable pub image-filled : Imaged → Filled
-image-filled x = filled (refusal-or-answer (x .refusal) 0) (x .area)
+image-filled x = filled (imaged-said x) (x .area)

@@ -1,5 +1,5 @@
 -- Whose lock a number is, from the words of a state.
-use mathlib.Core.Path.{_≡_, refl, _∙_, ap}
+use mathlib.Core.Path.{_≡_, refl, _∙_}
 use mathlib.Core.Bool.{false, _&&_, not}
 use mathlib.Core.List.{List}
 use Prim.Native.Nat.{ℕ, zero, suc, _≤_, _<_}
@@ -14,22 +14,19 @@ use Rattle.tables.specs.State.{lock}
 use Rattle.tables.specs.Layout.{locks-in, read-lock}
 use Rattle.tables.proofs.Counts.{le-within}
 use Rattle.tables.specs.Validity.{Core}
-use Rattle.tables.proofs.ReadBack.{lock-read}
 use Rattle.rules.specs.Calls.{own}
-use Rattle.table_fields.specs.Sizes.{Sized}
+use Rattle.table_fields.proofs.StateWords.{locks-is, lock-record}
+use Rattle.table_chains.proofs.ChainWalks.{some-sized}
 use Rattle.table_chains.specs.Contracts.{Some, Tells}
-use Rattle.table_chains.proofs.ChainCells.{locks-is, sized-is}
+use Rattle.table_chains.proofs.ChainWalks.{some-sized}
 
 outside : (n k : ℕ) → n < k → within n k ≡ false
 outside n zero h = refl
 outside n (suc k) h = le-ltb k n (omega arith)
 
 module _ (ws : List ℕ) where
-  pub core-sized : Some Core ws → Sized ws
-  core-sized s = sized-is (s .state) ws (s .is) (s .good .resources-high) (s .good .locks-high)
-
   pub second-word : Some Core ws → 1 < length ws
-  second-word s = omega (arith, core-sized s .long)
+  second-word s = omega (arith, some-sized s .long)
 
   module _ (c k : ℕ) where
     pub own-range : (k ≡ 0 → ⊥) → k ≤ getD ws 1 0 → (1 ≤ k) × (k ≤ locks-in ws)
@@ -50,8 +47,8 @@ module _ (ws : List ℕ) where
           then = λ t core is.
               let high : k ≤ length (t .locks) = omega (arith, locks-is t ws is) in
               let low : 1 ≤ k = omega arith in
-              let same : l ≡ lock t k = e ∙ ap (λ (v : List ℕ). read-lock v k) is ∙ lock-read t k low high in
+              let same : l ≡ lock t k = e ∙ lock-record t ws is k low high in
               rw (le-within (length (t .locks)) k low high, same);
         }
 
-pub ruleset owning = (needs, core-sized, second-word, own-range, own-none, own-high, own-is)
+pub ruleset owning = (needs, some-sized, second-word, own-range, own-none, own-high, own-is)

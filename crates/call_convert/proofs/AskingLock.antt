@@ -9,7 +9,7 @@ use borrow.Author.Tests.{eqb-true}
 use Rattle.tables.specs.Lists.{within}
 use Rattle.tables.specs.State.{Tables, lock, resource, move}
 use Rattle.tables.proofs.Counts.{within-le}
-use Rattle.tables.specs.Validity.{used, Place}
+use Rattle.tables.specs.Validity.{used, Place, as-granted, as-converting}
 use Rattle.tables.proofs.Valid.{ok-at, used-within, resources-length, core-move}
 use Rattle.tables.proofs.ChainMembers.{state-within}
 use Rattle.rules.proofs.CallsKeepSound.{convert-fits}
@@ -39,10 +39,10 @@ asking-movable k m t p =
       in-range = held-within k t (p .held);
       near-old = λ z. refl;
       near-new = λ z. refl;
-      ok = record {
+      ok = as-converting refl (record {
         place = record { in-use = o .in-use; client-low = o .client-low; client-high = o .client-high; held-mode = o .held-mode; asked-mode = p .mode };
         notice = refl;
-      };
+      });
     }
 
 -- in place, after the value has been left or not
@@ -63,12 +63,12 @@ module _ (k m f : ℕ) (v : List ℕ) (t : Tables) (p : ConvertsInPlace k m f v 
           in-range = rw (quiet .locks-are) (held-within k t (p .asks .held));
           near-old = λ z. rw (quiet .lock-is k);
           near-new = λ z. refl;
-          ok = record {
+          ok = as-granted refl (record {
             place = record { in-use = rw (quiet .used-is (lock t k .resource)) (o .in-use); client-low = o .client-low; client-high = o .client-high; held-mode = p .asks .mode; asked-mode = omega arith };
             asks = refl;
             notice = omega arith;
             not-denied = omega arith;
-          };
+          });
         }
 
     pub placed-resourced : Resourced (lock t k .resource) (move (lock t k .resource) k (held-at m (lock t k)) (leave-value b f v (lock t k .resource) t))

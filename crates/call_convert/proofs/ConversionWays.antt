@@ -2,13 +2,12 @@
 use mathlib.Core.Path.{_≡_, sym, _∙_, refl}
 use mathlib.Core.Bool.{Bool, true, false}
 use mathlib.Core.List.{List}
-use Prim.Native.Nat.{ℕ, _<_}
-use native.Mathlib.Omega.{arith}
+use Prim.Native.Nat.{ℕ}
 use borrow.Author.Needs.{needs}
 use Rattle.tables.specs.State.{Tables, lock}
 use Rattle.tables.specs.Layout.{words}
 use Rattle.tables.proofs.SlotChanges.{slots-move}
-use Rattle.rules.specs.Calls.{asking, in-place, convert-change}
+use Rattle.rules.specs.Calls.{no-queue, asking, in-place, convert-change}
 use Rattle.rules.specs.Accepted.{Convertible}
 use Rattle.table_chains.specs.Contracts.{Some, Turns, Tells, Changes}
 use Rattle.queues.specs.Contracts.{SomeTables}
@@ -17,29 +16,37 @@ use Rattle.answers.specs.declared.Converted.the-variants.{Granted, Waiting}
 use Rattle.answers.specs.Answers.{converted}
 use Rattle.answers.specs.Contracts.{Makes}
 use Rattle.queues.specs.Contracts.{GrantedLock}
-use Rattle.call_convert.specs.Contracts.{lowers, granted-in-place, on-convert-queue, Asks, ConvertsInPlace}
+use Rattle.call_convert.specs.Contracts.{lowers, granted-in-place, on-convert-queue, Asks, AsksWith, ConvertsInPlace}
 
+-- taken_in_place
+module _ (k m f : ℕ) (a : List ℕ) where
+  pub asks-unqueued : (q : Bool) → q ≡ no-queue f → q ≡ true → Tells (AsksWith k m f) (in-place k m) a true
+  asks-unqueued q e h = record { then = λ t p is. sym (p .unqueued (sym e ∙ h)) }
+
+  pub asks-told : (x : Bool) → Tells (GrantedLock k) (in-place k m) a x → Tells (AsksWith k m f) (in-place k m) a x
+  asks-told x told = record { then = λ t p is. told .then t (p .asks .held) is }
+
+pub ruleset unqueued-laws = (needs, asks-unqueued, asks-told)
+
+-- convert_change
 module _ (k m f : ℕ) (v a sa : List ℕ) where
   module _ (t : Tables) (p : Convertible k m f v t) where
-    held-at-all : GrantedLock k t
-    held-at-all = record { core = p .valid .core; is-granted = p .is-granted }
-
     asks-it : Asks k m t
-    asks-it = record { held = held-at-all; mode = p .mode }
+    asks-it = record { held = record { core = p .valid .core; is-granted = p .is-granted }; mode = p .mode }
+
+    asks-with : AsksWith k m f t
+    asks-with = record { asks = asks-it; unqueued = p .unqueued }
 
   module _ (s : SomeTables (Convertible k m f v) a sa) where
-    pub convert-held : Some (GrantedLock k) a
-    convert-held = record { state = s .state; good = held-at-all (s .state) (s .good); is = s .is }
-
-    pub convert-mode : m < 6
-    convert-mode = omega (arith, s .good .mode)
+    pub convert-asks-with : Some (AsksWith k m f) a
+    convert-asks-with = record { state = s .state; good = asks-with (s .state) (s .good); is = s .is }
 
     pub convert-asks : Some (Asks k m) a
     convert-asks = record { state = s .state; good = asks-it (s .state) (s .good); is = s .is }
 
-  module _ (x : Bool) (told : Tells (GrantedLock k) (in-place k m) a x) where
+  module _ (x : Bool) (told : Tells (AsksWith k m f) (in-place k m) a x) where
     told-at : (t : Tables) → Convertible k m f v t → a ≡ words t → in-place k m t ≡ x
-    told-at t p is = sym (told .then t (held-at-all t p) is)
+    told-at t p is = sym (told .then t (asks-with t p) is)
 
     module _ (q : x ≡ true) where
       placed-at : (t : Tables) → Convertible k m f v t → a ≡ words t → ConvertsInPlace k m f v t
@@ -64,4 +71,4 @@ module _ (k m f : ℕ) (v a sa : List ℕ) where
           (stepped _ 2 0 (on-convert-queue k m t) b sa refl (h .then t (asks-it t p) is) (iss ∙ sym (slots-move (lock t k .resource) k (asking m (lock t k)) t)));
     }
 
-pub ruleset convert-laws = (needs, convert-held, convert-mode, convert-asks, convert-placed, convert-granted, convert-waits)
+pub ruleset convert-laws = (needs, convert-asks-with, convert-asks, convert-placed, convert-granted, convert-waits)

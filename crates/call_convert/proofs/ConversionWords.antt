@@ -12,8 +12,8 @@ use Rattle.tables.proofs.SlotChanges.{slots-move}
 use Rattle.rules.specs.Queues.{sweep}
 use Rattle.rules.specs.Calls.{leave-value, held-at, asking}
 use Rattle.table_fields.specs.Sizes.{Sized}
+use Rattle.table_fields.proofs.StateWords.{locks-is, core-sized}
 use Rattle.table_chains.specs.Contracts.{Some, Turns, Changes, Movable, Moving, Moved, Resourced}
-use Rattle.table_chains.proofs.ChainCells.{locks-is, sized-is}
 use Rattle.queues.specs.Contracts.{SomeTables, Valued}
 use Rattle.queues.proofs.ResourceRecord.{slots-sweep}
 use Rattle.queues.specs.Contracts.{GrantedLock}
@@ -23,7 +23,7 @@ use Rattle.call_convert.proofs.AskingLock.{held-range, asking-movable, 
 -- the record of a granted lock, read from the words
 module _ (k : ℕ) (a : List ℕ) (t : Tables) (p : GrantedLock k t) (is : a ≡ words t) where
   sized-at : Sized a
-  sized-at = sized-is t a is (p .core .resources-high) (p .core .locks-high)
+  sized-at = core-sized t a is (p .core)
 
   high-at : k ≤ locks-in a
   high-at = rw (locks-is t a is) (held-range k t p .1)

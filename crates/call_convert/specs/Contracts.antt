@@ -5,9 +5,9 @@ use mathlib.Core.List.{List}
 use Prim.Native.Nat.{ℕ, _≤_}
 use lib.ListN.{length}
 use lib.Dec.{ltb}
-use Rattle.tables.specs.State.{Tables, value-width, lock, move}
+use Rattle.tables.specs.State.{Tables, value-width, lock, move, last-mode}
 use Rattle.rules.specs.Queues.{sweep}
-use Rattle.rules.specs.Calls.{stores, strong, leave-value, held-at, asking, in-place}
+use Rattle.rules.specs.Calls.{stores, no-queue, strong, leave-value, held-at, asking, in-place}
 use Rattle.queues.specs.Contracts.{GrantedLock}
 
 -- from PW or EX to a smaller mode
@@ -27,7 +27,12 @@ on-convert-queue k m t = move (lock t k .resource) k (asking m (lock t k)) t
 -- the lock k is granted, and may ask for the mode m
 pub record Asks (k m : ℕ) (t : Tables) : Type 0 where
   pub held : GrantedLock k t
-  pub mode : m ≤ 5
+  pub mode : m ≤ last-mode
+
+-- .. with the flags f: where flag 4 forbids to queue, it can take m in place
+pub record AsksWith (k m f : ℕ) (t : Tables) : Type 0 where
+  pub asks : Asks k m t
+  pub unqueued : no-queue f ≡ true → in-place k m t ≡ true
 
 -- it can take m in place; and where the flags f store a value, v is one
 pub record ConvertsInPlace (k m f : ℕ) (v : List ℕ) (t : Tables) : Type 0 where

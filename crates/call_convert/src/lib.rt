@@ -5,13 +5,13 @@ use modes::Mode;
 use table_fields::lock_at;
 use tables::Lock;
 ghost use mathlib.Core.Path.{_≡_};
-ghost use Rattle.rules.specs.Calls.{«held-at», asking, «convert-change»};
+ghost use Rattle.rules.specs.Calls.{«held-at», asking, «in-place», «convert-change»};
 ghost use Rattle.rules.specs.Accepted.{Convertible};
-ghost use Rattle.table_chains.specs.Contracts.{Some, Turns, Changes};
+ghost use Rattle.table_chains.specs.Contracts.{Some, Turns, Tells, Changes};
 ghost use Rattle.queues.specs.Contracts.{SomeTables};
 ghost use Rattle.answers.specs.Answers.{converted};
 ghost use Rattle.answers.specs.Contracts.{Makes};
-ghost use Rattle.call_convert.specs.Contracts.{lowers, «granted-in-place», «on-convert-queue», Asks, ConvertsInPlace};
+ghost use Rattle.call_convert.specs.Contracts.{lowers, «granted-in-place», «on-convert-queue», Asks, AsksWith, ConvertsInPlace};
 
 // Flags 1 and 2 act on a conversion from PW or EX to a smaller mode.
 fn lowers(held: u32, mode: u32) -> bool
@@ -24,27 +24,22 @@ fn lowers(held: u32, mode: u32) -> bool
 fn held_at(l: Lock, mode: u32) -> Lock
     ensures { λ m. ⌜ m ≡ held-at mode l ⌝ }
 {
-    Lock {
-        resource: l.resource,
-        client: l.client,
-        state: table_fields::STATE_GRANTED,
-        held: mode,
-        asked: 0,
-        completion: table_fields::COMPLETION_NONE,
-    }
+    let mut m = l;
+    m.state = table_fields::STATE_GRANTED;
+    m.held = mode;
+    m.asked = 0;
+    m.completion = table_fields::COMPLETION_NONE;
+    m
 }
 
 fn asking(l: Lock, mode: u32) -> Lock
     ensures { λ m. ⌜ m ≡ asking mode l ⌝ }
 {
-    Lock {
-        resource: l.resource,
-        client: l.client,
-        state: table_fields::STATE_CONVERTING,
-        held: l.held,
-        asked: mode,
-        completion: table_fields::COMPLETION_NONE,
-    }
+    let mut m = l;
+    m.state = table_fields::STATE_CONVERTING;
+    m.asked = mode;
+    m.completion = table_fields::COMPLETION_NONE;
+    m
 }
 
 // The lock k takes the mode where it stands, and leaves the value as the flags say. What it held may have kept others
@@ -75,6 +70,17 @@ fn queue_conversion(words: &mut [u32], k: u32, mode: u32)
     table_chains::move_lock(words, k, asking(l, mode));
 }
 
+// Whether the lock k takes the mode where it stands. With flag 4 it does: a conversion that would block has been refused.
+fn taken_in_place(words: &[u32], k: u32, mode: u32, flags: u32) -> bool
+    requires { ⌜ Some (AsksWith k mode flags) (now words) ⌝ }
+    ensures { λ x. ⌜ Tells (AsksWith k mode flags) (in-place k mode) (now (words .entry)) x ⌝ }
+{
+    if flags::no_queue(flags) {
+        return true;
+    }
+    queues::in_place(words, k, mode)
+}
+
 // The lock k is converted to the mode, and nothing refuses it.
 pub fn convert_change(
     words: &mut [u32],
@@ -87,7 +93,7 @@ pub fn convert_change(
     requires { ⌜ SomeTables (Convertible k mode flags (now value)) (now words) (now slots) ⌝ }
     ensures { λ r. ⌜ Makes (Convertible k mode flags (now (value .entry))) (convert-change k mode flags (now (value .entry))) (now (words .entry)) (now (slots .entry)) (now (words .exit)) (now (slots .exit)) (converted r) ⌝ }
 {
-    if queues::in_place(words, k, mode) {
+    if taken_in_place(words, k, mode, flags) {
         convert_in_place(words, slots, k, mode, flags, value);
         return Converted::Granted;
     }

@@ -8,27 +8,27 @@ use native.Mathlib.Omega.{arith}
 use borrow.Author.Needs.{needs}
 use borrow.Author.Tests.{ne-eqb}
 use Rattle.tables.specs.declared.Lock.{Lock}
-use Rattle.tables.specs.State.{Tables, lock, converting, blocked-lock, blocked, move}
+use Rattle.tables.specs.State.{Tables, denied-lock, lock, converting, blocked-lock, blocked, move}
 use Rattle.tables.specs.Layout.{words, slots, read-lock}
 use Rattle.tables.proofs.Cases.{by-cases, clash}
 use Rattle.tables.proofs.Counts.{first-in}
 use Rattle.tables.proofs.SlotChanges.{slots-move}
-use Rattle.tables.specs.Validity.{used, LockOk, Core, Valid}
+use Rattle.tables.specs.Validity.{used, LockOk, as-denied, Core, Valid}
 use Rattle.tables.proofs.Valid.{resources-length, core-move}
 use Rattle.tables.proofs.ChainMembers.{on-chain}
 use Rattle.rules.specs.Queues.{sweep}
 use Rattle.rules.specs.Deadlock.{victim}
-use Rattle.rules.specs.Calls.{accepted, accepted-step, denied-lock, deny, deny-victim, break}
+use Rattle.rules.specs.Calls.{accepted, accepted-step, deny, deny-victim, break}
 use Rattle.rules.specs.Accepted.{Cancellable}
 use Rattle.table_chains.specs.Contracts.{Some, Turns, Tells, Movable, Moving, Moved, Resourced}
 use Rattle.queues.proofs.ResourceRecord.{slots-sweep}
 use Rattle.answers.specs.Answers.{denial, broken}
 use Rattle.rules.specs.Entries.{Lent, lent, outcome}
+use Rattle.table_fields.proofs.StateWords.{lock-is}
 use Rattle.answers.specs.declared.Broken.the-variants as broken-cases
 use Rattle.answers.specs.Contracts.{MakesWords}
 use Rattle.call_release.specs.Contracts.{Restorable, restore}
 use Rattle.answers.proofs.Steps.{stepped}
-use Rattle.call_release.proofs.LentLock.{lock-is}
 use Rattle.call_release.proofs.RestoredLock.{slots-restore, blocked-there, blocked-range, blocked-resource, restorable-at, cancel-sized, cancel-low, cancel-high}
 
 -- STATES. The blocked lock k, denied
@@ -39,7 +39,7 @@ module _ (k : ℕ) (t : Tables) (p : Cancellable k t) where
   denied-ok : LockOk (used t) (denied-lock (lock t k))
   denied-ok =
       let q = blocked-there k t p in
-      record { client-low = q .client-low; client-high = q .client-high; nowhere = refl; holds = refl; asks = refl; notice = refl }
+      as-denied refl (record { client-low = q .client-low; client-high = q .client-high; nowhere = refl; holds = refl; asks = refl; notice = refl })
 
   movable : Movable (lock t k .resource) k (denied-lock (lock t k)) t
   movable = record { core = p .valid .core; in-range = blocked-range k t p; near-old = λ z. refl; near-new = λ z. absurd (z refl); ok = denied-ok }
@@ -70,7 +70,7 @@ slots-deny k t =
 -- deny
 module _ (k : ℕ) (a : List ℕ) (l : Lock) (el : l ≡ read-lock a k) where
   l-is : (t : Tables) → Cancellable k t → a ≡ words t → l ≡ lock t k
-  l-is t p is = lock-is k t (p .valid .core) (blocked-range k t p) a is l el
+  l-is t p is = lock-is t a is k (blocked-range k t p) l el
 
   module _ (q : l .state ≡ 2) where
     restorable : (t : Tables) → Cancellable k t → a ≡ words t → Restorable k 3 t
@@ -129,7 +129,7 @@ deny-none : (k : ℕ) (t : Tables) → k ≡ 0 → deny-victim k t ≡ accepted-
 unfolding deny-victim
 deny-none k t e = rw e
 
-deny-some : (k : ℕ) (t : Tables) → k ≢ 0 → deny-victim k t ≡ accepted-step k 0 (deny k t)
+deny-some : (k : ℕ) (t : Tables) → k ≢ 0 → deny-victim k t ≡ accepted-step k k (deny k t)
 unfolding deny-victim
 deny-some zero t n = absurd (n refl)
 deny-some (suc k) t n = refl
@@ -139,7 +139,7 @@ unfolding break
 break-is k t e = ap (λ (x : ℕ). deny-victim x t) (sym e)
 
 -- the numbers of a denied lock
-denied-is : (k : ℕ) → k ≢ 0 → (u : Lent) → outcome (denial k) u ≡ outcome (accepted k 0) u
+denied-is : (k : ℕ) → k ≢ 0 → (u : Lent) → outcome (denial k) u ≡ outcome (accepted k k) u
 denied-is zero n u = absurd (n refl)
 denied-is (suc k) n u = refl
 
@@ -164,7 +164,7 @@ module _ (a : List ℕ) (k : ℕ) (tells : Tells Core victim a k) where
     break-denied b denies = record {
       then = λ t v is.
           denied-is k n (lent b (slots t))
-          ∙ stepped (break t) k 0 (deny k t) b (slots t) (break-is k t (tells .then t (v .core) is) ∙ deny-some k t n) (denies .then t (blocked-at t v is) is) (sym (slots-deny k t));
+          ∙ stepped (break t) k k (deny k t) b (slots t) (break-is k t (tells .then t (v .core) is) ∙ deny-some k t n) (denies .then t (blocked-at t v is) is) (sym (slots-deny k t));
     }
 
 pub ruleset break-laws = (needs, valid-core, break-none, break-blocked, break-denied)

@@ -15,12 +15,15 @@ use Rattle.tables.specs.Layout.{words, slots, locks-in, read-lock}
 use Rattle.tables.proofs.Cases.{by-cases, clash}
 use Rattle.tables.proofs.Counts.{first-in}
 use Rattle.tables.proofs.SlotChanges.{slots-move}
-use Rattle.tables.specs.Validity.{used, Granted, StateOk, LockOk, Core, Valid}
+use Rattle.tables.specs.Validity.{used, Granted, LockOk, as-granted, Core, Valid}
+use Rattle.tables.proofs.StateCases.{StateOk, ok-numbered}
 use Rattle.tables.proofs.Valid.{absent-lock}
 use Rattle.tables.proofs.ChainMembers.{on-chain}
 use Rattle.table_fields.specs.Sizes.{Sized}
+use Rattle.table_fields.proofs.StateWords.{core-sized, lock-high, lock-is, lock-low}
 use Rattle.rules.specs.Queues.{free-lock}
-use Rattle.rules.specs.Calls.{Said, accepted-step, notice-read, take-notice, poll-notice, poll-change}
+use Rattle.rules.specs.declared.Said.{Said}
+use Rattle.rules.specs.Calls.{accepted-step, notice-read, take-notice, poll-notice, poll-change}
 use Rattle.table_chains.specs.Contracts.{Some, Turns, Tells, Movable, Moving, Moved}
 use Rattle.queues.specs.Contracts.{Locked}
 use Rattle.queues.proofs.ResourceRecord.{slots-free}
@@ -28,7 +31,6 @@ use Rattle.answers.specs.Answers.{polled}
 use Rattle.answers.specs.declared.Polled.the-variants as polled-cases
 use Rattle.answers.specs.Contracts.{MakesWords}
 use Rattle.answers.proofs.Steps.{stepped}
-use Rattle.call_release.proofs.LentLock.{lock-sized, lock-low, lock-high, lock-is}
 use Rattle.call_notice.specs.Contracts.{first-notice, Noticed}
 use Rattle.call_notice.proofs.Denial.{valid-core}
 
@@ -54,12 +56,12 @@ module _ (k : ℕ) (t : Tables) (p : Noticed k t) where
 
   module _ (n : lock t k .completion ≢ 2) where
     old : Granted (used t) (lock t k) × (lock t k .state ≡ 1)
-    old = granted-noticed (used t) (lock t k) (lock t k .state) (p .core .lock-ok k) some-notice n
+    old = granted-noticed (used t) (lock t k) (lock t k .state) (ok-numbered (p .core .lock-ok k)) some-notice n
 
     read-ok : LockOk (used t) (notice-read (lock t k))
     read-ok =
         let q = old .0 .place in
-        subst (StateOk (used t) (notice-read (lock t k))) (sym (old .1))
+        as-granted (old .1)
         (record {
           place = record { in-use = q .in-use; client-low = q .client-low; client-high = q .client-high; held-mode = q .held-mode; asked-mode = q .asked-mode };
           asks = old .0 .asks;
@@ -95,20 +97,20 @@ poll-done k t p x t′ e h = poll-some (length (t .locks)) k t (in-range k t p) 
 module _ (k : ℕ) (a : List ℕ) where
   module _ (s : Some (Noticed k) a) where
     pub take-sized : Sized a
-    take-sized = lock-sized k (s .state) (s .good .core) (in-range k (s .state) (s .good)) a (s .is)
+    take-sized = core-sized (s .state) a (s .is) (s .good .core)
 
     pub take-low : 1 ≤ k
-    take-low = lock-low k (s .state) (s .good .core) (in-range k (s .state) (s .good)) a (s .is)
+    take-low = lock-low (s .state) a (s .is) k (in-range k (s .state) (s .good))
 
     pub take-high : k ≤ locks-in a
-    take-high = lock-high k (s .state) (s .good .core) (in-range k (s .state) (s .good)) a (s .is)
+    take-high = lock-high (s .state) a (s .is) k (in-range k (s .state) (s .good))
 
     pub take-locked : Some (Locked k) a
     take-locked = record { state = s .state; good = locked k (s .state) (s .good); is = s .is }
 
   module _ (l : Lock) (el : l ≡ read-lock a k) where
     l-is : (t : Tables) → Noticed k t → a ≡ words t → l ≡ lock t k
-    l-is t p is = lock-is k t (p .core) (in-range k t p) a is l el
+    l-is t p is = lock-is t a is k (in-range k t p) l el
 
     notice-is : (t : Tables) → Noticed k t → a ≡ words t → l .completion ≡ lock t k .completion
     notice-is t p is = ap (λ (o : Lock). o .completion) (l-is t p is)

@@ -6,8 +6,9 @@ use table_fields::lock_at;
 use table_fields::lock_word;
 use tables::Lock;
 ghost use mathlib.Core.Path.{_≡_};
+ghost use Rattle.tables.specs.State.{«denied-lock»};
 ghost use Rattle.tables.specs.Validity.{Core, Valid};
-ghost use Rattle.rules.specs.Calls.{«denied-lock», deny, break, «notice-read», «poll-notice», «poll-change»};
+ghost use Rattle.rules.specs.Calls.{deny, break, «notice-read», «poll-notice», «poll-change»};
 ghost use Rattle.rules.specs.Accepted.{Cancellable};
 ghost use Rattle.table_chains.specs.Contracts.{Some, Turns, Tells};
 ghost use Rattle.answers.specs.Answers.{broken, polled};
@@ -18,14 +19,11 @@ ghost use Rattle.call_notice.specs.Contracts.{«first-notice», Noticed}
 fn denied(l: Lock) -> Lock
     ensures { λ m. ⌜ m ≡ denied-lock l ⌝ }
 {
-    Lock {
-        resource: 0,
-        client: l.client,
-        state: table_fields::STATE_DENIED,
-        held: 0,
-        asked: 0,
-        completion: table_fields::COMPLETION_DENIED,
-    }
+    let mut m = table_fields::NO_LOCK;
+    m.client = l.client;
+    m.state = table_fields::STATE_DENIED;
+    m.completion = table_fields::COMPLETION_DENIED;
+    m
 }
 
 // The lock k, which is blocked, is denied what it asks for, and its client has a notice.
@@ -74,14 +72,9 @@ fn first_notice(words: &[u32], client: u32) -> u32
 fn notice_read(l: Lock) -> Lock
     ensures { λ m. ⌜ m ≡ notice-read l ⌝ }
 {
-    Lock {
-        resource: l.resource,
-        client: l.client,
-        state: l.state,
-        held: l.held,
-        asked: l.asked,
-        completion: table_fields::COMPLETION_NONE,
-    }
+    let mut m = l;
+    m.completion = table_fields::COMPLETION_NONE;
+    m
 }
 
 // The notice of lock k is read. A denied request has no other use for its lock: it is freed.

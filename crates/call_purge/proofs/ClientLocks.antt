@@ -2,7 +2,7 @@
 use mathlib.Core.Path.{_≡_, refl, sym, _∙_, ap}
 use mathlib.Core.Bool.{Bool, true, false}
 use mathlib.Core.List.{List, [], _∷_}
-use Prim.Native.Nat.{ℕ, zero, suc, _+_, _≤_, _<_, _^_}
+use Prim.Native.Nat.{ℕ, _+_, _≤_, _<_, _^_}
 use native.Mathlib.Omega.{arith}
 use lib.ListN.{length, set}
 use lib.Dec.{eqb}
@@ -10,20 +10,21 @@ use borrow.Author.Needs.{needs}
 use borrow.Author.Tests.{eq-eqb, ne-eqb}
 use Rattle.tables.specs.declared.Lock.{Lock}
 use Rattle.tables.specs.Lists.{count}
-use Rattle.tables.specs.State.{Tables, lock}
+use Rattle.tables.specs.State.{Tables, lock, most-locks}
 use Rattle.tables.specs.Layout.{words, slots, locks-in, read-lock}
 use Rattle.tables.proofs.Cases.{by-cases}
 use Rattle.tables.proofs.Counts.{within-le, le-within, count-same, count-step}
-use Rattle.tables.specs.Validity.{used, StateOk, Core}
-use Rattle.tables.proofs.Valid.{used-within}
+use Rattle.tables.specs.Validity.{Core}
+use Rattle.tables.proofs.StateCases.{StateOk, ok-numbered}
+use Rattle.tables.proofs.Valid.{housed}
 use Rattle.rules.specs.Calls.{locks-of, purge-lock, purge-locks}
-use Rattle.table_fields.specs.Sizes.{Sized}
+use Rattle.table_fields.specs.Sizes.{Sized, resource-places}
+use Rattle.table_fields.proofs.StateWords.{locks-is, core-sized}
 use Rattle.table_chains.specs.Contracts.{Changes}
-use Rattle.table_chains.proofs.ChainCells.{locks-is, sized-is}
 use Rattle.queues.specs.Contracts.{Locked, SomeTables}
 use Rattle.call_purge.specs.PurgedLocks.{of-client, purge-own, mark-own, count-own, purge-all, mark-locks, mark-all, count-all, Frees}
 use Rattle.call_purge.proofs.NumbersLeft.{ahead, ahead-start, ahead-end, ahead-in, ahead-out, ahead-past, ahead-cong}
-use Rattle.call_purge.proofs.OneLock.{Freed, lock-freed, lock-sized, lock-low, lock-high, lock-told}
+use Rattle.call_purge.proofs.OneLock.{Freed, lock-freed, locked-sized, locked-low, locked-high, lock-told}
 
 -- ONE LOCK
 module _ (c k : ℕ) (t : Tables) where
@@ -63,25 +64,14 @@ module _ (c k : ℕ) (t : Tables) where
       (λ h. rw (other-kept h) (record { core = p .core; lock-is = λ j n. refl; locks-are = refl; resources-are = refl }))
 
 -- a lock's resource has a place among the marks
-resource-few : (k : ℕ) (t : Tables) → Core t → lock t k .resource < 257
-resource-few k t co = go (lock t k .state) (co .lock-ok k)
-  where
-    inside : used t (lock t k .resource) ≡ true → lock t k .resource < 257
-    inside u = omega (arith, within-le (length (t .resources)) (lock t k .resource) (used-within t (lock t k .resource) u) .1, co .resources-high)
-
-    go : (n : ℕ) → StateOk (used t) (lock t k) n → lock t k .resource < 257
-    go zero ok = rw ok (omega arith)
-    go (suc zero) ok = inside (ok .place .in-use)
-    go (suc (suc zero)) ok = inside (ok .place .in-use)
-    go (suc (suc (suc zero))) ok = inside (ok .place .in-use)
-    go (suc (suc (suc (suc zero)))) ok = omega (arith, ok .nowhere)
-    go (suc (suc (suc (suc (suc n))))) ok = absurd ok
+resource-few : (k : ℕ) (t : Tables) → Core t → lock t k .resource < resource-places
+resource-few k t co = omega (arith, housed t (lock t k) (lock t k .state) (ok-numbered (co .lock-ok k)), co .resources-high)
 
 -- purge_own
 module _ (c k : ℕ) (a sa : List ℕ) (l : Lock) (el : l ≡ read-lock a k) where
-  pub own-place : (x : ℕ) (m : List Bool) → (x ≡ l .resource) × (x < 2 ^ 32) → SomeTables (Locked k) a sa → length m ≡ 257 → x < length m
+  pub own-place : (x : ℕ) (m : List Bool) → (x ≡ l .resource) × (x < 2 ^ 32) → SomeTables (Locked k) a sa → length m ≡ resource-places → x < length m
   own-place x m e s w =
-      let q : l .resource < 257 = rw (lock-told k a sa l el (s .state) (s .good) (s .is)) (resource-few k (s .state) (s .good .core)) in
+      let q : l .resource < resource-places = rw (lock-told k a sa l el (s .state) (s .good) (s .is)) (resource-few k (s .state) (s .good .core)) in
       omega arith
 
   pub own-none : (m : List Bool) → (l .client ≡ c → ⊥) → Frees (Locked k) (purge-own c k) (mark-own c k m) (count-own c k) a sa a sa m 0
@@ -104,7 +94,7 @@ module _ (c k : ℕ) (a sa : List ℕ) (l : Lock) (el : l ≡ read-lock a k) whe
         rw (own-purged c k t h, own-marked c k t h m, own-counted c k t h) (w .0, w .1, ap (λ (i : ℕ). set m i true) z, refl);
   }
 
-pub ruleset own-laws = (needs, lock-sized, lock-low, lock-high, own-place, own-none, own-one)
+pub ruleset own-laws = (needs, locked-sized, locked-low, locked-high, own-place, own-none, own-one)
 
 -- THE LOOP: the client's locks from k on
 unfoldable pub left : ℕ → ℕ → Tables → List ℕ
@@ -189,17 +179,17 @@ pub record Going (c last k : ℕ) (a sa : List ℕ) (m₀ : List Bool) (b sb : L
   pub words-size : length b ≡ length a
   pub slots-size : length sb ≡ length sa
   pub marks-size : length m ≡ length m₀
-  pub wide : length m ≡ 257
+  pub wide : length m ≡ resource-places
   pub few : n < k
-  pub last-few : last ≤ 1024
+  pub last-few : last ≤ most-locks
   pub locks-are : locks-in b ≡ last
   pub then : (t : Tables) → Core t → a ≡ words t → sa ≡ slots t → Goes c last k t m₀ b sb m n
 
-pub core-sized : (a sa : List ℕ) → SomeTables Core a sa → Sized a
-core-sized a sa s = sized-is (s .state) a (s .is) (s .good .resources-high) (s .good .locks-high)
+pub lent-sized : (a sa : List ℕ) → SomeTables Core a sa → Sized a
+lent-sized a sa s = core-sized (s .state) a (s .is) (s .good)
 
 module _ (c last : ℕ) (a sa : List ℕ) (m₀ : List Bool) where
-  pub purge-starts : SomeTables Core a sa → length m₀ ≡ 257 → last ≡ locks-in a → Going c last 1 a sa m₀ a sa m₀ 0
+  pub purge-starts : SomeTables Core a sa → length m₀ ≡ resource-places → last ≡ locks-in a → Going c last 1 a sa m₀ a sa m₀ 0
   unfolding purge-all mark-all count-all
   purge-starts s w e =
       record {
@@ -210,7 +200,7 @@ module _ (c last : ℕ) (a sa : List ℕ) (m₀ : List Bool) where
         marks-size = refl;
         wide = w;
         few = omega arith;
-        last-few = omega (arith, core-sized a sa s .few-locks);
+        last-few = omega (arith, lent-sized a sa s .few-locks);
         locks-are = sym e;
         then = λ t co is iss. record {
           here = t;
@@ -299,4 +289,4 @@ module _ (c last : ℕ) (a sa : List ℕ) (m₀ : List Bool) where
                   marks = rw (w .2) (v .marks m ∙ q .marks);
                 }
 
-pub ruleset purges-laws = (needs, core-sized, purge-starts, purge-locked, purge-fits, purge-again, purge-ends)
+pub ruleset purges-laws = (needs, lent-sized, purge-starts, purge-locked, purge-fits, purge-again, purge-ends)

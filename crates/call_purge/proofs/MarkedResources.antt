@@ -7,7 +7,7 @@ use native.Mathlib.Omega.{arith}
 use lib.ListN.{length, getD}
 use borrow.Author.Needs.{needs}
 use borrow.Author.Tests.{not-true, not-false}
-use Rattle.tables.specs.State.{Tables}
+use Rattle.tables.specs.State.{Tables, most-resources}
 use Rattle.tables.specs.Layout.{words, slots, resources-in}
 use Rattle.tables.proofs.Cases.{by-cases}
 use Rattle.tables.proofs.Counts.{within-le, le-within}
@@ -15,12 +15,14 @@ use Rattle.tables.specs.Validity.{Core}
 use Rattle.rules.specs.Queues.{settle}
 use Rattle.rules.specs.Calls.{settle-all}
 use Rattle.rules.proofs.CallsKeepSound.{settle-settles}
+use Rattle.table_fields.specs.Sizes.{resource-places}
+use Rattle.table_fields.proofs.StateWords.{resources-is}
 use Rattle.table_chains.specs.Contracts.{Changes, Resourced}
-use Rattle.table_chains.proofs.ChainCells.{resources-is}
 use Rattle.queues.specs.Contracts.{SomeTables}
-use Rattle.call_purge.specs.SettledResources.{marked, settle-if, settle-marked}
+use Rattle.table_chains.specs.Marks.{marked}
+use Rattle.call_purge.specs.SettledResources.{settle-if, settle-marked}
 use Rattle.call_purge.proofs.NumbersLeft.{ahead, ahead-start, ahead-end, ahead-in, ahead-out}
-use Rattle.call_purge.proofs.ClientLocks.{core-sized}
+use Rattle.call_purge.proofs.ClientLocks.{lent-sized}
 
 -- ONE RESOURCE
 if-settled : (b : Bool) (r : ℕ) (t : Tables) → b ≡ true → settle-if b r t ≡ settle r t
@@ -90,7 +92,7 @@ pub record Goes (m : List Bool) (r : ℕ) (t : Tables) (b sb : List ℕ) : Type 
 
 pub record Going (m : List Bool) (r : ℕ) (a sa b sb : List ℕ) : Type 0 where
   pub low : 1 ≤ r
-  pub wide : length m ≡ 257
+  pub wide : length m ≡ resource-places
   pub lent : SomeTables Core b sb
   pub words-size : length b ≡ length a
   pub slots-size : length sb ≡ length sa
@@ -98,7 +100,7 @@ pub record Going (m : List Bool) (r : ℕ) (a sa b sb : List ℕ) : Type 0 where
   pub then : (t : Tables) → Core t → a ≡ words t → sa ≡ slots t → Goes m r t b sb
 
 module _ (m : List Bool) (a sa : List ℕ) where
-  pub settle-starts : SomeTables Core a sa → length m ≡ 257 → Going m 1 a sa a sa
+  pub settle-starts : SomeTables Core a sa → length m ≡ resource-places → Going m 1 a sa a sa
   settle-starts s w =
       record {
         low = omega arith;
@@ -129,8 +131,8 @@ module _ (m : List Bool) (a sa : List ℕ) where
       settle-resourced =
           record { state = g .lent .state; good = there (g .lent .state) (g .lent .good) (g .lent .is); is = g .lent .is; slots-are = g .lent .slots-are }
 
-      last-few : last ≤ 256
-      last-few = omega (arith, core-sized b sb (g .lent) .few-resources, g .resources-are)
+      last-few : last ≤ most-resources
+      last-few = omega (arith, lent-sized b sb (g .lent) .few-resources, g .resources-are)
 
       pub settle-place : r < length m
       settle-place = omega (arith, last-few, g .wide)
@@ -166,4 +168,4 @@ module _ (m : List Bool) (a sa : List ℕ) where
                 };
           }
 
-pub ruleset settles-laws = (needs, core-sized, settle-starts, settle-resourced, settle-place, settle-next, settle-again, settle-ends)
+pub ruleset settles-laws = (needs, lent-sized, settle-starts, settle-resourced, settle-place, settle-next, settle-again, settle-ends)

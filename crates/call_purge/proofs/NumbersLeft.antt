@@ -8,8 +8,7 @@ use native.Mathlib.Omega.{arith}
 use native.Mathlib.Numerals.{add-one}
 use Rattle.tables.specs.Lists.{count, keep, from}
 use Rattle.tables.proofs.Cases.{by-cases}
-use Rattle.tables.proofs.Counts.{from-below, count-keep}
-use Rattle.rules.proofs.QueueTheorem.{keep-cong}
+use Rattle.tables.proofs.Counts.{from-below, count-keep, keep-cong}
 
 unfoldable pub ahead : (ℕ → Bool) → ℕ → ℕ → List ℕ
 ahead p n k = keep p (from k (suc n - k))

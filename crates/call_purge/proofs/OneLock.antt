@@ -1,45 +1,32 @@
 -- One lock is purged: laws of states, and for the code.
 use mathlib.Core.Path.{_≡_, refl, sym, _∙_, ap}
 use mathlib.Core.Logic.{_≢_}
-use mathlib.Core.Bool.{Bool, true, false}
+use mathlib.Core.Bool.{true}
 use mathlib.Core.List.{List, []}
-use Prim.Native.Nat.{ℕ, zero, suc, _≤_, _<_}
-use native.Mathlib.Omega.{arith}
+use Prim.Native.Nat.{ℕ, _≤_, _<_}
 use lib.ListN.{length}
 use borrow.Author.Needs.{needs}
-use borrow.Author.Tests.{leb-true, le-leb, lt-leb}
+use borrow.Author.Tests.{le-leb, lt-leb}
 use Rattle.tables.specs.declared.Lock.{Lock}
 use Rattle.tables.specs.State.{Tables, no-lock, lock}
 use Rattle.tables.specs.Layout.{words, slots, locks-in, read-lock}
 use Rattle.tables.proofs.Cases.{clash}
-use Rattle.tables.proofs.Counts.{within-le}
-use Rattle.tables.proofs.ReadBack.{lock-read}
-use Rattle.tables.specs.Validity.{used, StateOk, Core}
+use Rattle.tables.specs.Validity.{used, Core}
+use Rattle.tables.proofs.StateCases.{StateOk, ok-numbered}
 use Rattle.tables.proofs.Valid.{used-within, lock-other, locks-length, resources-length}
 use Rattle.rules.specs.Queues.{free-lock}
 use Rattle.rules.specs.Calls.{stores, spoils, strong, with-value, leave-value, purge-lock}
 use Rattle.rules.proofs.ResourceChanges.{Quiet, leave-quiet}
+use Rattle.rules.proofs.PurgeKeepsSound.{strong-used, spoils-only}
 use Rattle.table_fields.specs.Sizes.{Sized}
+use Rattle.table_fields.proofs.StateWords.{core-sized, lock-low, lock-high, lock-is}
 use Rattle.table_chains.specs.Contracts.{Some, Turns, Changes}
-use Rattle.table_chains.proofs.ChainCells.{locks-is, sized-is}
 use Rattle.queues.specs.Contracts.{Locked, SomeTables, Valued}
 use Rattle.queues.proofs.StateAfter.{freed-core}
 use Rattle.queues.proofs.ResourceRecord.{slots-free}
 use Rattle.call_purge.specs.PurgedLocks.{spoil}
 
--- STATES. A lock that holds PW or EX stands on a resource in use
-strong-used : (u : ℕ → Bool) (l : Lock) (s : ℕ) → StateOk u l s → 4 ≤ l .held → u (l .resource) ≡ true
-strong-used u l zero ok h = absurd (omega (arith, ap (λ (x : Lock). x .held) ok))
-strong-used u l (suc zero) ok h = ok .place .in-use
-strong-used u l (suc (suc zero)) ok h = ok .place .in-use
-strong-used u l (suc (suc (suc zero))) ok h = ok .place .in-use
-strong-used u l (suc (suc (suc (suc zero)))) ok h = absurd (omega (arith, ok .holds))
-strong-used u l (suc (suc (suc (suc (suc n))))) ok h = absurd ok
-
-stores-none : stores 2 ≡ false
-unfolding stores
-stores-none = refl
-
+-- STATES
 spoil-weak : (k : ℕ) (t : Tables) → lock t k .held < 4 → spoil k t ≡ t
 unfolding spoil strong leave-value
 spoil-weak k t h = rw (lt-leb 4 (lock t k .held) h, leave-value)
@@ -57,14 +44,14 @@ pub record Freed (k : ℕ) (t u : Tables) : Type 0 where
   pub resources-are : length (u .resources) ≡ length (t .resources)
 
 module _ (k : ℕ) (t : Tables) (p : Locked k t) where
-  used-there : 4 ≤ lock t k .held → used t (lock t k .resource) ≡ true
-  used-there = strong-used (used t) (lock t k) (lock t k .state) (p .core .lock-ok k)
+  used-there : strong (lock t k .held) ≡ true → used t (lock t k .resource) ≡ true
+  used-there = strong-used (used t) (lock t k) (lock t k .state) (ok-numbered (p .core .lock-ok k))
 
   spoil-quiet : Quiet t (spoil k t)
   unfolding spoil strong
   spoil-quiet =
-      leave-quiet (strong (lock t k .held)) 2 [] (lock t k .resource) t (λ z. clash (stores 2) z stores-none)
-      (λ z. used-there (leb-true 4 (lock t k .held) z)) (p .core)
+      leave-quiet (strong (lock t k .held)) 2 [] (lock t k .resource) t (λ z. clash (stores 2) z spoils-only)
+      used-there (p .core)
 
   spoil-locked : Locked k (spoil k t)
   spoil-locked = record { core = spoil-quiet .core; in-range = rw (spoil-quiet .locks-are) (p .in-range) }
@@ -87,24 +74,19 @@ module _ (k : ℕ) (t : Tables) (p : Locked k t) where
 -- CODE
 module _ (k : ℕ) (a sa : List ℕ) where
   module _ (s : SomeTables (Locked k) a sa) where
-    range : (1 ≤ k) × (k ≤ length (s .state .locks))
-    range = within-le (length (s .state .locks)) k (s .good .in-range)
+    pub locked-sized : Sized a
+    locked-sized = core-sized (s .state) a (s .is) (s .good .core)
 
-    pub lock-sized : Sized a
-    lock-sized = sized-is (s .state) a (s .is) (s .good .core .resources-high) (s .good .core .locks-high)
+    pub locked-low : 1 ≤ k
+    locked-low = lock-low (s .state) a (s .is) k (s .good .in-range)
 
-    pub lock-low : 1 ≤ k
-    lock-low = range .0
-
-    pub lock-high : k ≤ locks-in a
-    lock-high = rw (locks-is (s .state) a (s .is)) (range .1)
+    pub locked-high : k ≤ locks-in a
+    locked-high = lock-high (s .state) a (s .is) k (s .good .in-range)
 
   -- spoil_value
   module _ (l : Lock) (el : l ≡ read-lock a k) where
     pub lock-told : (t : Tables) → Locked k t → a ≡ words t → l ≡ lock t k
-    lock-told t p is =
-        let w = within-le (length (t .locks)) k (p .in-range) in
-        el ∙ ap (λ (v : List ℕ). read-lock v k) is ∙ lock-read t k (w .0) (w .1)
+    lock-told t p is = lock-is t a is k (p .in-range) l el
 
     pub spoil-idle : l .held < 4 → Changes (Locked k) (spoil k) a sa a sa
     spoil-idle h = record {
@@ -118,8 +100,8 @@ module _ (k : ℕ) (a sa : List ℕ) where
       valued-at t p is =
           record {
             core = p .core;
-            in-range = rw (lock-told t p is) (used-within t (lock t k .resource) (used-there k t p (rw (lock-told t p is) at h)));
-            right = λ z. clash (stores 2) z stores-none;
+            in-range = rw (lock-told t p is) (used-within t (lock t k .resource) (used-there k t p (unfold strong in le-leb 4 (lock t k .held) (rw (lock-told t p is) at h))));
+            right = λ z. clash (stores 2) z spoils-only;
           }
 
       pub spoil-valued : SomeTables (Locked k) a sa → SomeTables (Valued 2 v (l .resource)) a sa
@@ -146,6 +128,6 @@ module _ (k : ℕ) (a sa : List ℕ) where
           rw (purge-is k t p) (freed .then (spoil k t) (spoil-locked k t p) (q .0), q .1 ∙ sym (slots-free k (spoil k t)));
     }
 
-pub ruleset spoil-laws = (needs, lock-sized, lock-low, lock-high, spoil-idle, spoil-valued, spoil-made)
+pub ruleset spoil-laws = (needs, locked-sized, locked-low, locked-high, spoil-idle, spoil-valued, spoil-made)
 
 pub ruleset purge-laws = (needs, purge-frees, purge-made)

@@ -15,22 +15,24 @@ use Rattle.tables.specs.Lists.{within, count, any, from}
 use Rattle.tables.specs.State.{Tables, lock, resource, grants, converts, waits, queue}
 use Rattle.tables.specs.Layout.{words, slots}
 use Rattle.tables.specs.Grants.{holders}
-use Rattle.tables.proofs.Cases.{by-cases, by-equal, clash, eqb-same}
-use Rattle.tables.proofs.Counts.{within-le, count-same, count-step, count-append, count-from, bit-one, any-intro, by-append, kept-in, count-kept}
-use Rattle.tables.specs.Validity.{used, StateOk, Core}
+use Rattle.tables.proofs.Cases.{by-cases, by-equal, eqb-same, same-truth}
+use Rattle.tables.proofs.Counts.{within-le, count-same, count-step, count-append, count-from, bit-one, any-intro, by-append, kept-in, count-kept, keep-cong, any-has, getD-same}
+use Rattle.tables.specs.Validity.{used, Core}
+use Rattle.tables.proofs.StateCases.{StateOk, ok-numbered}
 use Rattle.tables.proofs.Valid.{absent-lock}
 use Rattle.tables.proofs.ChainMembers.{chain-has, in-holder, on-waits}
 use Rattle.rules.specs.Entries.{lent}
 use Rattle.rules.specs.Calls.{accepted, locks-of, purge-lock, purge-locks, stands-on, settle-all, purge-change}
-use Rattle.rules.proofs.QueueTheorem.{keep-cong}
 use Rattle.rules.specs.Accepted.{Purgeable}
+use Rattle.table_fields.specs.Sizes.{resource-places}
 use Rattle.table_chains.specs.Contracts.{Changes}
 use Rattle.queues.specs.Contracts.{SomeTables}
 use Rattle.answers.specs.declared.Purged.the-variants as purged-cases
 use Rattle.answers.specs.Answers.{purged}
 use Rattle.answers.specs.Contracts.{Makes}
 use Rattle.call_purge.specs.PurgedLocks.{purge-all, mark-locks, mark-all, count-all, Frees}
-use Rattle.call_purge.specs.SettledResources.{marked, settle-marked}
+use Rattle.table_chains.specs.Marks.{marked}
+use Rattle.call_purge.specs.SettledResources.{settle-marked}
 use Rattle.call_purge.proofs.OneLock.{lock-freed}
 use Rattle.call_purge.proofs.MarkedResources.{Kept}
 
@@ -45,29 +47,11 @@ mark-told t s (k ∷ ks) m h =
     (λ e. rw (eq-eqb r s (sym e), e, getD-set-same m r true false (rw e at h)) (by-cases (getD m r false) (λ b. rw b) (λ b. rw b)))
     (λ n. rw (ne-eqb r s (λ e. n (sym e)), getD-set-other m r s true false n))
 
-none-marked : (n s : ℕ) → marked (replicate n false) s ≡ false
-unfolding marked
-none-marked zero s = refl
-none-marked (suc n) zero = refl
-none-marked (suc n) (suc s) = none-marked n s
-
 -- WHERE THE CLIENT STANDS: on the resources of its locks
-any-has : (p : ℕ → Bool) (xs : List ℕ) → any p xs ≡ true → (j : ℕ) × (1 ≤ count j xs) × (p j ≡ true)
-unfolding any
-any-has p [] h = clash false h refl
-any-has p (x ∷ xs) h =
-    by-cases (p x)
-    (λ e. (x, rw count-same (omega arith), e))
-    (λ e. let i = any-has p xs (rw e at h) in (i .0, omega (arith, i .1, count-step (i .0) x xs), i .2))
-
-same-truth : (a b : Bool) → (a ≡ true → b ≡ true) → (b ≡ true → a ≡ true) → a ≡ b
-same-truth true b f g = sym (f refl)
-same-truth false b f g = by-cases b (λ e. clash false (g e) refl) (λ e. sym e)
-
 module _ (c : ℕ) (t : Tables) (co : Core t) (s : ℕ) (some : s ≢ 0) where
   stands : (k : ℕ) → within (length (t .locks)) k ≡ true → eqb (lock t k .client) c ≡ true → lock t k .resource ≡ s → stands-on c t s ≡ true
   unfolding stands-on holders
-  stands k w h e = go (lock t k .state) refl (co .lock-ok k)
+  stands k w h e = go (lock t k .state) refl (ok-numbered (co .lock-ok k))
     where
       on : 1 ≤ count k (resource t s .grant) + count k (resource t s .convert) + count k (resource t s .wait) → stands-on c t s ≡ true
       on m = any-intro (λ k. eqb (lock t k .client) c) (holders t s ++ resource t s .wait) k (rw (count-append, count-append) m) h
@@ -120,17 +104,17 @@ module _ (c : ℕ) (t : Tables) (co : Core t) where
   unfolding purge-all locks-of
   all-kept = purges-kept (locks-of c t) t co (λ j m. kept-in (λ k. eqb (lock t k .client) c) (length (t .locks)) j m .0)
 
-  marks-tell : (m : List Bool) → m ≡ mark-all c (replicate 257 false) t → (s : ℕ) → within (length (t .resources)) s ≡ true → marked m s ≡ stands-on c t s
-  unfolding mark-all
+  marks-tell : (m : List Bool) → m ≡ mark-all c (replicate resource-places false) t → (s : ℕ) → within (length (t .resources)) s ≡ true → marked m s ≡ stands-on c t s
+  unfolding mark-all marked
   marks-tell m e s w =
       let low = within-le (length (t .resources)) s w in
       let high = co .resources-high in
-      let none = replicate 257 false in
+      let none = replicate resource-places false in
       ap (λ (x : List Bool). marked x s) e
-      ∙ mark-told t s (locks-of c t) none (rw (length-replicate 257 false) (omega arith))
-      ∙ rw (none-marked 257 s) (stands-told c t co s (λ z. omega arith))
+      ∙ mark-told t s (locks-of c t) none (rw (length-replicate resource-places false) (omega arith))
+      ∙ rw (getD-same false resource-places s) (stands-told c t co s (λ z. omega arith))
 
-  settles : (m : List Bool) → m ≡ mark-all c (replicate 257 false) t → settle-marked m (purge-all c t) ≡ purge-change c t .tables
+  settles : (m : List Bool) → m ≡ mark-all c (replicate resource-places false) t → settle-marked m (purge-all c t) ≡ purge-change c t .tables
   unfolding purge-change settle-marked purge-all
   settles m e =
       let n = length (t .resources) in
@@ -139,7 +123,7 @@ module _ (c : ℕ) (t : Tables) (co : Core t) where
       (keep-cong (marked m) (stands-on c t) (from 1 n) (λ s i. marks-tell m e s (bit-one (within n s) (rw (count-from n s) at i)))))
 
 -- purge_change
-module _ (c : ℕ) (a sa b sb : List ℕ) (m : List Bool) (x : ℕ) (f : Frees Core (purge-all c) (mark-all c (replicate 257 false)) (count-all c) a sa b sb m x) where
+module _ (c : ℕ) (a sa b sb : List ℕ) (m : List Bool) (x : ℕ) (f : Frees Core (purge-all c) (mark-all c (replicate resource-places false)) (count-all c) a sa b sb m x) where
   pub change-settles : SomeTables (Purgeable c) a sa → SomeTables Core b sb
   change-settles s =
       let co = s .good .valid .core in

@@ -2,15 +2,12 @@
 use mathlib.Core.Bool.{Bool, true, false}
 use mathlib.Core.List.{List}
 use Prim.Native.Nat.{ℕ}
-use lib.ListN.{length, getD}
+use lib.ListN.{length}
 use Rattle.tables.specs.Lists.{keep, from}
 use Rattle.tables.specs.State.{Tables}
 use Rattle.rules.specs.Queues.{settle}
 use Rattle.rules.specs.Calls.{settle-all}
-
--- the place r of the marks, one for each resource number
-unfoldable pub marked : List Bool → ℕ → Bool
-marked m r = getD m r false
+use Rattle.table_chains.specs.Marks.{marked}
 
 unfoldable pub settle-if : Bool → ℕ → Tables → Tables
 settle-if b r t = elim b [ true ↦ settle r t | false ↦ t ]

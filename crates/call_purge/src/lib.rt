@@ -1,6 +1,7 @@
 // A purge, in place: every lock of a client is freed, and then each resource on which it stood is settled.
 use answers::Purged;
 use modes::Mode;
+use table_fields::RESOURCE_PLACES;
 use table_fields::lock_at;
 use table_fields::lock_count;
 use table_fields::resource_count;
@@ -11,15 +12,14 @@ ghost use lib.ListN.{length};
 ghost use Rattle.tables.specs.Validity.{Core};
 ghost use Rattle.rules.specs.Calls.{«purge-lock», «purge-change»};
 ghost use Rattle.rules.specs.Accepted.{Purgeable};
+ghost use Rattle.table_fields.specs.Sizes.{«resource-places»};
 ghost use Rattle.table_chains.specs.Contracts.{Changes, Resourced};
 ghost use Rattle.queues.specs.Contracts.{Locked, SomeTables};
 ghost use Rattle.answers.specs.Answers.{purged};
 ghost use Rattle.answers.specs.Contracts.{Makes};
 ghost use Rattle.call_purge.specs.PurgedLocks.{spoil, «purge-own», «mark-own», «count-own», «purge-all», «mark-all», «count-all», Frees};
-ghost use Rattle.call_purge.specs.SettledResources.{marked, «settle-if», «settle-marked»};
-
-// A place for each resource number. A denied lock stands on no resource: it marks place 0.
-const RESOURCE_PLACES: usize = table_fields::MOST_RESOURCES + 1;
+ghost use Rattle.table_chains.specs.Marks.{marked};
+ghost use Rattle.call_purge.specs.SettledResources.{«settle-if», «settle-marked»};
 
 // Flag 2: the value is made not valid.
 const SPOIL: u32 = 2;
@@ -46,10 +46,11 @@ fn purge_lock(words: &mut [u32], slots: &mut [u8], k: u32)
     queues::free_lock(words, k);
 }
 
-// If lock k is the client's, its resource is marked and the lock is purged. Answers how many locks that frees.
+// If lock k is the client's, its resource is marked and the lock is purged. Answers how many locks that frees. A denied
+// lock stands on no resource: it marks place 0.
 fn purge_own(words: &mut [u32], slots: &mut [u8], client: u32, k: u32, marks: &mut [bool]) -> u32
     requires { ⌜ SomeTables (Locked k) (now words) (now slots) ⌝ }
-    requires { ⌜ length (now marks) ≡ 257 ⌝ }
+    requires { ⌜ length (now marks) ≡ resource-places ⌝ }
     ensures { λ x. ⌜ Frees (Locked k) (purge-own client k) (mark-own client k (now (marks .entry))) (count-own client k) (now (words .entry)) (now (slots .entry)) (now (words .exit)) (now (slots .exit)) (now (marks .exit)) x ⌝ }
 {
     let l = lock_at(words, k);
@@ -65,7 +66,7 @@ fn purge_own(words: &mut [u32], slots: &mut [u8], client: u32, k: u32, marks: &m
 // The client's locks are purged, ascending, and their resources marked. Answers how many there were.
 fn purge_locks(words: &mut [u32], slots: &mut [u8], client: u32, marks: &mut [bool]) -> u32
     requires { ⌜ SomeTables Core (now words) (now slots) ⌝ }
-    requires { ⌜ length (now marks) ≡ 257 ⌝ }
+    requires { ⌜ length (now marks) ≡ resource-places ⌝ }
     ensures { λ x. ⌜ Frees Core (purge-all client) (mark-all client (now (marks .entry))) (count-all client) (now (words .entry)) (now (slots .entry)) (now (words .exit)) (now (slots .exit)) (now (marks .exit)) x ⌝ }
 {
     let last = lock_count(words);
@@ -93,7 +94,7 @@ fn settle_if_marked(words: &mut [u32], slots: &mut [u8], marks: &[bool], r: u32)
 // The marked resources are settled, ascending.
 fn settle_marked(words: &mut [u32], slots: &mut [u8], marks: &[bool])
     requires { ⌜ SomeTables Core (now words) (now slots) ⌝ }
-    requires { ⌜ length (now marks) ≡ 257 ⌝ }
+    requires { ⌜ length (now marks) ≡ resource-places ⌝ }
     ensures { λ _. ⌜ Changes Core (settle-marked (now (marks .entry))) (now (words .entry)) (now (slots .entry)) (now (words .exit)) (now (slots .exit)) ⌝ }
 {
     let last = resource_count(words);

@@ -14,14 +14,14 @@ use Rattle.tables.specs.Sound.{client-right}
 use Rattle.tables.proofs.Cases.{parts}
 use Rattle.tables.proofs.Counts.{within-le}
 use Rattle.tables.specs.Validity.{Core}
-use Rattle.tables.proofs.ReadBack.{lock-read}
 use Rattle.table_fields.specs.Sizes.{Sized}
+use Rattle.table_fields.proofs.StateWords.{locks-is, lock-record}
 use Rattle.rules.specs.Calls.{unless, own, cancel-refusal, purge-refusal, poll-refusal}
 use Rattle.rules.specs.Entries.{look-refusal}
 use Rattle.table_chains.specs.Contracts.{Some, Tells}
-use Rattle.table_chains.proofs.ChainCells.{locks-is}
-use Rattle.call_arguments.proofs.OwnLock.{core-sized}
+use Rattle.table_chains.proofs.ChainWalks.{some-sized}
 use Rattle.call_refusals.specs.Rests.{granted-refusal}
+use Rattle.table_chains.proofs.ChainWalks.{some-sized}
 
 -- purge and poll
 module _ (c : ℕ) (p : Bool) (ep : p ≡ client-right c) where
@@ -66,11 +66,11 @@ module _ (ws : List ℕ) (c k : ℕ) where
       pub own-there : Some Core ws → Sized ws × ((1 ≤ k) × (k ≤ locks-in ws))
       own-there s =
           let r = range (s .state) (s .good) (s .is) in
-          (core-sized ws s, (r .0, rw (locks-is (s .state) ws (s .is)) (r .1)))
+          (some-sized s, (r .0, rw (locks-is (s .state) ws (s .is)) (r .1)))
 
       module _ (l : Lock) (el : l ≡ read-lock ws k) where
         says : (f : Lock → Bool) (b : Bool) → f l ≡ b → (t : Tables) → Core t → ws ≡ words t → f (lock t k) ≡ b
-        says f b e t g is = ap f (sym (el ∙ ap (λ (v : List ℕ). read-lock v k) is ∙ lock-read t k (range t g is .0) (range t g is .1))) ∙ e
+        says f b e t g is = ap f (sym (el ∙ lock-record t ws is k (range t g is .0) (range t g is .1))) ∙ e
 
         unread : (l .completion ≡ 0 → ⊥) → (t : Tables) → Core t → ws ≡ words t → eqb (lock t k .completion) 0 ≡ false
         unread n = says (λ (x : Lock). eqb (x .completion) 0) false (ne-eqb (l .completion) 0 n)

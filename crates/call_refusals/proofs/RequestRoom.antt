@@ -18,8 +18,8 @@ use Rattle.tables.proofs.WordChanges.{read-word}
 use Rattle.tables.specs.Validity.{Core}
 use Rattle.rules.specs.Queues.{find}
 use Rattle.rules.specs.Calls.{unless, no-queue, at-once}
+use Rattle.table_fields.proofs.StateWords.{core-sized}
 use Rattle.table_chains.specs.Contracts.{Some, Tells, Resourced}
-use Rattle.table_chains.proofs.ChainCells.{sized-is}
 use Rattle.queues.proofs.QueueReads.{null-first}
 use Rattle.call_refusals.specs.Contracts.{ResourceOrNone, Finds}
 use Rattle.call_refusals.specs.Rests.{room-refusal}
@@ -62,7 +62,7 @@ finds-resource n r t g = record { core = g .core; in-range = found-within n t r 
 
 module _ (ws : List ℕ) (r : ℕ) where
   pub room-long : Some (ResourceOrNone r) ws → 3 < length ws
-  room-long s = omega (arith, sized-is (s .state) ws (s .is) (s .good .core .resources-high) (s .good .core .locks-high) .long)
+  room-long s = omega (arith, core-sized (s .state) ws (s .is) (s .good .core) .long)
 
   pub room-longer : Some (ResourceOrNone r) ws → 2 < length ws
   room-longer s = omega (arith, room-long s)

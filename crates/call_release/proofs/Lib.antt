@@ -1,3 +1,2 @@
-pub mod LentLock
 pub mod ReleasedLock
 pub mod RestoredLock

@@ -15,6 +15,7 @@ use Rattle.tables.specs.Validity.{used, Place}
 use Rattle.tables.proofs.Valid.{ok-at, used-within}
 use Rattle.tables.proofs.ChainMembers.{state-within}
 use Rattle.table_fields.specs.Sizes.{Sized}
+use Rattle.table_fields.proofs.StateWords.{core-sized, lock-high, lock-is, lock-low}
 use Rattle.rules.specs.Queues.{free-lock, settle}
 use Rattle.rules.specs.Calls.{accepted, strong, leave-value, accepted-step, release-change}
 use Rattle.rules.specs.Accepted.{Releasable}
@@ -24,7 +25,6 @@ use Rattle.queues.proofs.ResourceRecord.{slots-free}
 use Rattle.queues.proofs.StateAfter.{left-locked, left-resourced, freed-resourced}
 use Rattle.answers.specs.Contracts.{Makes}
 use Rattle.answers.proofs.Steps.{stepped}
-use Rattle.call_release.proofs.LentLock.{lock-sized, lock-low, lock-high, lock-is}
 
 -- STATES
 module _ (k f : ℕ) (v : List ℕ) (t : Tables) (p : Releasable k f v t) where
@@ -57,17 +57,17 @@ module _ (acts : Bool) (k f : ℕ) (v : List ℕ) (t : Tables) (p : Releasable k
 module _ (k f : ℕ) (v a sa : List ℕ) where
   module _ (s : SomeTables (Releasable k f v) a sa) where
     pub release-sized : Sized a
-    release-sized = lock-sized k (s .state) (s .good .valid .core) (in-range k f v (s .state) (s .good)) a (s .is)
+    release-sized = core-sized (s .state) a (s .is) (s .good .valid .core)
 
     pub release-low : 1 ≤ k
-    release-low = lock-low k (s .state) (s .good .valid .core) (in-range k f v (s .state) (s .good)) a (s .is)
+    release-low = lock-low (s .state) a (s .is) k (in-range k f v (s .state) (s .good))
 
     pub release-high : k ≤ locks-in a
-    release-high = lock-high k (s .state) (s .good .valid .core) (in-range k f v (s .state) (s .good)) a (s .is)
+    release-high = lock-high (s .state) a (s .is) k (in-range k f v (s .state) (s .good))
 
   module _ (l : Lock) (el : l ≡ read-lock a k) where
     l-is : (t : Tables) → Releasable k f v t → a ≡ words t → l ≡ lock t k
-    l-is t p is = lock-is k t (p .valid .core) (in-range k f v t p) a is l el
+    l-is t p is = lock-is t a is k (in-range k f v t p) l el
 
     pub release-valued : SomeTables (Releasable k f v) a sa → SomeTables (Valued f v (l .resource)) a sa
     release-valued s =

@@ -9,14 +9,15 @@ use borrow.Author.Needs.{needs}
 use borrow.Author.Tests.{eqb-true, eq-eqb, ne-eqb}
 use Rattle.tables.specs.declared.Lock.{Lock}
 use Rattle.tables.specs.Lists.{within}
-use Rattle.tables.specs.State.{Tables, lock, granted, converting, waiting, holds, move}
+use Rattle.tables.specs.State.{Tables, lock, granted, converting, holds, move}
 use Rattle.tables.specs.Layout.{words, slots, locks-in, read-lock}
-use Rattle.tables.proofs.Cases.{by-cases, or-right}
+use Rattle.tables.proofs.Cases.{or-right}
 use Rattle.tables.proofs.SlotChanges.{slots-move}
-use Rattle.tables.specs.Validity.{used, Place, LockOk}
-use Rattle.tables.proofs.Valid.{ok-at, used-within, resources-length, Fits, core-move}
-use Rattle.tables.proofs.ChainMembers.{state-within}
+use Rattle.tables.specs.Validity.{used, Place, LockOk, as-granted}
+use Rattle.tables.proofs.Valid.{ok-at, used-within, resources-length, Fits, core-move, blocked-lock-place}
+use Rattle.tables.proofs.ChainMembers.{state-within, blocked-within}
 use Rattle.table_fields.specs.Sizes.{Sized}
+use Rattle.table_fields.proofs.StateWords.{core-sized, lock-high, lock-is, lock-low}
 use Rattle.rules.specs.Queues.{sweep, free-lock}
 use Rattle.rules.specs.Calls.{restored, accepted-step, cancel-change}
 use Rattle.rules.specs.Accepted.{Cancellable}
@@ -29,7 +30,6 @@ use Rattle.answers.specs.declared.Cancelled.the-variants as cancelled-cases
 use Rattle.answers.specs.Contracts.{MakesWords}
 use Rattle.call_release.specs.Contracts.{Restorable, restore}
 use Rattle.answers.proofs.Steps.{stepped}
-use Rattle.call_release.proofs.LentLock.{lock-sized, lock-low, lock-high, lock-is}
 
 -- STATES. The lock k converts
 module _ (k e : ℕ) (t : Tables) (p : Restorable k e t) where
@@ -41,12 +41,12 @@ module _ (k e : ℕ) (t : Tables) (p : Restorable k e t) where
 
   restored-ok : LockOk (used t) (restored e (lock t k))
   restored-ok =
-      record {
+      as-granted refl (record {
         place = record { in-use = place .in-use; client-low = place .client-low; client-high = place .client-high; held-mode = place .held-mode; asked-mode = omega arith };
         asks = refl;
         notice = p .notice;
         not-denied = p .not-denied;
-      }
+      })
 
   movable : Movable (lock t k .resource) k (restored e (lock t k)) t
   movable = record { core = p .core; in-range = in-range; near-old = λ z. refl; near-new = λ z. refl; ok = restored-ok }
@@ -73,17 +73,17 @@ slots-restore k e t = slots-sweep (lock t k .resource) _ ∙ slots-move (lock t 
 module _ (k e : ℕ) (a : List ℕ) where
   module _ (s : Some (Restorable k e) a) where
     pub restore-sized : Sized a
-    restore-sized = lock-sized k (s .state) (s .good .core) (in-range k e (s .state) (s .good)) a (s .is)
+    restore-sized = core-sized (s .state) a (s .is) (s .good .core)
 
     pub restore-low : 1 ≤ k
-    restore-low = lock-low k (s .state) (s .good .core) (in-range k e (s .state) (s .good)) a (s .is)
+    restore-low = lock-low (s .state) a (s .is) k (in-range k e (s .state) (s .good))
 
     pub restore-high : k ≤ locks-in a
-    restore-high = lock-high k (s .state) (s .good .core) (in-range k e (s .state) (s .good)) a (s .is)
+    restore-high = lock-high (s .state) a (s .is) k (in-range k e (s .state) (s .good))
 
   module _ (l : Lock) (el : l ≡ read-lock a k) (m : Lock) (em : m ≡ restored e l) where
     l-is : (t : Tables) → Restorable k e t → a ≡ words t → l ≡ lock t k
-    l-is t p is = lock-is k t (p .core) (in-range k e t p) a is l el
+    l-is t p is = lock-is t a is k (in-range k e t p) l el
 
     m-is : (t : Tables) → Restorable k e t → a ≡ words t → m ≡ restored e (lock t k)
     m-is t p is = em ∙ ap (λ (o : Lock). restored e o) (l-is t p is)
@@ -120,20 +120,11 @@ pub ruleset restore-laws = (needs, restore-sized, restore-low, restore-high, res
 
 -- STATES. The lock k is blocked
 module _ (k : ℕ) (t : Tables) (p : Cancellable k t) where
-  pub waits-else : converting (lock t k) ≡ false → waiting (lock t k) ≡ true
-  waits-else h = rw h at (p .is-blocked)
-
   pub blocked-there : Place (used t) (lock t k)
-  blocked-there =
-      by-cases (converting (lock t k))
-      (λ h. ok-at (used t) (lock t k) 2 (p .valid .core .lock-ok k) h .place)
-      (λ h. ok-at (used t) (lock t k) 3 (p .valid .core .lock-ok k) (waits-else h) .place)
+  blocked-there = blocked-lock-place (used t) (lock t k) (p .valid .core .lock-ok k) (p .is-blocked)
 
   pub blocked-range : within (length (t .locks)) k ≡ true
-  blocked-range =
-      by-cases (converting (lock t k))
-      (λ h. state-within t k 1 (eqb-true (lock t k .state) 2 h))
-      (λ h. state-within t k 2 (eqb-true (lock t k .state) 3 (waits-else h)))
+  blocked-range = blocked-within t k (p .is-blocked)
 
   pub blocked-resource : within (length (t .resources)) (lock t k .resource) ≡ true
   blocked-resource = used-within t (lock t k .resource) (blocked-there .in-use)
@@ -153,20 +144,20 @@ cancel-waits k t h = rw (h, cancel-change)
 module _ (k : ℕ) (a : List ℕ) where
   module _ (s : Some (Cancellable k) a) where
     pub cancel-sized : Sized a
-    cancel-sized = lock-sized k (s .state) (s .good .valid .core) (blocked-range k (s .state) (s .good)) a (s .is)
+    cancel-sized = core-sized (s .state) a (s .is) (s .good .valid .core)
 
     pub cancel-low : 1 ≤ k
-    cancel-low = lock-low k (s .state) (s .good .valid .core) (blocked-range k (s .state) (s .good)) a (s .is)
+    cancel-low = lock-low (s .state) a (s .is) k (blocked-range k (s .state) (s .good))
 
     pub cancel-high : k ≤ locks-in a
-    cancel-high = lock-high k (s .state) (s .good .valid .core) (blocked-range k (s .state) (s .good)) a (s .is)
+    cancel-high = lock-high (s .state) a (s .is) k (blocked-range k (s .state) (s .good))
 
     pub cancel-locked : Some (Locked k) a
     cancel-locked = record { state = s .state; good = locked k (s .state) (s .good); is = s .is }
 
   module _ (l : Lock) (el : l ≡ read-lock a k) where
     lock-now : (t : Tables) → Cancellable k t → a ≡ words t → l ≡ lock t k
-    lock-now t p is = lock-is k t (p .valid .core) (blocked-range k t p) a is l el
+    lock-now t p is = lock-is t a is k (blocked-range k t p) l el
 
     module _ (q : l .state ≡ 2) where
       converts-at : (t : Tables) → Cancellable k t → a ≡ words t → converting (lock t k) ≡ true

@@ -35,14 +35,11 @@ pub fn release_change(
 pub fn restored(l: Lock, completion: u32) -> Lock
     ensures { λ m. ⌜ m ≡ restored completion l ⌝ }
 {
-    Lock {
-        resource: l.resource,
-        client: l.client,
-        state: table_fields::STATE_GRANTED,
-        held: l.held,
-        asked: 0,
-        completion: completion,
-    }
+    let mut m = l;
+    m.state = table_fields::STATE_GRANTED;
+    m.asked = 0;
+    m.completion = completion;
+    m
 }
 
 // The converting lock k goes back to the grant queue at the mode that it held, and its resource is swept.

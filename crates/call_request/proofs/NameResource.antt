@@ -16,8 +16,8 @@ use Rattle.rules.specs.Queues.{find}
 use Rattle.rules.specs.Calls.{new-resource, resource-for, with-resource}
 use Rattle.rules.proofs.RequestKeepsSound.{first-member}
 use Rattle.table_fields.specs.Sizes.{Sized}
+use Rattle.table_fields.proofs.StateWords.{core-sized}
 use Rattle.table_chains.specs.Contracts.{Changes}
-use Rattle.table_chains.proofs.ChainCells.{sized-is}
 use Rattle.table_names.specs.Names.{find-in}
 use Rattle.table_names.proofs.StateNames.{find-is}
 use Rattle.queues.specs.Contracts.{SomeTables, Takes}
@@ -48,7 +48,7 @@ new-resource-is x n t e = rw e (refl, refl)
 
 module _ (n a sa : List ℕ) where
   pub house-sized : SomeTables (Nameable n) a sa → Sized a
-  house-sized s = sized-is (s .state) a (s .is) (s .good .core .resources-high) (s .good .core .locks-high)
+  house-sized s = core-sized (s .state) a (s .is) (s .good .core)
 
   module _ (x : ℕ) (ex : x ≡ find-in a sa n) where
     found-at : (t : Tables) → Nameable n t → a ≡ words t → sa ≡ slots t → x ≡ find n t

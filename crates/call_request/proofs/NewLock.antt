@@ -2,7 +2,7 @@
 use mathlib.Core.Path.{_≡_, refl, sym, _∙_, ap}
 use mathlib.Core.Bool.{Bool, true, false}
 use mathlib.Core.List.{List}
-use Prim.Native.Nat.{ℕ, _<_}
+use Prim.Native.Nat.{ℕ}
 use native.Mathlib.Omega.{arith}
 use borrow.Author.Needs.{needs}
 use Rattle.tables.specs.declared.Lock.{Lock}
@@ -10,74 +10,75 @@ use Rattle.tables.specs.State.{Tables, lock, move}
 use Rattle.tables.specs.Layout.{slots}
 use Rattle.tables.specs.Grants.{admits}
 use Rattle.tables.proofs.SlotChanges.{slots-move}
-use Rattle.tables.specs.Validity.{used, LockOk}
-use Rattle.tables.proofs.Valid.{used-within}
-use Rattle.rules.specs.Calls.{holding, queued, request-on}
+use Rattle.tables.specs.Validity.{used, LockOk, as-granted, as-waiting}
+use Rattle.rules.specs.Calls.{no-queue, holding, queued, request-on}
 use Rattle.table_chains.specs.Contracts.{Some, Tells, Movable, Moving, Moved, Resourced}
 use Rattle.answers.proofs.Steps.{stepped}
 use Rattle.answers.specs.declared.Requested.the-variants.{Granted, Waiting}
 use Rattle.answers.specs.Answers.{requested}
 use Rattle.answers.specs.Contracts.{MakesWords}
-use Rattle.call_request.specs.Contracts.{Enters}
+use Rattle.call_request.specs.Contracts.{AsksOn, Enters}
 
-module _ (r k c m : ℕ) where
-  module _ (t : Tables) (p : Enters r k c m t) where
+-- admitted
+module _ (r m f : ℕ) (a : List ℕ) where
+  pub asks-unqueued : (q : Bool) → q ≡ no-queue f → q ≡ true → Tells (AsksOn r m f) (λ t. admits t r m) a true
+  asks-unqueued q e h = record { then = λ t p is. sym (p .unqueued (sym e ∙ h)) }
+
+  pub asks-told : (x : Bool) → Tells (Resourced r) (λ t. admits t r m) a x → Tells (AsksOn r m f) (λ t. admits t r m) a x
+  asks-told x told = record { then = λ t p is. told .then t (p .here) is }
+
+pub ruleset asks-laws = (needs, asks-unqueued, asks-told)
+
+-- enter
+module _ (r k c m f : ℕ) where
+  module _ (t : Tables) (p : Enters r k c m f t) where
     enters-on : (l : Lock) → l .resource ≡ r → LockOk (used t) l → Movable r k l t
     enters-on l e ok =
-        record { core = p .core; in-range = p .in-range; near-old = λ z. absurd (z (ap (λ (o : Lock). o .resource) (p .free))); near-new = λ z. e; ok = ok }
+        record { core = p .asks .here .core; in-range = p .in-range; near-old = λ z. absurd (z (ap (λ (o : Lock). o .resource) (p .free))); near-new = λ z. e; ok = ok }
 
     enters-held : Movable r k (holding r c m) t
     enters-held =
         enters-on (holding r c m) refl
-        (record {
-          place = record { in-use = p .in-use; client-low = p .client-low; client-high = p .client-high; held-mode = p .mode; asked-mode = omega arith };
+        (as-granted refl (record {
+          place = record { in-use = p .in-use; client-low = p .client-low; client-high = p .client-high; held-mode = p .asks .mode; asked-mode = omega arith };
           asks = refl;
           notice = omega arith;
           not-denied = omega arith;
-        })
+        }))
 
     enters-queued : Movable r k (queued r c m) t
     enters-queued =
         enters-on (queued r c m) refl
-        (record {
-          place = record { in-use = p .in-use; client-low = p .client-low; client-high = p .client-high; held-mode = omega arith; asked-mode = p .mode };
+        (as-waiting refl (record {
+          place = record { in-use = p .in-use; client-low = p .client-low; client-high = p .client-high; held-mode = omega arith; asked-mode = p .asks .mode };
           notice = refl;
           holds = refl;
-        })
-
-    enters-resourced : Resourced r t
-    enters-resourced = record { core = p .core; in-range = used-within t r (p .in-use) }
+        }))
 
   module _ (a : List ℕ) where
-    pub enter-resourced : Some (Enters r k c m) a → Some (Resourced r) a
-    enter-resourced s = record { state = s .state; good = enters-resourced (s .state) (s .good); is = s .is }
-
-    pub enter-mode : Some (Enters r k c m) a → m < 6
-    enter-mode s = omega (arith, s .good .mode)
-
-    pub enter-held : (l : Lock) → l ≡ holding r c m → Some (Enters r k c m) a → Moving k l a
+    pub enter-held : (l : Lock) → l ≡ holding r c m → Some (Enters r k c m f) a → Moving k l a
     enter-held l e s = rw e (record { state = s .state; resource = r; good = enters-held (s .state) (s .good); is = s .is })
 
-    pub enter-queued : (l : Lock) → l ≡ queued r c m → Some (Enters r k c m) a → Moving k l a
+    pub enter-queued : (l : Lock) → l ≡ queued r c m → Some (Enters r k c m f) a → Moving k l a
     enter-queued l e s = rw e (record { state = s .state; resource = r; good = enters-queued (s .state) (s .good); is = s .is })
 
-    module _ (x : Bool) (told : Tells (Resourced r) (λ t. admits t r m) a x) (l : Lock) (b : List ℕ) (moved : Moved k l a b) where
-      pub enter-grants : x ≡ true → l ≡ holding r c m → MakesWords (Enters r k c m) (request-on r k c m) a b (requested (Granted k))
+    module _ (x : Bool) (told : Tells (AsksOn r m f) (λ t. admits t r m) a x) (l : Lock) (b : List ℕ) (moved : Moved k l a b) where
+      pub enter-grants : x ≡ true → l ≡ holding r c m → MakesWords (Enters r k c m f) (request-on r k c m) a b (requested (Granted k))
       unfolding request-on
       enter-grants q e = record {
         then = λ t p is.
-            let h : admits t r m ≡ true = sym (told .then t (enters-resourced t p) is) ∙ q in
+            let h : admits t r m ≡ true = sym (told .then t (p .asks) is) ∙ q in
             rw (h, request-on)
             (stepped _ 1 k (move r k (holding r c m) t) b (slots t) refl ((rw e at (moved .then r t)) (enters-held t p) is) (sym (slots-move r k (holding r c m) t)));
       }
 
-      pub enter-waits : x ≡ false → l ≡ queued r c m → MakesWords (Enters r k c m) (request-on r k c m) a b (requested (Waiting k))
+      pub enter-waits : x ≡ false → l ≡ queued r c m → MakesWords (Enters r k c m f) (request-on r k c m) a b (requested (Waiting k))
       unfolding request-on
       enter-waits q e = record {
         then = λ t p is.
-            let h : admits t r m ≡ false = sym (told .then t (enters-resourced t p) is) ∙ q in
+            let h : admits t r m ≡ false = sym (told .then t (p .asks) is) ∙ q in
             rw (h, request-on)
             (stepped _ 2 k (move r k (queued r c m) t) b (slots t) refl ((rw e at (moved .then r t)) (enters-queued t p) is) (sym (slots-move r k (queued r c m) t)));
       }
 
-pub ruleset enter-laws = (needs, enter-resourced, enter-mode, enter-held, enter-queued, enter-grants, enter-waits)
+pub ruleset enter-laws = (needs, enter-held, enter-queued, enter-grants, enter-waits)

@@ -1,16 +1,18 @@
 // A request's change, in place. It takes a lock, and if its name is new also a resource. Then it is granted or waits.
 use answers::Requested;
 use table_fields::header_word;
+use table_fields::new_lock;
 use tables::Lock;
 ghost use mathlib.Core.Path.{_≡_};
+ghost use Rattle.tables.specs.Grants.{admits};
 ghost use Rattle.rules.specs.Calls.{holding, queued, «request-on», «request-change»};
 ghost use Rattle.rules.specs.Accepted.{Requestable};
-ghost use Rattle.table_chains.specs.Contracts.{Some};
+ghost use Rattle.table_chains.specs.Contracts.{Some, Tells};
 ghost use Rattle.table_names.specs.Names.{«find-in»};
 ghost use Rattle.queues.specs.Contracts.{SomeTables};
 ghost use Rattle.answers.specs.Answers.{requested};
 ghost use Rattle.answers.specs.Contracts.{Makes, MakesWords};
-ghost use Rattle.call_request.specs.Contracts.{Nameable, Houses, Enters};
+ghost use Rattle.call_request.specs.Contracts.{Nameable, Houses, AsksOn, Enters};
 
 // The resource of that name: `found`, or if that is 0 the first free one, which takes the name.
 fn resource_for(words: &mut [u32], slots: &mut [u8], found: u32, name: &[u8]) -> u32
@@ -30,35 +32,32 @@ fn resource_for(words: &mut [u32], slots: &mut [u8], found: u32, name: &[u8]) ->
 fn holding(r: u32, client: u32, mode: u32) -> Lock
     ensures { λ l. ⌜ l ≡ holding r client mode ⌝ }
 {
-    Lock {
-        resource: r,
-        client: client,
-        state: table_fields::STATE_GRANTED,
-        held: mode,
-        asked: 0,
-        completion: table_fields::COMPLETION_NONE,
-    }
+    new_lock(r, client, table_fields::STATE_GRANTED, mode, 0)
 }
 
 fn queued(r: u32, client: u32, mode: u32) -> Lock
     ensures { λ l. ⌜ l ≡ queued r client mode ⌝ }
 {
-    Lock {
-        resource: r,
-        client: client,
-        state: table_fields::STATE_WAITING,
-        held: 0,
-        asked: mode,
-        completion: table_fields::COMPLETION_NONE,
+    new_lock(r, client, table_fields::STATE_WAITING, 0, mode)
+}
+
+// Whether the mode is admitted on r. With flag 4 it is: a request that would block has been refused.
+fn admitted(words: &[u32], r: u32, mode: u32, flags: u32) -> bool
+    requires { ⌜ Some (AsksOn r mode flags) (now words) ⌝ }
+    ensures { λ x. ⌜ Tells (AsksOn r mode flags) (λ t. admits t r mode) (now (words .entry)) x ⌝ }
+{
+    if flags::no_queue(flags) {
+        return true;
     }
+    queues::admits(words, r, mode)
 }
 
 // The lock k, which is free, becomes the client's on r: granted if the mode is admitted there, else waiting.
-fn enter(words: &mut [u32], r: u32, k: u32, client: u32, mode: u32) -> Requested
-    requires { ⌜ Some (Enters r k client mode) (now words) ⌝ }
-    ensures { λ x. ⌜ MakesWords (Enters r k client mode) (request-on r k client mode) (now (words .entry)) (now (words .exit)) (requested x) ⌝ }
+fn enter(words: &mut [u32], r: u32, k: u32, client: u32, mode: u32, flags: u32) -> Requested
+    requires { ⌜ Some (Enters r k client mode flags) (now words) ⌝ }
+    ensures { λ x. ⌜ MakesWords (Enters r k client mode flags) (request-on r k client mode) (now (words .entry)) (now (words .exit)) (requested x) ⌝ }
 {
-    if queues::admits(words, r, mode) {
+    if admitted(words, r, mode, flags) {
         table_chains::move_lock(words, k, holding(r, client, mode));
         return Requested::Granted(k);
     }
@@ -73,13 +72,14 @@ pub fn request_change(
     found: u32,
     client: u32,
     mode: u32,
+    flags: u32,
     name: &[u8],
 ) -> Requested
-    requires { ⌜ SomeTables (Requestable client mode (now name)) (now words) (now slots) ⌝ }
+    requires { ⌜ SomeTables (Requestable client mode flags (now name)) (now words) (now slots) ⌝ }
     requires { ⌜ found ≡ find-in (now words) (now slots) (now name) ⌝ }
-    ensures { λ r. ⌜ Makes (Requestable client mode (now (name .entry))) (request-change client mode (now (name .entry))) (now (words .entry)) (now (slots .entry)) (now (words .exit)) (now (slots .exit)) (requested r) ⌝ }
+    ensures { λ r. ⌜ Makes (Requestable client mode flags (now (name .entry))) (request-change client mode (now (name .entry))) (now (words .entry)) (now (slots .entry)) (now (words .exit)) (now (slots .exit)) (requested r) ⌝ }
 {
     let k = header_word(words, table_fields::FREE_LOCKS);
     let r = resource_for(words, slots, found, name);
-    enter(words, r, k, client, mode)
+    enter(words, r, k, client, mode, flags)
 }

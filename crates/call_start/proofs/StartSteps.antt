@@ -7,6 +7,7 @@ use native.Mathlib.Omega.{arith}
 use lib.ListN.{length, replicate}
 use borrow.Author.Needs.{needs}
 use borrow.Author.Tests.{not-true, not-false, leb-true, eqb-true}
+use Rattle.tables.specs.State.{most-resources, most-locks}
 use Rattle.tables.specs.Layout.{header-width, resource-width, lock-width, size, slot-width}
 use Rattle.tables.proofs.Cases.{parts}
 use Rattle.rules.specs.Entries.{lent, outcome, start-accepts, start-if, start-entry}
@@ -40,9 +41,9 @@ module _ (ws ss : List ℕ) (r l : ℕ) (x : Bool) (tested : x ≡ start-accepts
         let h = accepts in
         record {
           some-resource = leb-true 1 r (search parts depth 20);
-          few-resources = leb-true r 256 (search parts depth 20);
+          few-resources = leb-true r most-resources (search parts depth 20);
           some-lock = leb-true 1 l (search parts depth 20);
-          few-locks = leb-true l 1024 (search parts depth 20);
+          few-locks = leb-true l most-locks (search parts depth 20);
           long = e ∙ eqb-true (length ws) (size r l) (search parts depth 20);
         }
 

@@ -6,14 +6,15 @@ use native.Mathlib.Omega.{arith}
 use native.Mathlib.Nat.{mul-zero, mul-suc, add-comm}
 use lib.ListN.{getD, set, length, drop, replicate, length-set, length-replicate, getD-replicate, replicate-append-replicate}
 use lib.Seq.{getD-set-other}
-use Rattle.tables.specs.Lists.{nth, from, next}
-use Rattle.tables.specs.State.{no-lock, no-resource, lock, resource, started}
+use Rattle.tables.specs.Lists.{from, next}
+use Rattle.tables.specs.State.{no-lock, no-resource, resource, started}
 use Rattle.tables.specs.Layout.{header-width, resource-width, lock-width, Address, of-header, of-resource, of-lock, place, size, flat-map, content, words, slot-width, slot, slots}
 use Rattle.tables.proofs.Cases.{by-equal}
 use Rattle.tables.proofs.Blocks.{flat-map-same}
 use Rattle.tables.proofs.Links.{next-here, next-past, next-last}
 use Rattle.tables.specs.Threads.{Within}
 use Rattle.tables.proofs.Grid.{is-written}
+use Rattle.tables.proofs.Numbered.{started-lock, started-resource}
 use Rattle.table_names.specs.Contracts.{blank}
 use Rattle.table_names.proofs.SlotStores.{blank-slot}
 use Rattle.call_start.specs.Fresh.{headed, linked-up, fresh-words}
@@ -49,15 +50,6 @@ chain-head : (n : ℕ) → 1 ≤ n → next 0 (0 ∷ from 1 n) ≡ 1
 chain-head zero p = absurd (omega arith)
 chain-head (suc n) p = next-here 0 0 (from 1 (suc n)) refl
 
-same-in : {A : Type 0} (d : A) (n k : ℕ) → getD (replicate n d) k d ≡ d
-same-in d zero k = refl
-same-in d (suc n) zero = refl
-same-in d (suc n) (suc k) = same-in d n k
-
-fresh : {A : Type 0} (d : A) (n k : ℕ) → nth (replicate n d) k d ≡ d
-fresh d n zero = refl
-fresh d n (suc k) = same-in d n k
-
 -- the header's first words, and those past them
 header-first : (r l : ℕ) (ws : List ℕ) → 4 ≤ length ws → headed r l ws ≡ r ∷ l ∷ 1 ∷ 1 ∷ drop 4 ws
 unfolding headed
@@ -74,14 +66,6 @@ header-past r l ws i h =
     ∙ getD-set-other (set ws 0 r) 1 i l 0 (λ e. omega arith) ∙ getD-set-other ws 0 i r 0 (λ e. omega arith)
 
 module _ (r l : ℕ) where
-  started-lock : (k : ℕ) → lock (started r l) k ≡ no-lock
-  unfolding lock started
-  started-lock k = fresh no-lock l k
-
-  started-resource : (s : ℕ) → resource (started r l) s ≡ no-resource
-  unfolding resource started
-  started-resource s = fresh no-resource r s
-
   resource-count : length (started r l .resources) ≡ r
   unfolding started
   resource-count = length-replicate r no-resource
@@ -99,26 +83,26 @@ module _ (r l : ℕ) where
   header-zero (suc (suc (suc f))) = refl
 
   resource-zero : (k f : ℕ) → content (started r l) (of-resource k (suc f)) ≡ 0
-  resource-zero k zero = rw (started-resource k) (next-last 0 0)
-  resource-zero k (suc zero) = rw (started-resource k) (next-last 0 0)
-  resource-zero k (suc (suc zero)) = rw (started-resource k) (next-last 0 0)
-  resource-zero k (suc (suc (suc zero))) = rw (started-resource k)
-  resource-zero k (suc (suc (suc (suc zero)))) = rw (started-resource k)
+  resource-zero k zero = rw (started-resource r l k) (next-last 0 0)
+  resource-zero k (suc zero) = rw (started-resource r l k) (next-last 0 0)
+  resource-zero k (suc (suc zero)) = rw (started-resource r l k) (next-last 0 0)
+  resource-zero k (suc (suc (suc zero))) = rw (started-resource r l k)
+  resource-zero k (suc (suc (suc (suc zero)))) = rw (started-resource r l k)
   resource-zero k (suc (suc (suc (suc (suc f))))) = refl
 
   lock-zero : (k f : ℕ) → content (started r l) (of-lock k (suc f)) ≡ 0
   lock-zero k zero = unfold started in next-last k 0
   lock-zero k (suc zero) = unfold started in next-last k 0
-  lock-zero k (suc (suc zero)) = rw (started-lock k)
-  lock-zero k (suc (suc (suc zero))) = rw (started-lock k)
-  lock-zero k (suc (suc (suc (suc zero)))) = rw (started-lock k)
-  lock-zero k (suc (suc (suc (suc (suc zero))))) = rw (started-lock k)
-  lock-zero k (suc (suc (suc (suc (suc (suc zero)))))) = rw (started-lock k)
-  lock-zero k (suc (suc (suc (suc (suc (suc (suc zero))))))) = rw (started-lock k)
+  lock-zero k (suc (suc zero)) = rw (started-lock r l k)
+  lock-zero k (suc (suc (suc zero))) = rw (started-lock r l k)
+  lock-zero k (suc (suc (suc (suc zero)))) = rw (started-lock r l k)
+  lock-zero k (suc (suc (suc (suc (suc zero))))) = rw (started-lock r l k)
+  lock-zero k (suc (suc (suc (suc (suc (suc zero)))))) = rw (started-lock r l k)
+  lock-zero k (suc (suc (suc (suc (suc (suc (suc zero))))))) = rw (started-lock r l k)
   lock-zero k (suc (suc (suc (suc (suc (suc (suc (suc f)))))))) = refl
 
   lock-link : (k : ℕ) → content (started r l) (of-lock k 0) ≡ next k (0 ∷ from 1 l)
-  lock-link k = rw (started-lock k) (unfold started in refl)
+  lock-link k = rw (started-lock r l k) (unfold started in refl)
 
   resource-link : (k : ℕ) → content (started r l) (of-resource k 0) ≡ next k (0 ∷ from 1 r)
   unfolding started

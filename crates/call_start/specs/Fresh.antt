@@ -3,15 +3,15 @@ use mathlib.Core.Path.{_≡_}
 use mathlib.Core.List.{List}
 use Prim.Native.Nat.{ℕ, zero, suc, _+_, _*_, _≤_}
 use lib.ListN.{length, set}
-use Rattle.tables.specs.State.{started}
+use Rattle.tables.specs.State.{started, most-resources, most-locks}
 use Rattle.tables.specs.Layout.{size, words}
 
 -- what start has checked: the numbers of records are in range, and the words have the length for them
 pub record Sizes (r l : ℕ) (ws : List ℕ) : Type 0 where
   pub some-resource : 1 ≤ r
-  pub few-resources : r ≤ 256
+  pub few-resources : r ≤ most-resources
   pub some-lock : 1 ≤ l
-  pub few-locks : l ≤ 1024
+  pub few-locks : l ≤ most-locks
   pub long : length ws ≡ size r l
 
 -- R and L, and record 1 as the head of both free chains
@@ -21,7 +21,7 @@ headed r l ws = set (set (set (set ws 0 r) 1 l) 2 1) 3 1
 -- the links of n records, w apart, are all among the words
 pub record Links (first w n : ℕ) (ws : List ℕ) : Type 0 where
   pub some : 1 ≤ n
-  pub few : n ≤ 1024
+  pub few : n ≤ most-locks
   pub apart : 1 ≤ w
   pub room : first + w * n ≤ length ws
 

@@ -61,7 +61,7 @@ module _ (link : ℕ → ℕ) (q : ℕ → Bool) where
       omega arith
 
 -- a walk starts: two tests that agree walk alike
-steps-alike : (link : ℕ → ℕ) (s t : ℕ → Bool) → ((k : ℕ) → s k ≡ t k) → (n k : ℕ) → steps link s n k ≡ steps link t n k
+pub steps-alike : (link : ℕ → ℕ) (s t : ℕ → Bool) → ((k : ℕ) → s k ≡ t k) → (n k : ℕ) → steps link s n k ≡ steps link t n k
 unfolding steps
 steps-alike link s t e zero zero = refl
 steps-alike link s t e zero (suc k) = refl

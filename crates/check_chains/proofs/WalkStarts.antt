@@ -1,34 +1,100 @@
--- Where each walk starts: the whole is what is left of the chain from its head.
-use mathlib.Core.Path.{_≡_, refl}
-use mathlib.Core.Bool.{not}
+-- Where each walk starts: the whole is what is left of the chain from its head. What a walk along a chain of locks finds.
+use mathlib.Core.Path.{_≡_, refl, ap, _∙_}
+use mathlib.Core.Logic.{_≢_}
+use mathlib.Core.Bool.{Bool, true, not}
 use mathlib.Core.List.{List}
-use Prim.Native.Nat.{ℕ}
+use Prim.Native.Nat.{ℕ, _≤_}
+use lib.Dec.{eqb}
 use borrow.Author.Needs.{needs}
-use Rattle.tables.specs.State.{blocked-lock, noticed}
-use Rattle.tables.specs.Layout.{of-header, of-resource, of-lock, resources-in, locks-in, word-in, read-lock}
+use borrow.Author.Tests.{eq-eqb, ne-eqb}
+use Rattle.tables.specs.declared.Lock.{Lock}
+use Rattle.tables.specs.State.{blocked-lock, noticed, state-free, state-waiting}
+use Rattle.tables.specs.Layout.{of-header, of-resource, resources-in, locks-in, word-in, lock-link, read-lock}
 use Rattle.table_names.specs.Names.{named}
-use Rattle.check_laws.specs.Check.{free-resource-on, blocked-on, notice-on, stands, home-on, home-steps}
-use Rattle.check_chains.specs.Walks.{guarded, steps-left, free-met, blocked-met, noticed-met}
-use Rattle.check_chains.proofs.ChainWalk.{walk-start}
+use Rattle.check_laws.specs.Check.{steps, free-resource-on, blocked-on, blocked-fine, notice-on, notices-fine, stands, home-on, home-steps}
+use Rattle.check_resources.specs.Passes.{blocked-count, noticed-count}
+use Rattle.check_chains.specs.Walks.{guarded, steps-left, free-met, free-chain, blocked-chain, notice-chain, wait-chain, belongs-on, OnUsed, locks-met}
+use Rattle.check_chains.proofs.ChainWalk.{steps-alike, walk-start}
 
 pub free-start : (ws : List ℕ) → free-met ws ≡ steps-left (λ r. word-in ws (of-resource r 0)) (λ r. not (named ws r)) (resources-in ws) 0 (word-in ws (of-header 2))
 unfolding free-met free-resource-on guarded
 free-start ws = walk-start (λ r. word-in ws (of-resource r 0)) (free-resource-on ws) (λ r. not (named ws r)) (resources-in ws) (word-in ws (of-header 2)) (λ r. refl)
 
-pub blocked-start : (ws : List ℕ) → blocked-met ws ≡ steps-left (λ k. word-in ws (of-lock k 1)) (λ k. blocked-lock (read-lock ws k)) (locks-in ws) 0 (word-in ws (of-header 5))
-unfolding blocked-met blocked-on guarded
-blocked-start ws = walk-start (λ k. word-in ws (of-lock k 1)) (blocked-on ws) (λ k. blocked-lock (read-lock ws k)) (locks-in ws) (word-in ws (of-header 5)) (λ k. refl)
+pub home-start : (ws : List ℕ) (s r head : ℕ) {k : ℕ} → k ≡ head → home-steps ws s r head ≡ steps-left (lock-link ws 0) (stands ws s r) (locks-in ws) 0 k
+unfolding home-steps home-on guarded
+home-start ws s r head e = rw e (walk-start (lock-link ws 0) (home-on ws s r) (stands ws s r) (locks-in ws) head (λ k. refl))
 
-pub noticed-start : (ws : List ℕ) → noticed-met ws ≡ steps-left (λ k. word-in ws (of-lock k 2)) (λ k. noticed (read-lock ws k)) (locks-in ws) 0 (word-in ws (of-header 6))
-unfolding noticed-met notice-on guarded
-noticed-start ws = walk-start (λ k. word-in ws (of-lock k 2)) (notice-on ws) (λ k. noticed (read-lock ws k)) (locks-in ws) (word-in ws (of-header 6)) (λ k. refl)
+pub locks-start : (ws : List ℕ) (c r f k : ℕ) → locks-met ws c r f k ≡ steps-left (lock-link ws f) (belongs-on ws c r) (locks-in ws) 0 k
+unfolding locks-met
+locks-start ws c r f k = walk-start (lock-link ws f) (guarded (locks-in ws) (belongs-on ws c r)) (belongs-on ws c r) (locks-in ws) k (λ j. refl)
 
-pub home-guarded : (ws : List ℕ) (s r k : ℕ) → home-on ws s r k ≡ guarded (locks-in ws) (stands ws s r) k
-unfolding home-on guarded
-home-guarded ws s r k = refl
+pub ruleset starts = (needs, free-start, home-start, locks-start)
 
-pub home-start : (ws : List ℕ) (s r head : ℕ) {k : ℕ} → k ≡ head → home-steps ws s r head ≡ steps-left (λ k. word-in ws (of-lock k 0)) (stands ws s r) (locks-in ws) 0 k
-unfolding home-steps
-home-start ws s r head e = rw e (walk-start (λ k. word-in ws (of-lock k 0)) (home-on ws s r) (stands ws s r) (locks-in ws) head (home-guarded ws s r))
+-- belongs
+module _ (ws : List ℕ) (c r k : ℕ) {x : Bool} where
+  pub belongs-free : c ≡ free-chain → x ≡ stands ws state-free 0 k → x ≡ belongs-on ws c r k
+  unfolding belongs-on
+  belongs-free e h = rw (eq-eqb c 0 e) h
 
-pub ruleset starts = (needs, free-start, blocked-start, noticed-start, home-start)
+  module _ (n : c ≢ free-chain) where
+    pub belongs-blocked : {l : Lock} → c ≡ blocked-chain → l ≡ read-lock ws k → x ≡ blocked-lock l → x ≡ belongs-on ws c r k
+    unfolding belongs-on
+    belongs-blocked e q h = rw (ne-eqb c 0 n, eq-eqb c 1 e) (h ∙ ap blocked-lock q)
+
+    module _ (m : c ≢ blocked-chain) where
+      pub belongs-noticed : {l : Lock} → c ≡ notice-chain → l ≡ read-lock ws k → x ≡ noticed l → x ≡ belongs-on ws c r k
+      unfolding belongs-on
+      belongs-noticed e q h = rw (ne-eqb c 0 n, ne-eqb c 1 m, eq-eqb c 2 e) (h ∙ ap noticed q)
+
+      pub belongs-waiting : c ≢ notice-chain → x ≡ stands ws state-waiting r k → x ≡ belongs-on ws c r k
+      unfolding belongs-on
+      belongs-waiting o h = rw (ne-eqb c 0 n, ne-eqb c 1 m, ne-eqb c 2 o) h
+
+module _ (ws : List ℕ) (c r : ℕ) (u : OnUsed ws c r) (n : c ≢ free-chain) (m : c ≢ blocked-chain) (o : c ≢ notice-chain) where
+  pub used-low : 1 ≤ r
+  used-low = u .used n m o .0
+
+  pub used-high : r ≤ resources-in ws
+  used-high = u .used n m o .1
+
+  pub used-named : named ws r ≡ true
+  used-named = u .used n m o .2
+
+pub ruleset belonging = (needs, belongs-free, belongs-blocked, belongs-noticed, belongs-waiting, used-low, used-high, used-named)
+
+-- the chains
+module _ (ws : List ℕ) (r : ℕ) where
+  pub free-walked : OnUsed ws free-chain r
+  free-walked = record { used = λ n m o. absurd (n refl) }
+
+  pub blocked-walked : OnUsed ws blocked-chain r
+  blocked-walked = record { used = λ n m o. absurd (m refl) }
+
+  pub notices-walked : OnUsed ws notice-chain r
+  notices-walked = record { used = λ n m o. absurd (o refl) }
+
+  pub wait-walked : (1 ≤ r) × (r ≤ resources-in ws) → named ws r ≡ true → OnUsed ws wait-chain r
+  wait-walked i h = record { used = λ n m o. (i .0, i .1, h) }
+
+locks-alike : (ws : List ℕ) (c r f k : ℕ) (test : ℕ → Bool) → ((j : ℕ) → guarded (locks-in ws) (belongs-on ws c r) j ≡ test j) → locks-met ws c r f k ≡ steps (lock-link ws f) test (locks-in ws) k
+unfolding locks-met
+locks-alike ws c r f k test same = steps-alike (lock-link ws f) (guarded (locks-in ws) (belongs-on ws c r)) test same (locks-in ws) k
+
+module _ (ws : List ℕ) {x : ℕ} where
+  pub free-are : x ≡ locks-met ws free-chain 0 0 (word-in ws (of-header 3)) → x ≡ home-steps ws state-free 0 (word-in ws (of-header 3))
+  unfolding home-steps home-on guarded belongs-on
+  free-are e = e ∙ locks-alike ws 0 0 0 (word-in ws (of-header 3)) (home-on ws 0 0) (λ k. refl)
+
+  pub waiting-are : {k : ℕ} (r : ℕ) → k ≡ word-in ws (of-resource r 3) → x ≡ locks-met ws wait-chain r 0 k → x ≡ home-steps ws state-waiting r (word-in ws (of-resource r 3))
+  unfolding home-steps home-on guarded belongs-on
+  waiting-are {k} r h e = e ∙ rw h (locks-alike ws 3 r 0 (word-in ws (of-resource r 3)) (home-on ws 3 r) (λ j. refl))
+
+  pub blocked-are : {n : ℕ} → n ≡ blocked-count ws → x ≡ locks-met ws blocked-chain 0 1 (word-in ws (of-header 5)) → eqb x n ≡ blocked-fine ws
+  unfolding blocked-fine blocked-on blocked-count guarded belongs-on
+  blocked-are h e = rw (h, e, locks-alike ws 1 0 1 (word-in ws (of-header 5)) (blocked-on ws) (λ k. refl))
+
+  pub notices-are : {n : ℕ} → n ≡ noticed-count ws → x ≡ locks-met ws notice-chain 0 2 (word-in ws (of-header 6)) → eqb x n ≡ notices-fine ws
+  unfolding notices-fine notice-on noticed-count guarded belongs-on
+  notices-are h e = rw (h, e, locks-alike ws 2 0 2 (word-in ws (of-header 6)) (notice-on ws) (λ k. refl))
+
+pub ruleset chains = (needs, free-walked, blocked-walked, notices-walked, wait-walked, free-are, waiting-are, blocked-are, notices-are)

@@ -1,13 +1,10 @@
 -- Counting the steps of a chain: they are no more than there are records exactly if it ends and each record on it passes the test.
 use mathlib.Core.Path.{_≡_, refl, ap}
 use mathlib.Core.Bool.{Bool, true, false}
-use mathlib.Core.List.{List, [], _∷_}
-use Prim.Native.Nat.{ℕ, zero, suc, _-_, _≤_}
+use Prim.Native.Nat.{ℕ, zero, suc, _≤_}
 use native.Mathlib.Omega.{arith}
 use lib.ListN.{length}
-use lib.Dec.{eqb}
-use borrow.Author.Tests.{ne-eqb}
-use Rattle.tables.specs.Lists.{count, all, null}
+use Rattle.tables.specs.Lists.{count, all}
 use Rattle.tables.specs.Layout.{follow}
 use Rattle.tables.specs.Sound.{ends}
 use Rattle.tables.proofs.Cases.{by-cases, by-equal, clash, and-left, and-right, and-intro}
@@ -20,47 +17,6 @@ use Rattle.check_laws.specs.Check.{steps}
 pub record Passed (g : ℕ → ℕ) (test : ℕ → Bool) (n a : ℕ) : Type 0 where
   pub ended : ends g n a ≡ true
   pub tested : all test (follow g n a) ≡ true
-
-pub follow-short : (g : ℕ → ℕ) (n a : ℕ) → length (follow g n a) ≤ n
-unfolding follow
-follow-short g zero a = omega arith
-follow-short g (suc n) zero = omega arith
-follow-short g (suc n) (suc k) = omega (arith, follow-short g n (g (suc k)))
-
--- one step
-pub follow-zero : (g : ℕ → ℕ) (n : ℕ) → follow g n 0 ≡ []
-unfolding follow
-follow-zero g zero = refl
-follow-zero g (suc n) = refl
-
-pub follow-step : (g : ℕ → ℕ) (n k : ℕ) → 1 ≤ n → follow g n (suc k) ≡ suc k ∷ follow g (n - 1) (g (suc k))
-unfolding follow
-follow-step g zero k h = absurd (omega arith)
-follow-step g (suc n) k h = let e : suc n - 1 ≡ n = omega arith in rw e
-
-pub ends-zero : (g : ℕ → ℕ) (n : ℕ) → ends g n 0 ≡ true
-unfolding ends
-ends-zero g zero = refl
-ends-zero g (suc n) = refl
-
-pub ends-step : (g : ℕ → ℕ) (n k : ℕ) → 1 ≤ n → ends g n (suc k) ≡ ends g (n - 1) (g (suc k))
-unfolding ends
-ends-step g zero k h = absurd (omega arith)
-ends-step g (suc n) k h = let e : suc n - 1 ≡ n = omega arith in rw e
-
--- it goes by the links of records alone
-pub follow-agree : (f g : ℕ → ℕ) → ((k : ℕ) → f (suc k) ≡ g (suc k)) → (n a : ℕ) → follow f n a ≡ follow g n a
-unfolding follow
-follow-agree f g e zero a = refl
-follow-agree f g e (suc n) zero = refl
-follow-agree f g e (suc n) (suc k) = rw (e k) (ap (λ (xs : List ℕ). suc k ∷ xs) (follow-agree f g e n (g (suc k))))
-
--- a chain is empty exactly if its first is zero
-pub follow-null : (g : ℕ → ℕ) (n a : ℕ) → 1 ≤ n → null (follow g n a) ≡ eqb a 0
-unfolding follow
-follow-null g zero a h = absurd (omega arith)
-follow-null g (suc n) zero h = refl
-follow-null g (suc n) (suc k) h = rw (ne-eqb (suc k) 0 (omega arith))
 
 module _ (g : ℕ → ℕ) (n a : ℕ) (h : ends g n a ≡ true) where
   pub once : (j : ℕ) → count j (follow g n a) ≤ 1

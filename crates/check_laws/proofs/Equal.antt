@@ -3,8 +3,8 @@ use mathlib.Core.Path.{_≡_}
 use mathlib.Core.List.{List}
 use Prim.Native.Nat.{ℕ}
 use Rattle.tables.specs.Sound.{sound}
+use Rattle.tables.proofs.Cases.{same-truth}
 use Rattle.check_laws.specs.Check.{check}
-use Rattle.check_laws.proofs.HeldModes.{same-truth}
 use Rattle.check_laws.proofs.PassedAreSound.{check-sound}
 use Rattle.check_laws.proofs.SoundArePassed.{sound-check}
 

@@ -14,18 +14,15 @@ use Rattle.tables.specs.State.{Resource, lock, resource, Queue, grants, convert
 use Rattle.tables.specs.Layout.{resources-in, locks-in, follow, read-chain, read-lock, read-resource, read}
 use Rattle.tables.specs.Grants.{holders, fits, convert-grantable, admits, wait-grantable, grantable-head, no-grantable-head}
 use Rattle.tables.specs.Sound.{holders-compatible}
-use Rattle.tables.proofs.Cases.{by-equal, eqb-same, and-left, and-right, or-left, or-right, parts}
-use Rattle.tables.proofs.Counts.{count-same, count-step, count-append, all-at, all-intro, all-cong, by-append}
-use Rattle.tables.specs.Threads.{Each}
+use Rattle.tables.proofs.Cases.{by-equal, eqb-same, and-left, and-right, or-left, or-right, parts, same-truth}
+use Rattle.tables.proofs.Counts.{count-same, count-step, count-append, all-at, all-intro, all-cong, by-append, head-in}
 use Rattle.tables.proofs.ReadState.{resource-of, lock-of}
+use Rattle.tables.proofs.FollowedChains.{follow-zero, follow-step}
+use Rattle.tables.proofs.ThreadedChains.{each-counted}
 use Rattle.check_laws.specs.Check.{lock-fine, stands, home-on, heads-wait}
-use Rattle.check_laws.proofs.ChainSteps.{follow-zero, follow-step, once, member}
-use Rattle.check_laws.proofs.HeldModes.{same-truth, all-append, all-true, all-each, gather, fitting, pairs, Low, gather-small, gather-fits, fitting-is, beside-is, pairs-append, pairs-true, true-pairs}
+use Rattle.check_laws.proofs.ChainSteps.{once, member}
+use Rattle.check_laws.proofs.HeldModes.{all-append, all-true, all-each, gather, fitting, pairs, Low, gather-small, gather-fits, fitting-is, beside-is, pairs-append, pairs-true, true-pairs}
 use Rattle.check_laws.proofs.ResourceWalk.{held-in, asked-in, link-of, head-of, queue-in, Right, convert-fit, others}
-
-pub each-of : (P : ℕ → Type 0) (xs : List ℕ) → ((k : ℕ) → 1 ≤ count k xs → P k) → Each P xs
-each-of P [] h = tt
-each-of P (x ∷ xs) h = (h x (omega (arith, count-same x xs)), each-of P xs (λ k m. h k (omega (arith, count-step k x xs))))
 
 assoc : (a b c : Bool) → (a && (b && c)) ≡ ((a && b) && c)
 assoc true b c = refl
@@ -42,12 +39,12 @@ module _ (held : ℕ → ℕ) (gs : List ℕ) (low : Low held gs) where
       gather-fits held (gather held 0 gs) a cs (gather-small held 0 gs (omega arith) low) p e
       ∙ (rw (gathered a p) (sym (all-append (λ j. compatible (held j) a) gs cs)))
 
-  grants-fit : fitting held 0 gs ≡ pairs held gs
+  grants-fit : fitting fits-set held 0 gs ≡ pairs held gs
   grants-fit =
       fitting-is held 0 gs (omega arith) low
       ∙ (rw (all-each (λ k. fits-set 0 (held k)) (λ k. true) (λ k. held k ≤ 5) gs low (λ k l. fits-none (held k) (omega arith)), all-true gs))
 
-  pub fit-pairs : (cs : List ℕ) → Low held cs → (fitting held 0 gs && convert-fit held (gather held 0 gs) cs) ≡ pairs held (gs ++ cs)
+  pub fit-pairs : (cs : List ℕ) → Low held cs → (fitting fits-set held 0 gs && convert-fit held (gather held 0 gs) cs) ≡ pairs held (gs ++ cs)
   unfolding convert-fit pairs all
   fit-pairs [] e = rw (grants-fit, pairs-append held gs [])
   fit-pairs (c ∷ cs) e =
@@ -132,10 +129,10 @@ module _ (ws ss : List ℕ) (r : ℕ) (from-one : 1 ≤ r) (to-last : r ≤ reso
 
   module _ (some : 1 ≤ locks-in ws) (modes : ModesLow ws) (g : Right ws r grants 1) (c : Right ws r converts 2) (w : Right ws r waits 3) where
     held-low : (q : Queue) (s : ℕ) → Right ws r q s → Low (held-in ws) (queue-in ws r q)
-    held-low q s p = each-of (λ k. held-in ws k ≤ 5) (queue-in ws r q) (λ k m. let i = queue-member ws r q s p k m in modes k (i .0) (i .1) .0)
+    held-low q s p = each-counted (λ k. held-in ws k ≤ 5) (queue-in ws r q) (λ k m. let i = queue-member ws r q s p k m in modes k (i .0) (i .1) .0)
 
     asked-low : (q : Queue) (s : ℕ) → Right ws r q s → Low (asked-in ws) (queue-in ws r q)
-    asked-low q s p = each-of (λ k. asked-in ws k ≤ 5) (queue-in ws r q) (λ k m. let i = queue-member ws r q s p k m in modes k (i .0) (i .1) .1)
+    asked-low q s p = each-counted (λ k. asked-in ws k ≤ 5) (queue-in ws r q) (λ k m. let i = queue-member ws r q s p k m in modes k (i .0) (i .1) .1)
 
     apart : (j : ℕ) → 1 ≤ count j (queue-in ws r grants) → 1 ≤ count j (queue-in ws r converts) → ⊥
     apart j m n = omega (arith, home-state ws 1 r j (queue-member ws r grants 1 g j m .2), home-state ws 2 r j (queue-member ws r converts 2 c j n .2))
@@ -196,15 +193,15 @@ module _ (ws ss : List ℕ) (r : ℕ) (from-one : 1 ≤ r) (to-last : r ≤ reso
         p2 : ℕ → Bool
         p2 i = compatible (held-in ws i) (asked-in ws j)
 
-        head-in : 1 ≤ count j (queue-in ws r converts)
-        head-in = rw (e, count-same) (omega arith)
+        stands-first : 1 ≤ count j (queue-in ws r converts)
+        stands-first = head-in (queue-in ws r converts) j js e
 
         head-lock : lock (read ws ss) j ≡ read-lock ws j
-        head-lock = holder-lock j (rw count-append (omega (arith, head-in)))
+        head-lock = holder-lock j (rw count-append (omega (arith, stands-first)))
 
         in-grants : (i : ℕ) → 1 ≤ count i (queue-in ws r grants) → p i ≡ p2 i
         in-grants i m =
-            rw (ne-eqb i j (λ q. apart i m (rw q head-in)), head-lock, holder-lock i (rw count-append (omega arith)))
+            rw (ne-eqb i j (λ q. apart i m (rw q stands-first)), head-lock, holder-lock i (rw count-append (omega arith)))
 
         in-tail : (i : ℕ) → 1 ≤ count i js → p i ≡ p2 i
         in-tail i m =
@@ -240,7 +237,7 @@ module _ (ws ss : List ℕ) (r : ℕ) (from-one : 1 ≤ r) (to-last : r ≤ reso
         go (j ∷ js) (k ∷ ks) e f = rw (wait-behind k j js e) (and-true (not (convert-grantable (read ws ss) r j)) ∙ ap not (convert-fits j js e))
 
     -- SO the walk's tests are the state's
-    pub fit-is : (fitting (held-in ws) 0 (queue-in ws r grants) && convert-fit (held-in ws) (gather (held-in ws) 0 (queue-in ws r grants)) (queue-in ws r converts)) ≡ holders-compatible (read ws ss) r
+    pub fit-is : (fitting fits-set (held-in ws) 0 (queue-in ws r grants) && convert-fit (held-in ws) (gather (held-in ws) 0 (queue-in ws r grants)) (queue-in ws r converts)) ≡ holders-compatible (read ws ss) r
     fit-is = fit-pairs (held-in ws) (queue-in ws r grants) (held-low grants 1 g) (queue-in ws r converts) (held-low converts 2 c) ∙ sym compatible-is
 
     pub heads-are : heads-wait ws r (gather (held-in ws) 0 (queue-in ws r grants)) (others (held-in ws) (gather (held-in ws) 0 (queue-in ws r grants)) (queue-in ws r converts)) ≡ no-grantable-head (read ws ss) r

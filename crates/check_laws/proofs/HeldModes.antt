@@ -1,7 +1,7 @@
 -- Held modes along a chain: each fits the set of those before it exactly if they are pairwise compatible.
 use mathlib.Core.Path.{_≡_, refl, sym, _∙_}
 use mathlib.Core.Logic.{_≢_}
-use mathlib.Core.Bool.{Bool, true, false, _&&_, and-true}
+use mathlib.Core.Bool.{Bool, true, _&&_, and-true, and-assoc}
 use mathlib.Core.List.{List, [], _∷_, _++_}
 use Prim.Native.Nat.{ℕ, _≤_, _<_}
 use native.Mathlib.Omega.{arith}
@@ -9,16 +9,12 @@ use Rattle.modes.specs.Modes.{compatible}
 use Rattle.modes.specs.Sets.{fits-set, with-mode}
 use Rattle.modes.proofs.Laws.{compatible-sym, fits-with, with-mode-small}
 use Rattle.tables.specs.Lists.{count, all}
-use Rattle.tables.proofs.Cases.{by-equal, and-left, and-right, and-intro, parts}
+use Rattle.tables.proofs.Cases.{by-equal, and-left, and-right, and-intro, parts, same-truth}
 use Rattle.tables.proofs.Counts.{count-nil, count-same, count-other, count-step, all-at, all-intro}
 use Rattle.tables.specs.Threads.{Each}
+use Rattle.check_laws.specs.Check.{fits-beside}
 
 -- TESTS that say the same
-pub same-truth : (a b : Bool) → (a ≡ true → b ≡ true) → (b ≡ true → a ≡ true) → a ≡ b
-same-truth true b f g = sym (f refl)
-same-truth false true f g = g refl
-same-truth false false f g = refl
-
 four : (a b c d : Bool) → ((a && b) && (c && d)) ≡ ((a && c) && (b && d))
 four a b c d =
     same-truth _ _
@@ -61,18 +57,14 @@ unfolding all
 all-each p q P [] e h = refl
 all-each p q P (x ∷ xs) e h = rw (h x (e .0), all-each p q P xs (e .1) h)
 
--- the set with the modes of a chain; each fits those before it; each fits those before it and h; pairwise compatible
+-- the set with the modes of a chain; each fits those before it; pairwise compatible
 unfoldable pub gather : (ℕ → ℕ) → ℕ → List ℕ → ℕ
 gather held s [] = s
 gather held s (k ∷ ks) = gather held (with-mode s (held k)) ks
 
-unfoldable pub fitting : (ℕ → ℕ) → ℕ → List ℕ → Bool
-fitting held s [] = true
-fitting held s (k ∷ ks) = fits-set s (held k) && fitting held (with-mode s (held k)) ks
-
-unfoldable pub beside : (ℕ → ℕ) → ℕ → ℕ → List ℕ → Bool
-beside held h s [] = true
-beside held h s (k ∷ ks) = fits-set (with-mode s h) (held k) && beside held h (with-mode s (held k)) ks
+unfoldable pub fitting : (ℕ → ℕ → Bool) → (ℕ → ℕ) → ℕ → List ℕ → Bool
+fitting fit held s [] = true
+fitting fit held s (k ∷ ks) = fit s (held k) && fitting fit held (with-mode s (held k)) ks
 
 unfoldable pub pairs : (ℕ → ℕ) → List ℕ → Bool
 pairs held [] = true
@@ -92,11 +84,7 @@ module _ (held : ℕ → ℕ) where
   gather-fits s a [] p q e = sym (and-true (fits-set s a))
   gather-fits s a (k ∷ ks) p q e =
       gather-fits (with-mode s (held k)) a ks (with-mode-small s (held k) p (omega (arith, e .0))) q (e .1)
-      ∙ (rw (fits-with s (held k) a p (omega (arith, e .0)) (omega arith)) (assoc (fits-set s a) (compatible (held k) a) (all (λ k. compatible (held k) a) ks)))
-    where
-      assoc : (a b c : Bool) → ((a && b) && c) ≡ (a && (b && c))
-      assoc true b c = refl
-      assoc false b c = refl
+      ∙ (rw (fits-with s (held k) a p (omega (arith, e .0)) (omega arith)) (and-assoc (fits-set s a) (compatible (held k) a) (all (λ k. compatible (held k) a) ks)))
 
   -- the locks behind k each fit the set with k's mode
   fits-more : (s m : ℕ) (ks : List ℕ) → s < 64 → m ≤ 5 → Low ks →
@@ -106,7 +94,7 @@ module _ (held : ℕ → ℕ) where
       (λ j l. fits-with s m (held j) p (omega arith) (omega arith))
       ∙ all-and (λ j. fits-set s (held j)) (λ j. compatible m (held j)) ks
 
-  pub fitting-is : (s : ℕ) (xs : List ℕ) → s < 64 → Low xs → fitting held s xs ≡ (all (λ k. fits-set s (held k)) xs && pairs held xs)
+  pub fitting-is : (s : ℕ) (xs : List ℕ) → s < 64 → Low xs → fitting fits-set held s xs ≡ (all (λ k. fits-set s (held k)) xs && pairs held xs)
   unfolding fitting pairs all
   fitting-is s [] p e = refl
   fitting-is s (k ∷ ks) p e =
@@ -114,8 +102,8 @@ module _ (held : ℕ → ℕ) where
       (three (fits-set s (held k)) (all (λ j. fits-set s (held j)) ks) (all (λ j. compatible (held k) (held j)) ks) (pairs held ks))
 
   pub beside-is : (h s : ℕ) (xs : List ℕ) → h ≤ 5 → s < 64 → Low xs →
-      beside held h s xs ≡ (all (λ k. fits-set s (held k)) xs && (all (λ k. compatible h (held k)) xs && pairs held xs))
-  unfolding beside pairs all
+      fitting (fits-beside h) held s xs ≡ (all (λ k. fits-set s (held k)) xs && (all (λ k. compatible h (held k)) xs && pairs held xs))
+  unfolding fitting fits-beside pairs all
   beside-is h s [] q p e = refl
   beside-is h s (k ∷ ks) q p e =
       rw (

@@ -6,11 +6,11 @@ use Prim.Native.Nat.{ℕ, _+_, _≤_}
 use native.Mathlib.Omega.{arith}
 use lib.ListN.{length, length-append}
 use borrow.Author.Tests.{eqb-true, eq-eqb}
-use Rattle.tables.specs.Lists.{within, count, from}
+use Rattle.tables.specs.Lists.{count, from}
 use Rattle.tables.specs.State.{grants, converts, waits, free-locks, denied, of-locks}
-use Rattle.tables.specs.Layout.{of-header, of-lock, flat-map, resources-in, locks-in, word-in, link-in, follow}
+use Rattle.tables.specs.Layout.{of-header, flat-map, resources-in, locks-in, word-in, link-in, follow, lock-link}
 use Rattle.tables.proofs.Cases.{by-equal}
-use Rattle.tables.proofs.Counts.{within-le, le-within, count-nil, count-same, count-other, count-step, count-from, bit-one}
+use Rattle.tables.proofs.Counts.{le-within, count-nil, count-same, count-other, count-step, count-from, from-in}
 use Rattle.check_laws.specs.Check.{home-on, home-steps, queues-walk, homes-fine}
 use Rattle.check_laws.proofs.ChainSteps.{Passed, steps-passed, passed-steps}
 use Rattle.check_laws.proofs.ResourceWalk.{queue-in, Walked, walk-met, walk-is}
@@ -37,9 +37,6 @@ pub record Homes (ws : List ℕ) : Type 0 where
 in-from : (n r : ℕ) → 1 ≤ r → r ≤ n → 1 ≤ count r (from 1 n)
 in-from n r p q = rw (count-from n r, le-within n r p q) (omega arith)
 
-pub from-in : (n r : ℕ) → 1 ≤ count r (from 1 n) → (1 ≤ r) × (r ≤ n)
-from-in n r m = within-le n r (bit-one (within n r) (rw (count-from n r) at m))
-
 module _ (ws : List ℕ) (some : 1 ≤ locks-in ws) where
   three-length : (r : ℕ) → length (three-in ws r) ≡ length (queue-in ws r grants) + length (queue-in ws r converts) + length (queue-in ws r waits)
   unfolding three-in
@@ -63,19 +60,19 @@ module _ (ws : List ℕ) (some : 1 ≤ locks-in ws) where
 
   free-passed : home-steps ws 0 0 (word-in ws (of-header 3)) ≤ locks-in ws → Passed (link-in ws (of-locks free-locks)) (home-on ws 0 0) (locks-in ws) (word-in ws (of-header 3))
   unfolding home-steps
-  free-passed h = steps-passed (λ k. word-in ws (of-lock k 0)) (link-in ws (of-locks free-locks)) (λ k. refl) (home-on ws 0 0) (locks-in ws) (word-in ws (of-header 3)) h .0
+  free-passed h = steps-passed (lock-link ws 0) (link-in ws (of-locks free-locks)) (λ k. refl) (home-on ws 0 0) (locks-in ws) (word-in ws (of-header 3)) h .0
 
   free-steps : Passed (link-in ws (of-locks free-locks)) (home-on ws 0 0) (locks-in ws) (word-in ws (of-header 3)) → home-steps ws 0 0 (word-in ws (of-header 3)) ≡ length (free-in ws)
   unfolding home-steps free-in
-  free-steps p = passed-steps (λ k. word-in ws (of-lock k 0)) (link-in ws (of-locks free-locks)) (λ k. refl) (home-on ws 0 0) (locks-in ws) (word-in ws (of-header 3)) p
+  free-steps p = passed-steps (lock-link ws 0) (link-in ws (of-locks free-locks)) (λ k. refl) (home-on ws 0 0) (locks-in ws) (word-in ws (of-header 3)) p
 
   denied-passed : home-steps ws 4 0 (word-in ws (of-header 4)) ≤ locks-in ws → Passed (link-in ws (of-locks denied)) (home-on ws 4 0) (locks-in ws) (word-in ws (of-header 4))
   unfolding home-steps
-  denied-passed h = steps-passed (λ k. word-in ws (of-lock k 0)) (link-in ws (of-locks denied)) (λ k. refl) (home-on ws 4 0) (locks-in ws) (word-in ws (of-header 4)) h .0
+  denied-passed h = steps-passed (lock-link ws 0) (link-in ws (of-locks denied)) (λ k. refl) (home-on ws 4 0) (locks-in ws) (word-in ws (of-header 4)) h .0
 
   pub denied-steps : Passed (link-in ws (of-locks denied)) (home-on ws 4 0) (locks-in ws) (word-in ws (of-header 4)) → home-steps ws 4 0 (word-in ws (of-header 4)) ≡ length (denied-in ws)
   unfolding home-steps denied-in
-  denied-steps p = passed-steps (λ k. word-in ws (of-lock k 0)) (link-in ws (of-locks denied)) (λ k. refl) (home-on ws 4 0) (locks-in ws) (word-in ws (of-header 4)) p
+  denied-steps p = passed-steps (lock-link ws 0) (link-in ws (of-locks denied)) (λ k. refl) (home-on ws 4 0) (locks-in ws) (word-in ws (of-header 4)) p
 
   module _ (f : Passed (link-in ws (of-locks free-locks)) (home-on ws 0 0) (locks-in ws) (word-in ws (of-header 3)))
       (d : Passed (link-in ws (of-locks denied)) (home-on ws 4 0) (locks-in ws) (word-in ws (of-header 4)))

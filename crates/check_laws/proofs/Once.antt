@@ -13,8 +13,9 @@ use Rattle.tables.specs.Lists.{within, count, bit, from}
 use Rattle.tables.specs.State.{granted, converting, waiting, Queue, grants, converts, waits, denied}
 use Rattle.tables.specs.Layout.{flat-map, resources-in, locks-in, follow, read-lock}
 use Rattle.tables.proofs.Cases.{by-cases, by-equal, clash, and-intro}
-use Rattle.tables.proofs.Counts.{within-le, le-within, count-nil, count-same, count-step, count-append, count-from, bit-one}
+use Rattle.tables.proofs.Counts.{within-le, le-within, count-nil, count-same, count-step, count-append, count-from, bit-le, from-in}
 use Rattle.tables.proofs.Pigeonhole.{length-from, all-of, same-length}
+use Rattle.tables.proofs.ChainMembers.{on-queue, three-queues}
 use Rattle.check_laws.specs.Check.{lock-fine, home-on}
 use Rattle.check_laws.proofs.ChainSteps.{Passed, once, member}
 use Rattle.check_laws.proofs.ResourceWalk.{link-of, head-of, queue-in, Right, Walked}
@@ -27,9 +28,6 @@ state-of grants = 1
 state-of converts = 2
 state-of waits = 3
 
-unfoldable pub on-queue : Lock → Bool
-on-queue l = granted l || (converting l || waiting l)
-
 -- what a lock's record says of the home chains is what they have
 pub record Stands (ws : List ℕ) (k : ℕ) : Type 0 where
   pub free : count k (free-in ws) ≡ bit (eqb (read-lock ws k .state) 0)
@@ -37,19 +35,6 @@ pub record Stands (ws : List ℕ) (k : ℕ) : Type 0 where
   pub queued : (r : ℕ) → 1 ≤ r → r ≤ resources-in ws → (q : Queue) → count k (queue-in ws r q) ≡ bit (eqb (read-lock ws k .state) (state-of q) && eqb (read-lock ws k .resource) r)
 
 -- a lock stands on one chain of one resource at most, or is free, or denied
-three : (l : Lock) (e : Bool) → bit (granted l && e) + (bit (converting l && e) + bit (waiting l && e)) ≡ bit (on-queue l && e)
-unfolding on-queue
-three l e =
-    by-cases (granted l)
-    (λ g. rw (eqb-true (l .state) 1 g) (omega arith))
-    (λ g. by-cases (converting l)
-    (λ c. rw (eqb-true (l .state) 2 c) (omega arith))
-    (λ c. rw (g, c) (omega arith)))
-
-bit-le : (b : Bool) → bit b ≤ 1
-bit-le true = omega arith
-bit-le false = omega arith
-
 one-home : (l : Lock) → bit (eqb (l .state) 0) + (bit (eqb (l .state) 4) + bit (on-queue l)) ≤ 1
 unfolding on-queue
 one-home l =
@@ -129,9 +114,6 @@ module _ (ws : List ℕ) (k : ℕ) where
   from-once : (n s : ℕ) → count s (from 1 n) ≤ 1
   from-once n s = rw (count-from n s) (bit-le (within n s))
 
-  from-in : (r : ℕ) → 1 ≤ count r (from 1 (resources-in ws)) → (1 ≤ r) × (r ≤ resources-in ws)
-  from-in r m = within-le (resources-in ws) r (bit-one (within (resources-in ws) r) (rw (count-from (resources-in ws) r) at m))
-
   -- FROM LENGTHS TO COUNTS
   module _ (h : Homes ws) where
     free-le : count k (free-in ws) ≤ bit (eqb (read-lock ws k .state) 0)
@@ -153,11 +135,11 @@ module _ (ws : List ℕ) (k : ℕ) where
         let x = queue-le r a b grants in
         let y = queue-le r a b converts in
         let z = queue-le r a b waits in
-        omega (arith, three-count r, three (read-lock ws k) (eqb (read-lock ws k .resource) r))
+        omega (arith, three-count r, three-queues (read-lock ws k) (eqb (read-lock ws k .resource) r))
 
     rows-le : count k (flat-map (three-in ws) (from 1 (resources-in ws))) ≤ bit (on-queue (read-lock ws k))
     rows-le =
-        let a = flat-le (three-in ws) k (on-queue (read-lock ws k)) (read-lock ws k .resource) (from 1 (resources-in ws)) (λ r m. let i = from-in r m in three-le r (i .0) (i .1)) in
+        let a = flat-le (three-in ws) k (on-queue (read-lock ws k)) (read-lock ws k .resource) (from 1 (resources-in ws)) (λ r m. let i = from-in (resources-in ws) r m in three-le r (i .0) (i .1)) in
         by-cases (on-queue (read-lock ws k))
         (λ y. rw y (omega (arith, rw y at a, from-once (resources-in ws) (read-lock ws k .resource))))
         (λ y. rw y (omega (arith, rw y at a)))
@@ -166,7 +148,7 @@ module _ (ws : List ℕ) (k : ℕ) where
     outside w =
         let a : count k (free-in ws) ≡ 0 = unfold free-in in passed-out _ (home-on ws 0 0) (locks-in ws) _ (h .free) (home-low ws 0 0) k w in
         let b : count k (denied-in ws) ≡ 0 = unfold denied-in in passed-out _ (home-on ws 4 0) (locks-in ws) _ (h .denied) (home-low ws 4 0) k w in
-        omega (arith, homes-count, flat-none (three-in ws) k (from 1 (resources-in ws)) (λ r m. let i = from-in r m in omega (arith, three-count r, off r (i .0) (i .1) grants, off r (i .0) (i .1) converts, off r (i .0) (i .1) waits)))
+        omega (arith, homes-count, flat-none (three-in ws) k (from 1 (resources-in ws)) (λ r m. let i = from-in (resources-in ws) r m in omega (arith, three-count r, off r (i .0) (i .1) grants, off r (i .0) (i .1) converts, off r (i .0) (i .1) waits)))
       where
         off : (r : ℕ) → 1 ≤ r → r ≤ resources-in ws → (q : Queue) → count k (queue-in ws r q) ≡ 0
         off r a b q = unfold queue-in in passed-out (link-of ws r q) (home-on ws (state-of q) r) (locks-in ws) (head-of ws r q) (right-at ws r (h .walked r a b) q) (home-low ws (state-of q) r) k w
@@ -193,7 +175,7 @@ module _ (ws : List ℕ) (k : ℕ) where
           rw w at free-unfit,
           rw w at denied-unfit,
           flat-none (three-in ws) k (from 1 (resources-in ws))
-              (λ r m. let i = from-in r m in omega (arith, three-count r, off r (i .0) (i .1) grants, off r (i .0) (i .1) converts, off r (i .0) (i .1) waits)),
+              (λ r m. let i = from-in (resources-in ws) r m in omega (arith, three-count r, off r (i .0) (i .1) grants, off r (i .0) (i .1) converts, off r (i .0) (i .1) waits)),
         )
       where
         off : (r : ℕ) → 1 ≤ r → r ≤ resources-in ws → (q : Queue) → count k (queue-in ws r q) ≤ 0
@@ -223,7 +205,7 @@ module _ (ws : List ℕ) (h : Homes ws) (total : length (homes-in ws) ≡ locks-
       all-here : read-lock ws k .resource ≡ r → bit (on-queue (read-lock ws k) && eqb (read-lock ws k .resource) r) ≤ count k (three-in ws r)
       all-here e =
           let rows = in-rows in
-          let part = flat-at (three-in ws) k r (from 1 (resources-in ws)) (λ s m n. let i = from-in ws k s m in nothing s (i .0) (i .1) (λ d. n (sym d ∙ e))) (from-once ws k (resources-in ws) r) in
+          let part = flat-at (three-in ws) k r (from 1 (resources-in ws)) (λ s m n. let i = from-in (resources-in ws) s m in nothing s (i .0) (i .1) (λ d. n (sym d ∙ e))) (from-once ws k (resources-in ws) r) in
           rw (eq-eqb (read-lock ws k .resource) r e) (by-cases (on-queue (read-lock ws k)) (λ y. rw y (omega (arith, rw y at rows))) (λ y. rw y (omega arith)))
 
       all-away : (read-lock ws k .resource ≡ r → ⊥) → bit (on-queue (read-lock ws k) && eqb (read-lock ws k .resource) r) ≤ count k (three-in ws r)
@@ -236,9 +218,9 @@ module _ (ws : List ℕ) (h : Homes ws) (total : length (homes-in ws) ≡ locks-
           at-least = by-equal (read-lock ws k .resource) r all-here all-away
 
           go : (q : Queue) → count k (queue-in ws r q) ≡ bit (eqb (read-lock ws k .state) (state-of q) && eqb (read-lock ws k .resource) r)
-          go grants = omega (arith, at-least, three-count ws k r, three (read-lock ws k) (eqb (read-lock ws k .resource) r), queue-le ws k h r a b grants, queue-le ws k h r a b converts, queue-le ws k h r a b waits)
-          go converts = omega (arith, at-least, three-count ws k r, three (read-lock ws k) (eqb (read-lock ws k .resource) r), queue-le ws k h r a b grants, queue-le ws k h r a b converts, queue-le ws k h r a b waits)
-          go waits = omega (arith, at-least, three-count ws k r, three (read-lock ws k) (eqb (read-lock ws k .resource) r), queue-le ws k h r a b grants, queue-le ws k h r a b converts, queue-le ws k h r a b waits)
+          go grants = omega (arith, at-least, three-count ws k r, three-queues (read-lock ws k) (eqb (read-lock ws k .resource) r), queue-le ws k h r a b grants, queue-le ws k h r a b converts, queue-le ws k h r a b waits)
+          go converts = omega (arith, at-least, three-count ws k r, three-queues (read-lock ws k) (eqb (read-lock ws k .resource) r), queue-le ws k h r a b grants, queue-le ws k h r a b converts, queue-le ws k h r a b waits)
+          go waits = omega (arith, at-least, three-count ws k r, three-queues (read-lock ws k) (eqb (read-lock ws k .resource) r), queue-le ws k h r a b grants, queue-le ws k h r a b converts, queue-le ws k h r a b waits)
 
     pub each-fine : lock-fine ws k ≡ true
     each-fine =
@@ -258,14 +240,14 @@ module _ (ws : List ℕ) (h : Homes ws) (stands : (k : ℕ) → 1 ≤ k → k �
   three-is : (k : ℕ) → 1 ≤ k → k ≤ locks-in ws → (r : ℕ) → 1 ≤ r → r ≤ resources-in ws → count k (three-in ws r) ≡ bit (on-queue (read-lock ws k) && eqb (read-lock ws k .resource) r)
   three-is k p q r a b =
       let s = stands k p q in
-      omega (arith, three-count ws k r, three (read-lock ws k) (eqb (read-lock ws k .resource) r), s .queued r a b grants, s .queued r a b converts, s .queued r a b waits)
+      omega (arith, three-count ws k r, three-queues (read-lock ws k) (eqb (read-lock ws k .resource) r), s .queued r a b grants, s .queued r a b converts, s .queued r a b waits)
 
   once-each : (k : ℕ) → count k (homes-in ws) ≡ count k (from 1 (locks-in ws))
   once-each k =
       rw (count-from (locks-in ws) k) (by-cases (within (locks-in ws) k)
       (λ w. let i = within-le (locks-in ws) k w in
       let s = stands k (i .0) (i .1) in
-      let rows = flat-is (three-in ws) k (on-queue (read-lock ws k)) (read-lock ws k .resource) (from 1 (resources-in ws)) (λ r m. let j = from-in ws k r m in three-is k (i .0) (i .1) r (j .0) (j .1)) in
+      let rows = flat-is (three-in ws) k (on-queue (read-lock ws k)) (read-lock ws k .resource) (from 1 (resources-in ws)) (λ r m. let j = from-in (resources-in ws) r m in three-is k (i .0) (i .1) r (j .0) (j .1)) in
       let one = home k (i .0) (i .1) in
       rw w (omega (arith, homes-count ws k, s .free, s .denied, rw (count-from (resources-in ws) (read-lock ws k .resource)) at rows)))
       (λ w. rw w (outside ws k h w)))

@@ -13,16 +13,18 @@ use Rattle.tables.specs.Layout.{of-header, of-resource, of-lock, slot-width, re
 use Rattle.tables.specs.Grants.{no-grantable-head}
 use Rattle.tables.specs.Sound.{sizes-right, zeros-right, resource-index, lock-index, indices-right, chain-ends, chains-end, resource-right, stands-right, home-right, fields-right, lock-right, linked-right, holders-compatible, state-right, sound}
 use Rattle.tables.proofs.Cases.{by-cases, eqb-same, and-left, and-right, and-intro, parts}
-use Rattle.tables.specs.Validity.{used, Place, StateOk}
-use Rattle.tables.proofs.ReadState.{resources-read, lock-of}
+use Rattle.tables.specs.Validity.{used, Place}
+use Rattle.tables.proofs.StateCases.{StateOk}
+use Rattle.tables.proofs.ReadState.{resources-read, lock-of, used-in}
 use Rattle.tables.proofs.Conditions.{each-at, each-intro}
 use Rattle.tables.proofs.Fields.{fields-are}
+use Rattle.tables.proofs.Valid.{modes-low, housed}
 use Rattle.table_names.specs.Names.{named, names-differ}
 use Rattle.check_laws.specs.Check.{row-in, used-row, row-fine, resource-fine, on-named, fields-fine, links-fine, lock-fine, home-on, check}
 use Rattle.check_laws.proofs.ChainSteps.{first-low, links-low}
 use Rattle.check_laws.proofs.ResourceWalk.{link-of, head-of, queue-in}
 use Rattle.check_laws.proofs.Heads.{home-low, ModesLow, grants-read, converts-read, waits-read, fit-is, heads-are}
-use Rattle.check_laws.proofs.RecordTests.{fields-same, modes-low, resource-low, used-low, fine-right, names-unique}
+use Rattle.check_laws.proofs.RecordTests.{fields-same, fine-right, names-unique}
 use Rattle.check_laws.proofs.Sides.{side-first, side-link, Spare, Blocked, Noticed, spare-side, blocked-side, notice-side}
 use Rattle.check_laws.proofs.Homes.{free-in, denied-in, homes-in, Homes, homes-met}
 use Rattle.check_laws.proofs.Once.{state-of, Stands, right-at, each-fine, homes-stand}
@@ -99,7 +101,7 @@ module _ (ws ss : List ℕ) (h : check ws ss ≡ true) where
         eqb-true (word-in ws (of-lock k 2)) 0 (rw b at either)
 
   modes : ModesLow ws
-  modes k p q = modes-low ws ss sized (read-lock ws k) (ok k p q)
+  modes k p q = modes-low (used (read ws ss)) (read-lock ws k) (read-lock ws k .state) (ok k p q)
 
   -- 1. WORDS GIVEN AS ZERO, INDICES, CHAINS
   zeros : zeros-right ws ≡ true
@@ -136,7 +138,7 @@ module _ (ws ss : List ℕ) (h : check ws ss ≡ true) where
 
       on : (i : Queue) → read-lock ws (suc k) .state ≡ state-of i → Place (used (read ws ss)) (read-lock ws (suc k)) → word-in ws (of-lock (suc k) 0) ≤ locks-in ws
       on i e o =
-          let j = used-low ws ss sized (read-lock ws (suc k) .resource) (o .in-use) in
+          let j = used-in ws ss (read-lock ws (suc k) .resource) (o .in-use) in
           let r = read-lock ws (suc k) .resource in
           links-low (link-of ws r i) (home-on ws (state-of i) r) (locks-in ws) (home-low ws (state-of i) r) (locks-in ws) (head-of ws r i) (right-at ws r (met .0 .walked r (j .0) (j .1)) i) (suc k)
           (unfold queue-in in (let c : count (suc k) (queue-in ws r i) ≡ 1 = s .queued r (j .0) (j .1) i ∙ (rw (eq-eqb _ (state-of i) e, eqb-same r)) in omega arith))
@@ -164,7 +166,7 @@ module _ (ws ss : List ℕ) (h : check ws ss ≡ true) where
       (λ b. omega (arith, off-notices (suc k) p q b))
 
   resource-field : (k : ℕ) → 1 ≤ k → k ≤ locks-in ws → word-in ws (of-lock k 3) ≤ resources-in ws
-  resource-field k p q = let z = resource-low ws ss sized (read-lock ws k) (ok k p q) in unfold read-lock in z
+  resource-field k p q = let z = rw (resources-read ws ss) at (housed (read ws ss) (read-lock ws k) (read-lock ws k .state) (ok k p q)) in unfold read-lock in z
 
   free-first : word-in ws (of-header 3) ≤ locks-in ws
   free-first = first-low (link-in ws (of-locks free-locks)) (home-on ws 0 0) (locks-in ws) (home-low ws 0 0) (locks-in ws) _ (met .0 .free)

@@ -9,21 +9,19 @@ use lib.Dec.{eqb, leb}
 use borrow.Author.Tests.{eqb-true, eq-eqb, ne-eqb, leb-true, leb-false, le-leb, not-true}
 use Rattle.tables.specs.declared.Lock.{Lock}
 use Rattle.tables.specs.Lists.{within, count, bit, from, null, same}
-use Rattle.tables.specs.State.{Resource, resource, grants, converts, waits}
+use Rattle.tables.specs.State.{Resource, resource}
 use Rattle.tables.specs.Layout.{of-resource, slot-width, resources-in, locks-in, word-in, slot-in, read-resource, read}
-use Rattle.tables.specs.Grants.{empty}
 use Rattle.tables.specs.Sound.{free-resource-right, name-unique, used-resource-right, resource-right, on-resource, fields-right}
 use Rattle.tables.proofs.Cases.{by-cases, by-equal, clash, and-left, and-right, and-intro, or-left, or-right, parts}
 use Rattle.tables.proofs.Counts.{within-le, le-within, all-at, all-intro, from-has, from-below, from-above, same-refl, same-eq}
-use Rattle.tables.specs.Validity.{used, StateOk}
-use Rattle.tables.proofs.Valid.{absent, used-within}
+use Rattle.tables.proofs.Valid.{absent}
+use Rattle.tables.proofs.StateCases.{StateOk}
 use Rattle.tables.proofs.ReadState.{resources-read, resource-of, slot-in-length}
 use Rattle.tables.proofs.Conditions.{each-at, each-intro}
+use Rattle.tables.proofs.FollowedChains.{follow-null}
+use Rattle.tables.proofs.PaperWords.{heads-zero}
 use Rattle.table_names.specs.Names.{named, slot-fine, name-in, apart, apart-after, names-differ}
 use Rattle.check_laws.specs.Check.{row-in, free-row, used-row, row-fine, resource-fine, on-named, fields-fine}
-use Rattle.check_laws.proofs.ChainSteps.{follow-null}
-use Rattle.check_laws.proofs.ResourceWalk.{link-of, head-of, queue-in}
-use Rattle.check_laws.proofs.Heads.{grants-read, converts-read, waits-read}
 
 null-take : (n : ℕ) (xs : List ℕ) → 1 ≤ length xs → null (take n xs) ≡ eqb n 0
 null-take zero xs h = refl
@@ -75,47 +73,8 @@ module _ (ws ss : List ℕ) (sized : length ss ≡ slot-width * resources-in ws)
             ne-eqb (suc (suc (suc (suc (suc n))))) 4 (omega arith),
           )
 
-  pub used-low : (r : ℕ) → used (read ws ss) r ≡ true → (1 ≤ r) × (r ≤ resources-in ws)
-  used-low r u = within-le (resources-in ws) r (rw (resources-read ws ss) at (used-within (read ws ss) r u))
-
-  -- what right fields say: modes, a resource that there is or 0, and one home
-  module _ (l : Lock) (ok : StateOk (used (read ws ss)) l (l .state)) where
-    pub modes-low : (l .held ≤ 5) × (l .asked ≤ 5)
-    modes-low = go (l .state) ok
-      where
-        go : (s : ℕ) → StateOk (used (read ws ss)) l s → (l .held ≤ 5) × (l .asked ≤ 5)
-        go zero o = rw o (omega arith, omega arith)
-        go (suc zero) o = (o .place .held-mode, o .place .asked-mode)
-        go (suc (suc zero)) o = (o .place .held-mode, o .place .asked-mode)
-        go (suc (suc (suc zero))) o = (o .place .held-mode, o .place .asked-mode)
-        go (suc (suc (suc (suc zero)))) o = (omega (arith, o .holds), omega (arith, o .asks))
-        go (suc (suc (suc (suc (suc n))))) o = absurd o
-
-    pub resource-low : l .resource ≤ resources-in ws
-    resource-low = go (l .state) ok
-      where
-        go : (s : ℕ) → StateOk (used (read ws ss)) l s → l .resource ≤ resources-in ws
-        go zero o = rw o (omega arith)
-        go (suc zero) o = used-low (l .resource) (o .place .in-use) .1
-        go (suc (suc zero)) o = used-low (l .resource) (o .place .in-use) .1
-        go (suc (suc (suc zero))) o = used-low (l .resource) (o .place .in-use) .1
-        go (suc (suc (suc (suc zero)))) o = omega (arith, o .nowhere)
-        go (suc (suc (suc (suc (suc n))))) o = absurd o
-
-  -- RESOURCES. No lock stands on one exactly if its three heads are zero
+  -- RESOURCES
   module _ (some : 1 ≤ locks-in ws) (r : ℕ) (low : 1 ≤ r) (high : r ≤ resources-in ws) where
-    empty-is : empty (resource (read ws ss) r) ≡ (eqb (word-in ws (of-resource r 1)) 0 && eqb (word-in ws (of-resource r 2)) 0 && eqb (word-in ws (of-resource r 3)) 0)
-    unfolding empty queue-in
-    empty-is =
-        rw (
-          grants-read ws ss r low high,
-          converts-read ws ss r low high,
-          waits-read ws ss r low high,
-          follow-null (link-of ws r grants) (locks-in ws) (head-of ws r grants) some,
-          follow-null (link-of ws r converts) (locks-in ws) (head-of ws r converts) some,
-          follow-null (link-of ws r waits) (locks-in ws) (head-of ws r waits) some,
-        )
-
     pub fine-right : count r (read ws ss .free-resources) ≡ bit (not (named ws r)) → (named ws r ≡ true → name-unique (read ws ss) r ≡ true) →
         resource-fine ws ss r ≡ true → resource-right ws ss (read ws ss) r ≡ true
     unfolding resource-right free-resource-right used-resource-right resource-fine row-fine slot-fine named free-row used-row row-in
@@ -123,18 +82,18 @@ module _ (ws ss : List ℕ) (sized : length ss ≡ slot-width * resources-in ws)
         by-cases (eqb (word-in ws (of-resource r 4)) 0)
         (λ z. let h2 = rw z at h in
         let a2 : count r (read ws ss .free-resources) ≡ 1 = a ∙ (rw z) in
-        rw (z, empty-is, a2) (search (and-intro, and-left, and-right) depth 20))
+        rw (z, heads-zero ws ss some r low high, a2) (search (and-intro, and-left, and-right) depth 20))
         (λ z. let h2 = rw z at h in
         let a2 : count r (read ws ss .free-resources) ≡ 0 = a ∙ (rw z) in
-        rw (z, empty-is, a2, b (rw z)) (search (and-intro, and-left, and-right) depth 20))
+        rw (z, heads-zero ws ss some r low high, a2, b (rw z)) (search (and-intro, and-left, and-right) depth 20))
 
     pub right-fine : eqb (word-in ws (of-resource r 6)) 0 ≡ true → eqb (word-in ws (of-resource r 7)) 0 ≡ true → resource-right ws ss (read ws ss) r ≡ true → resource-fine ws ss r ≡ true
     unfolding resource-right free-resource-right used-resource-right resource-fine row-fine slot-fine named free-row used-row row-in
     right-fine a b h =
         by-cases (eqb (word-in ws (of-resource r 4)) 0)
-        (λ z. let h2 = rw (z, empty-is) at h in
+        (λ z. let h2 = rw (z, heads-zero ws ss some r low high) at h in
         rw z (search (and-intro, and-left, and-right) depth 20))
-        (λ z. let h2 = rw (z, empty-is) at h in
+        (λ z. let h2 = rw (z, heads-zero ws ss some r low high) at h in
         rw z (search (and-intro, and-left, and-right) depth 20))
 
     pub right-spare : resource-right ws ss (read ws ss) r ≡ true → count r (read ws ss .free-resources) ≡ bit (not (named ws r))

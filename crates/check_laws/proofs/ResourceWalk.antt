@@ -10,12 +10,13 @@ use borrow.Author.Tests.{ne-eqb, leb-true, le-leb}
 use Rattle.modes.specs.Sets.{fits-set, with-mode}
 use Rattle.tables.specs.Lists.{all}
 use Rattle.tables.specs.State.{Queue, grants, converts, waits, queue, of-locks}
-use Rattle.tables.specs.Layout.{of-resource, of-lock, queue-head, locks-in, word-in, link-in, follow, read-lock}
+use Rattle.tables.specs.Layout.{of-resource, of-lock, queue-head, locks-in, word-in, link-in, follow, read-lock, lock-link}
 use Rattle.tables.specs.Sound.{ends}
 use Rattle.tables.proofs.Cases.{by-cases, clash, and-left, and-right, and-intro}
-use Rattle.check_laws.specs.Check.{home-on, home-steps, HolderCount, held-steps, grant-walk, tail-steps, convert-from, convert-walk, heads-wait, wait-part, convert-part, resource-walk}
-use Rattle.check_laws.proofs.ChainSteps.{Passed, follow-zero, follow-step, ends-zero, ends-step, steps-passed, passed-steps, follow-short}
-use Rattle.check_laws.proofs.HeldModes.{gather, fitting, beside}
+use Rattle.tables.proofs.FollowedChains.{follow-zero, follow-step, ends-zero, ends-step, follow-short}
+use Rattle.check_laws.specs.Check.{home-on, home-steps, HolderCount, grant-walk, convert-from, convert-walk, heads-wait, wait-part, convert-part, resource-walk, mode-steps, fits-beside}
+use Rattle.check_laws.proofs.ChainSteps.{Passed, steps-passed, passed-steps}
+use Rattle.check_laws.proofs.HeldModes.{gather, fitting}
 
 abbrev pub held-in : List ℕ → ℕ → ℕ
 held-in ws k = read-lock ws k .held
@@ -36,69 +37,39 @@ queue-in ws r q = follow (link-of ws r q) (locks-in ws) (head-of ws r q)
 abbrev pub Right : List ℕ → ℕ → Queue → ℕ → Type 0
 Right ws r q s = Passed (link-of ws r q) (home-on ws s r) (locks-in ws) (head-of ws r q)
 
-module _ (ws : List ℕ) (r : ℕ) (q : Queue) where
-  module _ (s : ℕ) where
-    held-passed : (n a set : ℕ) → held-steps ws s r n a set .met ≤ n →
-        Passed (link-of ws r q) (home-on ws s r) n a × (fitting (held-in ws) set (follow (link-of ws r q) n a) ≡ true)
-    unfolding held-steps ends follow all fitting
-    held-passed zero zero set h = (record { ended = refl; tested = refl }, refl)
-    held-passed zero (suc k) set h = absurd (omega arith)
-    held-passed (suc n) zero set h = (record { ended = refl; tested = refl }, refl)
-    held-passed (suc n) (suc k) set h =
-        by-cases (home-on ws s r (suc k) && fits-set set (held-in ws (suc k)))
-        (λ p. let ih = held-passed n (word-in ws (of-lock (suc k) 0)) (with-mode set (held-in ws (suc k))) (omega (arith, rw p at h)) in (
-          record { ended = ih .0 .ended; tested = and-intro (home-on ws s r (suc k)) _ (and-left (home-on ws s r (suc k)) _ p) (ih .0 .tested) },
-          and-intro (fits-set set (held-in ws (suc k))) _ (and-right (home-on ws s r (suc k)) _ p) (ih .1),
-        ))
-        (λ p. absurd (omega (arith, rw p at h)))
+module _ (ws : List ℕ) (r : ℕ) (q : Queue) (s : ℕ) (fit : ℕ → ℕ → Bool) where
+  modes-passed : (n a set : ℕ) → mode-steps ws s r fit n a set .met ≤ n →
+      Passed (link-of ws r q) (home-on ws s r) n a × (fitting fit (held-in ws) set (follow (link-of ws r q) n a) ≡ true)
+  unfolding mode-steps ends follow all fitting
+  modes-passed zero zero set h = (record { ended = refl; tested = refl }, refl)
+  modes-passed zero (suc k) set h = absurd (omega arith)
+  modes-passed (suc n) zero set h = (record { ended = refl; tested = refl }, refl)
+  modes-passed (suc n) (suc k) set h =
+      by-cases (home-on ws s r (suc k) && fit set (held-in ws (suc k)))
+      (λ p. let ih = modes-passed n (word-in ws (of-lock (suc k) 0)) (with-mode set (held-in ws (suc k))) (omega (arith, rw p at h)) in (
+        record { ended = ih .0 .ended; tested = and-intro (home-on ws s r (suc k)) _ (and-left (home-on ws s r (suc k)) _ p) (ih .0 .tested) },
+        and-intro (fit set (held-in ws (suc k))) _ (and-right (home-on ws s r (suc k)) _ p) (ih .1),
+      ))
+      (λ p. absurd (omega (arith, rw p at h)))
 
-    passed-held : (n a set : ℕ) → Passed (link-of ws r q) (home-on ws s r) n a → fitting (held-in ws) set (follow (link-of ws r q) n a) ≡ true →
-        held-steps ws s r n a set ≡ record { met = length (follow (link-of ws r q) n a); modes = gather (held-in ws) set (follow (link-of ws r q) n a) }
-    unfolding held-steps ends follow all fitting gather
-    passed-held zero zero set h f = refl
-    passed-held zero (suc k) set h f = clash false (h .ended) refl
-    passed-held (suc n) zero set h f = refl
-    passed-held (suc n) (suc k) set h f =
-        rw (
-          and-left (home-on ws s r (suc k)) _ (h .tested),
-          and-left (fits-set set (held-in ws (suc k))) _ f,
-          passed-held n (word-in ws (of-lock (suc k) 0)) (with-mode set (held-in ws (suc k))) (record { ended = h .ended; tested = and-right (home-on ws s r (suc k)) _ (h .tested) })
-              (and-right (fits-set set (held-in ws (suc k))) _ f),
-        )
-
-  module _ (m : ℕ) where
-    tail-passed : (n a set : ℕ) → tail-steps ws r m n a set .met ≤ n →
-        Passed (link-of ws r q) (home-on ws 2 r) n a × (beside (held-in ws) m set (follow (link-of ws r q) n a) ≡ true)
-    unfolding tail-steps ends follow all beside
-    tail-passed zero zero set h = (record { ended = refl; tested = refl }, refl)
-    tail-passed zero (suc k) set h = absurd (omega arith)
-    tail-passed (suc n) zero set h = (record { ended = refl; tested = refl }, refl)
-    tail-passed (suc n) (suc k) set h =
-        by-cases (home-on ws 2 r (suc k) && fits-set (with-mode set m) (held-in ws (suc k)))
-        (λ p. let ih = tail-passed n (word-in ws (of-lock (suc k) 0)) (with-mode set (held-in ws (suc k))) (omega (arith, rw p at h)) in (
-          record { ended = ih .0 .ended; tested = and-intro (home-on ws 2 r (suc k)) _ (and-left (home-on ws 2 r (suc k)) _ p) (ih .0 .tested) },
-          and-intro (fits-set (with-mode set m) (held-in ws (suc k))) _ (and-right (home-on ws 2 r (suc k)) _ p) (ih .1),
-        ))
-        (λ p. absurd (omega (arith, rw p at h)))
-
-    passed-tail : (n a set : ℕ) → Passed (link-of ws r q) (home-on ws 2 r) n a → beside (held-in ws) m set (follow (link-of ws r q) n a) ≡ true →
-        tail-steps ws r m n a set ≡ record { met = length (follow (link-of ws r q) n a); modes = gather (held-in ws) set (follow (link-of ws r q) n a) }
-    unfolding tail-steps ends follow all beside gather
-    passed-tail zero zero set h f = refl
-    passed-tail zero (suc k) set h f = clash false (h .ended) refl
-    passed-tail (suc n) zero set h f = refl
-    passed-tail (suc n) (suc k) set h f =
-        rw (
-          and-left (home-on ws 2 r (suc k)) _ (h .tested),
-          and-left (fits-set (with-mode set m) (held-in ws (suc k))) _ f,
-          passed-tail n (word-in ws (of-lock (suc k) 0)) (with-mode set (held-in ws (suc k))) (record { ended = h .ended; tested = and-right (home-on ws 2 r (suc k)) _ (h .tested) })
-              (and-right (fits-set (with-mode set m) (held-in ws (suc k))) _ f),
-        )
+  passed-modes : (n a set : ℕ) → Passed (link-of ws r q) (home-on ws s r) n a → fitting fit (held-in ws) set (follow (link-of ws r q) n a) ≡ true →
+      mode-steps ws s r fit n a set ≡ record { met = length (follow (link-of ws r q) n a); modes = gather (held-in ws) set (follow (link-of ws r q) n a) }
+  unfolding mode-steps ends follow all fitting gather
+  passed-modes zero zero set h f = refl
+  passed-modes zero (suc k) set h f = clash false (h .ended) refl
+  passed-modes (suc n) zero set h f = refl
+  passed-modes (suc n) (suc k) set h f =
+      rw (
+        and-left (home-on ws s r (suc k)) _ (h .tested),
+        and-left (fit set (held-in ws (suc k))) _ f,
+        passed-modes n (word-in ws (of-lock (suc k) 0)) (with-mode set (held-in ws (suc k))) (record { ended = h .ended; tested = and-right (home-on ws s r (suc k)) _ (h .tested) })
+            (and-right (fit set (held-in ws (suc k))) _ f),
+      )
 
 -- the convert chain: its head fits the granted modes, the others those and each other; and the set without the head's mode
 unfoldable pub convert-fit : (ℕ → ℕ) → ℕ → List ℕ → Bool
 convert-fit held s [] = true
-convert-fit held s (k ∷ ks) = fits-set s (held k) && beside held (held k) s ks
+convert-fit held s (k ∷ ks) = fits-set s (held k) && fitting (fits-beside (held k)) held s ks
 
 unfoldable pub others : (ℕ → ℕ) → ℕ → List ℕ → ℕ
 others held s [] = s
@@ -109,19 +80,19 @@ pub record Walked (ws : List ℕ) (r : ℕ) : Type 0 where
   pub granted : Right ws r grants 1
   pub converting : Right ws r converts 2
   pub waiting : Right ws r waits 3
-  pub fit : fitting (held-in ws) 0 (queue-in ws r grants) ≡ true
+  pub fit : fitting fits-set (held-in ws) 0 (queue-in ws r grants) ≡ true
   pub beyond : convert-fit (held-in ws) (gather (held-in ws) 0 (queue-in ws r grants)) (queue-in ws r converts) ≡ true
   pub heads : heads-wait ws r (gather (held-in ws) 0 (queue-in ws r grants)) (others (held-in ws) (gather (held-in ws) 0 (queue-in ws r grants)) (queue-in ws r converts)) ≡ true
 
 module _ (ws : List ℕ) (some : 1 ≤ locks-in ws) (r : ℕ) where
-  grant-met : grant-walk ws r .met ≤ locks-in ws → Right ws r grants 1 × (fitting (held-in ws) 0 (queue-in ws r grants) ≡ true)
+  grant-met : grant-walk ws r .met ≤ locks-in ws → Right ws r grants 1 × (fitting fits-set (held-in ws) 0 (queue-in ws r grants) ≡ true)
   unfolding grant-walk queue-in
-  grant-met h = held-passed ws r grants 1 (locks-in ws) (head-of ws r grants) 0 h
+  grant-met h = modes-passed ws r grants 1 fits-set (locks-in ws) (head-of ws r grants) 0 h
 
-  grant-is : Right ws r grants 1 → fitting (held-in ws) 0 (queue-in ws r grants) ≡ true →
+  grant-is : Right ws r grants 1 → fitting fits-set (held-in ws) 0 (queue-in ws r grants) ≡ true →
       grant-walk ws r ≡ record { met = length (queue-in ws r grants); modes = gather (held-in ws) 0 (queue-in ws r grants) }
   unfolding grant-walk queue-in
-  grant-is p f = passed-held ws r grants 1 (locks-in ws) (head-of ws r grants) 0 p f
+  grant-is p f = passed-modes ws r grants 1 fits-set (locks-in ws) (head-of ws r grants) 0 p f
 
   module _ (set : ℕ) where
     abbrev convert-at : ℕ → HolderCount
@@ -132,7 +103,7 @@ module _ (ws : List ℕ) (some : 1 ≤ locks-in ws) (r : ℕ) where
     met-at zero h = (record { ended = ends-zero _ (locks-in ws); tested = rw (follow-zero (link-of ws r converts) (locks-in ws)) }, rw (follow-zero (link-of ws r converts) (locks-in ws)))
     met-at (suc k) h =
         by-cases (home-on ws 2 r (suc k) && fits-set set (held-in ws (suc k)))
-        (λ p. let ih = tail-passed ws r converts (held-in ws (suc k)) (locks-in ws - 1) (word-in ws (of-lock (suc k) 0)) set (omega (arith, rw (ne-eqb (suc k) 0 (omega arith), p) at h)) in (
+        (λ p. let ih = modes-passed ws r converts 2 (fits-beside (held-in ws (suc k))) (locks-in ws - 1) (word-in ws (of-lock (suc k) 0)) set (omega (arith, rw (ne-eqb (suc k) 0 (omega arith), p) at h)) in (
           record {
             ended = rw (ends-step (link-of ws r converts) (locks-in ws) k some) (ih .0 .ended);
             tested = rw (follow-step (link-of ws r converts) (locks-in ws) k some) (and-intro (home-on ws 2 r (suc k)) _ (and-left (home-on ws 2 r (suc k)) _ p) (ih .0 .tested));
@@ -147,7 +118,7 @@ module _ (ws : List ℕ) (some : 1 ≤ locks-in ws) (r : ℕ) where
     is-at zero p f = rw (follow-zero (link-of ws r converts) (locks-in ws))
     is-at (suc k) p f =
         let step = follow-step (link-of ws r converts) (locks-in ws) k some in
-        let f2 : (fits-set set (held-in ws (suc k)) && beside (held-in ws) (held-in ws (suc k)) set (follow (link-of ws r converts) (locks-in ws - 1) (word-in ws (of-lock (suc k) 0)))) ≡ true = rw step at f in
+        let f2 : (fits-set set (held-in ws (suc k)) && fitting (fits-beside (held-in ws (suc k))) (held-in ws) set (follow (link-of ws r converts) (locks-in ws - 1) (word-in ws (of-lock (suc k) 0)))) ≡ true = rw step at f in
         let t2 : (home-on ws 2 r (suc k) && all (home-on ws 2 r) (follow (link-of ws r converts) (locks-in ws - 1) (word-in ws (of-lock (suc k) 0)))) ≡ true = rw step at (p .tested) in
         let e2 : ends (link-of ws r converts) (locks-in ws - 1) (word-in ws (of-lock (suc k) 0)) ≡ true = rw (ends-step (link-of ws r converts) (locks-in ws) k some) at (p .ended) in
         rw (
@@ -155,7 +126,7 @@ module _ (ws : List ℕ) (some : 1 ≤ locks-in ws) (r : ℕ) where
           step,
           and-left (home-on ws 2 r (suc k)) _ t2,
           and-left (fits-set set (held-in ws (suc k))) _ f2,
-          passed-tail ws r converts (held-in ws (suc k)) (locks-in ws - 1) (word-in ws (of-lock (suc k) 0)) set (record { ended = e2; tested = and-right (home-on ws 2 r (suc k)) _ t2 })
+          passed-modes ws r converts 2 (fits-beside (held-in ws (suc k))) (locks-in ws - 1) (word-in ws (of-lock (suc k) 0)) set (record { ended = e2; tested = and-right (home-on ws 2 r (suc k)) _ t2 })
               (and-right (fits-set set (held-in ws (suc k))) _ f2),
         )
 
@@ -170,11 +141,11 @@ module _ (ws : List ℕ) (some : 1 ≤ locks-in ws) (r : ℕ) where
 
   wait-met : home-steps ws 3 r (head-of ws r waits) ≤ locks-in ws → Right ws r waits 3
   unfolding home-steps
-  wait-met h = steps-passed (λ k. word-in ws (of-lock k 0)) (link-of ws r waits) (λ k. refl) (home-on ws 3 r) (locks-in ws) (head-of ws r waits) h .0
+  wait-met h = steps-passed (lock-link ws 0) (link-of ws r waits) (λ k. refl) (home-on ws 3 r) (locks-in ws) (head-of ws r waits) h .0
 
   wait-is : Right ws r waits 3 → home-steps ws 3 r (head-of ws r waits) ≡ length (queue-in ws r waits)
   unfolding home-steps queue-in
-  wait-is p = passed-steps (λ k. word-in ws (of-lock k 0)) (link-of ws r waits) (λ k. refl) (home-on ws 3 r) (locks-in ws) (head-of ws r waits) p
+  wait-is p = passed-steps (lock-link ws 0) (link-of ws r waits) (λ k. refl) (home-on ws 3 r) (locks-in ws) (head-of ws r waits) p
 
   short : (q : Queue) → length (queue-in ws r q) ≤ locks-in ws
   unfolding queue-in
@@ -200,7 +171,7 @@ module _ (ws : List ℕ) (some : 1 ≤ locks-in ws) (r : ℕ) where
       (λ a. let g = grant-met (leb-true _ _ a) in go g (rw (a, grant-is (g .0) (g .1)) at h))
       (λ a. absurd (omega (arith, rw a at h)))
     where
-      go : Right ws r grants 1 × (fitting (held-in ws) 0 (queue-in ws r grants) ≡ true) →
+      go : Right ws r grants 1 × (fitting fits-set (held-in ws) 0 (queue-in ws r grants) ≡ true) →
           convert-part ws r (record { met = length (queue-in ws r grants); modes = gather (held-in ws) 0 (queue-in ws r grants) }) ≤ locks-in ws → Walked ws r
       go g h =
           let set = gather (held-in ws) 0 (queue-in ws r grants) in

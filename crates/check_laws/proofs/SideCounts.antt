@@ -6,20 +6,21 @@ use Prim.Native.Nat.{ℕ, suc, _+_, _≤_}
 use native.Mathlib.Omega.{arith}
 use lib.ListN.{length}
 use lib.Dec.{eqb, leb}
-use borrow.Author.Tests.{eq-eqb, eqb-true}
+use borrow.Author.Tests.{eqb-true}
 use Rattle.tables.specs.declared.Lock.{Lock}
 use Rattle.tables.specs.Lists.{count, from, keep}
 use Rattle.tables.specs.State.{blocked-lock, noticed, Queue, grants, converts, waits}
-use Rattle.tables.specs.Layout.{of-header, of-lock, queue-head, flat-map, resources-in, locks-in, word-in, read-lock}
+use Rattle.tables.specs.Layout.{of-header, queue-head, flat-map, resources-in, locks-in, word-in, read-lock, lock-link, onward, of-resource}
 use Rattle.tables.specs.Sound.{client-right, modes-right}
-use Rattle.tables.proofs.Cases.{by-cases, and-left, and-right, parts}
-use Rattle.tables.proofs.Counts.{count-same, count-step, count-keep, kept-once}
+use Rattle.tables.proofs.Cases.{by-cases, and-left, parts}
+use Rattle.tables.proofs.Counts.{count-same, count-step, count-keep, kept-once, from-in}
 use Rattle.tables.proofs.Pigeonhole.{same-length}
-use Rattle.check_laws.specs.Check.{on-named, fields-fine, links-fine, lock-fine, home-on, home-steps, homes-fine, queue-from, blocked-at, noticed-at, sum-over}
-use Rattle.check_laws.proofs.ChainSteps.{follow-agree, member}
+use Rattle.tables.proofs.FollowedChains.{follow-agree}
+use Rattle.check_laws.specs.Check.{on-named, fields-fine, links-fine, lock-fine, home-on, home-steps, homes-fine, blocked-at, noticed-at, sum-over}
+use Rattle.check_laws.proofs.ChainSteps.{member}
 use Rattle.check_laws.proofs.ResourceWalk.{link-of, head-of, queue-in}
 use Rattle.check_laws.proofs.Heads.{home-low, home-state, home-fine, queue-member}
-use Rattle.check_laws.proofs.Homes.{free-in, denied-in, three-in, homes-in, Homes, homes-met, denied-steps, from-in}
+use Rattle.check_laws.proofs.Homes.{free-in, denied-in, three-in, homes-in, Homes, homes-met, denied-steps}
 use Rattle.check_laws.proofs.Once.{state-of, right-at, counted}
 
 -- A PART OF A LIST: all, none, of two lists, of many
@@ -84,14 +85,9 @@ module _ (ws : List ℕ) (s r k : ℕ) (h : home-on ws s r k ≡ true) where
   on-blocked : blocked-lock (read-lock ws k) ≡ (eqb s 2 || eqb s 3)
   on-blocked = rw (home-state ws s r k h)
 
-queue-is : (ws : List ℕ) (r : ℕ) (q : Queue) → queue-in ws r q ≡ queue-from ws (queue-head q) r
-unfolding queue-in queue-from
-queue-is ws r q = follow-agree (link-of ws r q) (λ k. word-in ws (of-lock k 0)) (λ k. home-links q k) (locks-in ws) (head-of ws r q)
-  where
-    home-links : (q : Queue) (k : ℕ) → link-of ws r q (suc k) ≡ word-in ws (of-lock (suc k) 0)
-    home-links grants k = refl
-    home-links converts k = refl
-    home-links waits k = refl
+queue-is : (ws : List ℕ) (r : ℕ) (q : Queue) → queue-in ws r q ≡ onward ws 0 (word-in ws (of-resource r (queue-head q)))
+unfolding queue-in onward
+queue-is ws r q = follow-agree (link-of ws r q) (lock-link ws 0) (λ k. refl) (locks-in ws) (head-of ws r q)
 
 silent : (n : ℕ) → eqb n 0 ≡ true → not (eqb n 0) ≡ false
 silent n e = rw e

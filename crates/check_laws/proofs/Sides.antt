@@ -9,7 +9,7 @@ use lib.Dec.{eqb, leb}
 use borrow.Author.Tests.{eqb-true, eq-eqb, leb-true, le-leb}
 use Rattle.tables.specs.Lists.{within, count, bit, keep, from}
 use Rattle.tables.specs.State.{blocked-lock, noticed, blocked, notices, free-resources, of-locks}
-use Rattle.tables.specs.Layout.{of-header, of-resource, of-lock, resources-in, locks-in, word-in, link-in, follow, read-lock}
+use Rattle.tables.specs.Layout.{of-header, of-resource, resources-in, locks-in, word-in, link-in, follow, read-lock, lock-link}
 use Rattle.tables.specs.Sound.{ends}
 use Rattle.tables.proofs.Cases.{by-cases, by-equal, clash, and-left, and-right, and-intro}
 use Rattle.tables.proofs.Counts.{within-le, le-within, all-intro, bit-one, count-kept, kept-once}
@@ -104,19 +104,19 @@ module _ (ws : List ℕ) where
 
   pub blocked-side : blocked-fine ws ≡ true → Blocked
   unfolding blocked-fine blocked-on
-  blocked-side = steps-side (link-in ws (of-locks blocked)) (λ k. blocked-lock (read-lock ws k)) (locks-in ws) (word-in ws (of-header 5)) (λ k. word-in ws (of-lock k 1)) (λ k. refl)
+  blocked-side = steps-side (link-in ws (of-locks blocked)) (λ k. blocked-lock (read-lock ws k)) (locks-in ws) (word-in ws (of-header 5)) (lock-link ws 1) (λ k. refl)
 
   pub side-blocked : Blocked → blocked-fine ws ≡ true
   unfolding blocked-fine blocked-on
-  side-blocked = side-steps (link-in ws (of-locks blocked)) (λ k. blocked-lock (read-lock ws k)) (locks-in ws) (word-in ws (of-header 5)) (λ k. word-in ws (of-lock k 1)) (λ k. refl)
+  side-blocked = side-steps (link-in ws (of-locks blocked)) (λ k. blocked-lock (read-lock ws k)) (locks-in ws) (word-in ws (of-header 5)) (lock-link ws 1) (λ k. refl)
 
   abbrev pub Noticed : Type 0
   Noticed = Side (link-in ws (of-locks notices)) (λ k. noticed (read-lock ws k)) (locks-in ws) (word-in ws (of-header 6))
 
   pub notice-side : notices-fine ws ≡ true → Noticed
   unfolding notices-fine notice-on
-  notice-side = steps-side (link-in ws (of-locks notices)) (λ k. noticed (read-lock ws k)) (locks-in ws) (word-in ws (of-header 6)) (λ k. word-in ws (of-lock k 2)) (λ k. refl)
+  notice-side = steps-side (link-in ws (of-locks notices)) (λ k. noticed (read-lock ws k)) (locks-in ws) (word-in ws (of-header 6)) (lock-link ws 2) (λ k. refl)
 
   pub side-notice : Noticed → notices-fine ws ≡ true
   unfolding notices-fine notice-on
-  side-notice = side-steps (link-in ws (of-locks notices)) (λ k. noticed (read-lock ws k)) (locks-in ws) (word-in ws (of-header 6)) (λ k. word-in ws (of-lock k 2)) (λ k. refl)
+  side-notice = side-steps (link-in ws (of-locks notices)) (λ k. noticed (read-lock ws k)) (locks-in ws) (word-in ws (of-header 6)) (lock-link ws 2) (λ k. refl)

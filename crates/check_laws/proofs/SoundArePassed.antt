@@ -15,21 +15,24 @@ use Rattle.tables.specs.Sound.{sizes-right, ends, chain-ends, resource-right, f
 use Rattle.tables.proofs.Cases.{by-cases, and-left, and-right, and-intro, or-right, parts}
 use Rattle.tables.proofs.Counts.{le-within, all-intro, bit-one}
 use Rattle.tables.proofs.Links.{counted-on, each-on}
-use Rattle.tables.specs.Validity.{used, Place, StateOk}
-use Rattle.tables.proofs.Valid.{ok-at}
+use Rattle.tables.specs.Validity.{used, Place}
+use Rattle.tables.proofs.StateCases.{StateOk, ok-named}
+use Rattle.tables.proofs.Valid.{ok-at, modes-low}
 use Rattle.tables.specs.Threads.{Within}
-use Rattle.tables.proofs.ReadState.{lock-of}
+use Rattle.tables.proofs.ReadState.{lock-of, used-in}
 use Rattle.tables.proofs.Conditions.{each-at, each-intro, state, locks-low, slots-sized, header-zero, resource-zeros, chain-ended, chain-inside, fields-tested, stands-as, blocked-off, notice-off, compatible-tested, heads-tested}
 use Rattle.tables.proofs.Fields.{fields-are}
+use Rattle.tables.proofs.ChainMembers.{on-queue}
 use Rattle.check_laws.specs.Check.{resource-fine, on-named, fields-fine, links-fine, lock-fine, stands, home-on, check}
 use Rattle.check_laws.proofs.ChainSteps.{Passed}
 use Rattle.check_laws.proofs.HeldModes.{fitting}
 use Rattle.check_laws.proofs.ResourceWalk.{held-in, queue-in, Right, Walked}
 use Rattle.check_laws.proofs.Heads.{ModesLow, grants-read, converts-read, waits-read, fit-is, heads-are}
-use Rattle.check_laws.proofs.RecordTests.{fields-same, modes-low, used-low, right-fine, right-spare, right-unique, unique-names}
+use Rattle.check_laws.proofs.RecordTests.{fields-same, right-fine, right-spare, right-unique, unique-names}
 use Rattle.check_laws.proofs.Sides.{Spare, Blocked, Noticed, side-spare, side-blocked, side-notice}
 use Rattle.check_laws.proofs.Homes.{free-in, denied-in, Homes, homes-are}
-use Rattle.check_laws.proofs.Once.{state-of, on-queue, Stands, stand-total}
+use Rattle.check_laws.proofs.Once.{state-of, Stands, stand-total}
+use Rattle.modes.specs.Sets.{fits-set}
 
 -- the tests of the members of a home chain
 on-home : (ws : List ℕ) (s r k : ℕ) → k ≤ locks-in ws → read-lock ws k .state ≡ s → read-lock ws k .resource ≡ r → lock-fine ws k ≡ true → home-on ws s r k ≡ true
@@ -69,7 +72,7 @@ module _ (ws ss : List ℕ) (h : sound ws ss ≡ true) where
   ok k p q = fields-are (read ws ss) (read-lock ws k) (read-lock ws k .state) refl (fields k p q)
 
   modes : ModesLow ws
-  modes k p q = modes-low ws ss sized (read-lock ws k) (ok k p q)
+  modes k p q = modes-low (used (read ws ss)) (read-lock ws k) (read-lock ws k .state) (ok k p q)
 
   lock-passes : (k : ℕ) → 1 ≤ k → k ≤ locks-in ws → lock-fine ws k ≡ true
   unfolding lock-fine links-fine
@@ -139,7 +142,7 @@ module _ (ws ss : List ℕ) (h : sound ws ss ≡ true) where
       }
     where
       nowhere : (k : ℕ) → StateOk (used (read ws ss)) (read-lock ws k) (read-lock ws k .state) → read-lock ws k .state ≡ 0 → read-lock ws k .resource ≡ 0
-      nowhere k o e = ap (λ (l : Lock). l .resource) (ok-at (used (read ws ss)) (read-lock ws k) 0 o (eq-eqb _ 0 e))
+      nowhere k o e = ap (λ (l : Lock). l .resource) (ok-at (used (read ws ss)) (read-lock ws k) 0 (ok-named o) (eq-eqb _ 0 e))
 
   denied-passes : Passed (link-in ws (of-locks denied)) (home-on ws 4 0) (locks-in ws) (word-in ws (of-header 4))
   unfolding read read-chain
@@ -149,7 +152,7 @@ module _ (ws ss : List ℕ) (h : sound ws ss ≡ true) where
         tested = all-intro (home-on ws 4 0) (read ws ss .denied) (λ k m.
             let i = inside (of-locks denied) (omega arith) k m in
             let b : eqb (read-lock ws k .state) 4 ≡ true = bit-one _ (rw (counts denied (omega arith) k (i .0) (i .1)) at m) in
-            on-home ws 4 0 k (i .1) (eqb-true _ 4 b) (ok-at (used (read ws ss)) (read-lock ws k) 4 (ok k (i .0) (i .1)) b .nowhere) (lock-passes k (i .0) (i .1)));
+            on-home ws 4 0 k (i .1) (eqb-true _ 4 b) (ok-at (used (read ws ss)) (read-lock ws k) 4 (ok-named (ok k (i .0) (i .1))) b .nowhere) (lock-passes k (i .0) (i .1)));
       }
 
   module _ (r : ℕ) (low : 1 ≤ r) (high : r ≤ resources-in ws) where
@@ -174,8 +177,8 @@ module _ (ws ss : List ℕ) (h : sound ws ss ≡ true) where
           granted = g;
           converting = c;
           waiting = w;
-          fit = and-left (fitting (held-in ws) 0 (queue-in ws r grants)) _ fits;
-          beyond = and-right (fitting (held-in ws) 0 (queue-in ws r grants)) _ fits;
+          fit = and-left (fitting fits-set (held-in ws) 0 (queue-in ws r grants)) _ fits;
+          beyond = and-right (fitting fits-set (held-in ws) 0 (queue-in ws r grants)) _ fits;
           heads = heads-are ws ss r low high some modes g c w ∙ heads-tested ws ss h r low high;
         }
 
@@ -188,7 +191,7 @@ module _ (ws ss : List ℕ) (h : sound ws ss ≡ true) where
   one-home k p q = go (read-lock ws k .state) (ok k p q)
     where
       housed : Place (used (read ws ss)) (read-lock ws k) → within (resources-in ws) (read-lock ws k .resource) ≡ true
-      housed o = let i = used-low ws ss sized (read-lock ws k .resource) (o .in-use) in le-within _ _ (i .0) (i .1)
+      housed o = let i = used-in ws ss (read-lock ws k .resource) (o .in-use) in le-within _ _ (i .0) (i .1)
 
       go : (s : ℕ) → StateOk (used (read ws ss)) (read-lock ws k) s →
           bit (eqb s 0) + (bit (eqb s 4) + cond (eqb s 1 || (eqb s 2 || eqb s 3)) (bit (within (resources-in ws) (read-lock ws k .resource))) 0) ≡ 1

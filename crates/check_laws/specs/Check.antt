@@ -9,7 +9,7 @@ use Rattle.modes.specs.Sets.{fits-set, with-mode}
 use Rattle.tables.specs.declared.Lock.{Lock}
 use Rattle.tables.specs.Lists.{all, from, keep}
 use Rattle.tables.specs.State.{name-width, blocked-lock, noticed, state-free, state-granted, state-converting, state-waiting, state-denied, completion-none, completion-denied, grants, converts, waits}
-use Rattle.tables.specs.Layout.{of-header, of-resource, of-lock, resources-in, locks-in, word-in, follow, read-lock, queue-head}
+use Rattle.tables.specs.Layout.{of-header, of-resource, of-lock, resources-in, locks-in, word-in, lock-link, onward, read-lock, queue-head}
 use Rattle.tables.specs.Sound.{client-right, modes-right, sizes-right, granted-completion}
 use Rattle.table_names.specs.Names.{named, slot-fine, names-differ}
 pub use Rattle.check_laws.specs.declared.HolderCount.{HolderCount}
@@ -87,7 +87,7 @@ blocked-on ws k = leb k (locks-in ws) && blocked-lock (read-lock ws k)
 
 unfoldable pub blocked-fine : List ℕ → Bool
 blocked-fine ws =
-    eqb (steps (λ k. word-in ws (of-lock k 1)) (blocked-on ws) (locks-in ws) (word-in ws (of-header 5)))
+    eqb (steps (lock-link ws 1) (blocked-on ws) (locks-in ws) (word-in ws (of-header 5)))
     (length (keep (λ k. blocked-lock (read-lock ws k)) (from 1 (locks-in ws))))
 
 unfoldable pub notice-on : List ℕ → ℕ → Bool
@@ -95,7 +95,7 @@ notice-on ws k = leb k (locks-in ws) && noticed (read-lock ws k)
 
 unfoldable pub notices-fine : List ℕ → Bool
 notices-fine ws =
-    eqb (steps (λ k. word-in ws (of-lock k 2)) (notice-on ws) (locks-in ws) (word-in ws (of-header 6)))
+    eqb (steps (lock-link ws 2) (notice-on ws) (locks-in ws) (word-in ws (of-header 6)))
     (length (keep (λ k. noticed (read-lock ws k)) (from 1 (locks-in ws))))
 
 -- a home chain: each lock has the chain's state and resource, and is fine
@@ -106,34 +106,30 @@ unfoldable pub home-on : List ℕ → ℕ → ℕ → ℕ → Bool
 home-on ws s r k = leb k (locks-in ws) && stands ws s r k
 
 unfoldable pub home-steps : List ℕ → ℕ → ℕ → ℕ → ℕ
-home-steps ws s r k = steps (λ k. word-in ws (of-lock k 0)) (home-on ws s r) (locks-in ws) k
+home-steps ws s r k = steps (lock-link ws 0) (home-on ws s r) (locks-in ws) k
 
 -- a chain of holders, where each held mode must fit the set of those before it: the number of steps, as above, and the set of all the modes (the
 -- record is the code's struct)
-unfoldable pub held-steps : List ℕ → ℕ → ℕ → ℕ → ℕ → ℕ → HolderCount
-held-steps ws s r zero zero set = record { met = 0; modes = set }
-held-steps ws s r zero (suc k) set = record { met = 1; modes = set }
-held-steps ws s r (suc n) zero set = record { met = 0; modes = set }
-held-steps ws s r (suc n) (suc k) set =
+unfoldable pub mode-steps : List ℕ → ℕ → ℕ → (ℕ → ℕ → Bool) → ℕ → ℕ → ℕ → HolderCount
+mode-steps ws s r fit zero zero set = record { met = 0; modes = set }
+mode-steps ws s r fit zero (suc k) set = record { met = 1; modes = set }
+mode-steps ws s r fit (suc n) zero set = record { met = 0; modes = set }
+mode-steps ws s r fit (suc n) (suc k) set =
     let m = read-lock ws (suc k) .held in
-    let rest = held-steps ws s r n (word-in ws (of-lock (suc k) 0)) (with-mode set m) in
-    cond (home-on ws s r (suc k) && fits-set set m) (record { met = suc (rest .met); modes = rest .modes }) (record { met = suc (suc n); modes = set })
+    let rest = mode-steps ws s r fit n (word-in ws (of-lock (suc k) 0)) (with-mode set m) in
+    cond (home-on ws s r (suc k) && fit set m) (record { met = suc (rest .met); modes = rest .modes }) (record { met = suc (suc n); modes = set })
 
 -- ONE RESOURCE. Its grant chain, from the empty set.
 unfoldable pub grant-walk : List ℕ → ℕ → HolderCount
-grant-walk ws r = held-steps ws state-granted r (locks-in ws) (word-in ws (of-resource r 1)) 0
+grant-walk ws r = mode-steps ws state-granted r fits-set (locks-in ws) (word-in ws (of-resource r 1)) 0
 
 -- the locks behind the convert head, which holds h, starting from the set of the granted modes: each must fit h and those before it; the set leaves h
 -- out
-unfoldable pub tail-steps : List ℕ → ℕ → ℕ → ℕ → ℕ → ℕ → HolderCount
-tail-steps ws r h zero zero set = record { met = 0; modes = set }
-tail-steps ws r h zero (suc k) set = record { met = 1; modes = set }
-tail-steps ws r h (suc n) zero set = record { met = 0; modes = set }
-tail-steps ws r h (suc n) (suc k) set =
-    let m = read-lock ws (suc k) .held in
-    let rest = tail-steps ws r h n (word-in ws (of-lock (suc k) 0)) (with-mode set m) in
-    cond (home-on ws state-converting r (suc k) && fits-set (with-mode set h) m) (record { met = suc (rest .met); modes = rest .modes })
-    (record { met = suc (suc n); modes = set })
+unfoldable pub fits-beside : ℕ → ℕ → ℕ → Bool
+fits-beside h set m = fits-set (with-mode set h) m
+
+abbrev pub tail-steps : List ℕ → ℕ → ℕ → ℕ → ℕ → ℕ → HolderCount
+tail-steps ws r h n k set = mode-steps ws state-converting r (fits-beside h) n k set
 
 -- its convert chain: the set is that of the held modes other than the head's
 unfoldable pub convert-from : List ℕ → ℕ → ℕ → ℕ → HolderCount
@@ -181,15 +177,12 @@ homes-fine ws =
     (home-steps ws state-free 0 (word-in ws (of-header 3)) + home-steps ws state-denied 0 (word-in ws (of-header 4)) + queues-walk ws (from 1 (resources-in ws)))
     (locks-in ws)
 
--- SIDES. How many locks belong on the blocked and on the notice chain, added up along the home chains. First, a queue of r, by its field
-unfoldable pub queue-from : List ℕ → ℕ → ℕ → List ℕ
-queue-from ws f r = follow (λ k. word-in ws (of-lock k 0)) (locks-in ws) (word-in ws (of-resource r f))
-
+-- SIDES. How many locks belong on the blocked and on the notice chain, added up along the home chains.
 unfoldable pub blocked-at : List ℕ → ℕ → ℕ
-blocked-at ws r = length (queue-from ws (queue-head converts) r) + length (queue-from ws (queue-head waits) r)
+blocked-at ws r = length (onward ws 0 (word-in ws (of-resource r (queue-head converts)))) + length (onward ws 0 (word-in ws (of-resource r (queue-head waits))))
 
 unfoldable pub noticed-at : List ℕ → ℕ → ℕ
-noticed-at ws r = length (keep (λ k. noticed (read-lock ws k)) (queue-from ws (queue-head grants) r))
+noticed-at ws r = length (keep (λ k. noticed (read-lock ws k)) (onward ws 0 (word-in ws (of-resource r (queue-head grants)))))
 
 unfoldable pub sum-over : (ℕ → ℕ) → List ℕ → ℕ
 sum-over f [] = 0

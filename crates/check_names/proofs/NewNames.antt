@@ -12,6 +12,7 @@ use lib.Seq.{length-take-le, getD-take, getD-drop, getD-set-same, getD-set-other
 use Rattle.tables.specs.Lists.{all, any, same}
 use Rattle.tables.specs.Layout.{of-resource, resources-in, word-in}
 use Rattle.tables.proofs.Cases.{by-cases, by-equal, clash, and-left, and-right, nor-left, nor-right}
+use Rattle.table_fields.specs.Sizes.{resource-places}
 use Rattle.table_names.specs.Names.{named, name-in, apart, apart-after, names-differ}
 use Rattle.table_names.specs.Contracts.{Tidy}
 use Rattle.table_names.proofs.NumberRuns.{upto}
@@ -102,7 +103,7 @@ module _ (ws ss ks ns : List ℕ) (ms : List Bool) (r : ℕ) (noted : Noted ws s
     other-apart : any (eqb x) (take (resources-in ws + 1 - (r + 1)) (drop (r + 1) (set ns r x))) ≡ false → apart-after ws ss r ≡ true
     other-apart h =
         let few = tidy .named .slotted .sized .few-resources in
-        let long : length (set ns r x) ≡ 257 = length-set ns r x ∙ noted .numbers in
+        let long : length (set ns r x) ≡ resource-places = length-set ns r x ∙ noted .numbers in
         apart-by-number (λ s p q u e.
         not-among x (r + 1) (resources-in ws + 1) (set ns r x) (omega arith) h s (omega arith) (omega arith)
         (e ∙ sym (getD-set-other ns r s x 0 (λ f. omega arith) ∙ noted .noted s p q u)))
@@ -143,7 +144,7 @@ pub record Left (ws ss ks ns : List ℕ) (ms : List Bool) (r : ℕ) : Type 0 whe
   pub high : r ≤ resources-in ws
   pub whole : names-differ ws ss ≡ all (apart-after ws ss) (upto 1 r)
 
-pub left-all : (ws ss ks ns : List ℕ) (ms : List Bool) (r : ℕ) → length ks ≡ name-words → length ns ≡ 257 → length ms ≡ places → r ≡ resources-in ws → Left ws ss ks ns ms r
+pub left-all : (ws ss ks ns : List ℕ) (ms : List Bool) (r : ℕ) → length ks ≡ name-words → length ns ≡ resource-places → length ms ≡ places → r ≡ resources-in ws → Left ws ss ks ns ms r
 left-all ws ss ks ns ms r k l m e =
     record {
       noted = record { weights = k; numbers = l; marks = m; noted = λ s p q u. absurd (omega arith); marked = λ s p q u. absurd (omega arith) };

@@ -7,11 +7,12 @@ use lib.ListN.{getD, length, take}
 use Rattle.tables.specs.State.{name-width}
 use Rattle.tables.specs.Layout.{resources-in, slot-in}
 use Rattle.rules.specs.Images.{word-from}
+use Rattle.table_fields.specs.Sizes.{resource-places}
 use Rattle.table_names.specs.Names.{named, apart-after}
 
 -- how many words the bytes where a name stands have
 abbrev pub name-words : ℕ
-name-words = 16
+name-words = name-width / 4
 
 -- a number is below this: it has 32 binary digits
 abbrev pub number-range : ℕ
@@ -38,7 +39,7 @@ name-number ks ss r = weighed ks (take name-width (slot-in ss r)) name-words % n
 -- the names after r are noted: ns has the number of each, and ms a mark at its place
 pub record Noted (ws ss ks ns : List ℕ) (ms : List Bool) (r : ℕ) : Type 0 where
   pub weights : length ks ≡ name-words
-  pub numbers : length ns ≡ 257
+  pub numbers : length ns ≡ resource-places
   pub marks : length ms ≡ places
   pub noted : (s : ℕ) → r < s → s ≤ resources-in ws → named ws s ≡ true → getD ns s 0 ≡ name-number ks ss s
   pub marked : (s : ℕ) → r < s → s ≤ resources-in ws → named ws s ≡ true → getD ms (mark-place (name-number ks ss s)) false ≡ true

@@ -2,7 +2,7 @@
 // equal.
 use table_bytes::WORD_BYTES;
 use table_bytes::word_at;
-use table_fields::MOST_RESOURCES;
+use table_fields::RESOURCE_PLACES;
 use table_fields::resource_count;
 use table_fields::wide;
 use table_names::NAME_BYTES;
@@ -22,9 +22,6 @@ ghost use Rattle.check_names.specs.Numbers.{«name-words», weighed, «n
 
 // With at most so many resources the names themselves are compared: filling an array is not worth it.
 const FEW: u32 = 8;
-
-// Room for the number of each name, at the place of its resource's number.
-const NUMBERS: usize = MOST_RESOURCES + 1;
 
 const NAME_WORDS: usize = NAME_BYTES / WORD_BYTES;
 
@@ -196,13 +193,13 @@ fn new_name(
 }
 
 // The names are taken from the last one down, so that the numbers noted before a name's own are those of the names
-// after it.
+// after it. A name's number is noted at the place of its resource.
 fn by_number(words: &[u32], slots: &[u8]) -> bool
     requires { ⌜ Tidy (now words) (now slots) ⌝ }
     ensures { λ x. ⌜ x ≡ names-differ (now (words .entry)) (now (slots .entry)) ⌝ }
 {
     let weights = WEIGHTS;
-    let mut numbers = [0; NUMBERS];
+    let mut numbers = [0; RESOURCE_PLACES];
     let mut met = [false; PLACES];
     let mut r = resource_count(words);
     while 1 <= r {

@@ -7,16 +7,16 @@ use native.Mathlib.Omega.{arith}
 use Rattle.modes.specs.Sets.{fits-set}
 use Rattle.tables.specs.Lists.{bit, keep}
 use Rattle.tables.specs.State.{noticed}
-use Rattle.tables.specs.Layout.{of-resource, of-lock, locks-in, word-in, follow, read-lock}
-use Rattle.check_laws.specs.Check.{grant-walk, queue-from, noticed-at}
-use Rattle.check_laws.proofs.ChainSteps.{follow-zero, follow-step}
+use Rattle.tables.specs.Layout.{of-resource, of-lock, locks-in, word-in, follow, read-lock, lock-link, onward}
+use Rattle.tables.proofs.FollowedChains.{follow-zero, follow-step}
+use Rattle.check_laws.specs.Check.{grant-walk, noticed-at}
 use Rattle.check_resources.proofs.RecordPass.{count-one}
 use Rattle.check_queues.specs.QueueWalks.{GrantCount, modes-left, noticed-left, over, grants-over, Walked, Granting}
 use Rattle.check_queues.proofs.HolderWalks.{modes-end}
 
 -- UNREAD completions: none is counted yet; a lock adds its bit; the chain ends
 pub noticed-start : (ws : List ℕ) (r : ℕ) {k : ℕ} → k ≡ word-in ws (of-resource r 1) → noticed-at ws r ≡ noticed-left ws (locks-in ws) 0 k 0
-unfolding noticed-at queue-from noticed-left
+unfolding noticed-at onward noticed-left
 noticed-start ws r e = rw (e, sub-zero (locks-in ws)) (omega arith)
 
 follow-at : (g : ℕ → ℕ) (n m k : ℕ) → (k ≡ 0 → ⊥) → m < n → follow g (n - m) k ≡ k ∷ follow g (n - (m + 1)) (g k)
@@ -27,12 +27,12 @@ module _ (ws : List ℕ) (n m k c : ℕ) {whole : ℕ} (i : whole ≡ noticed-le
   pub noticed-on : {b j : ℕ} → (k ≡ 0 → ⊥) → m < n → b ≡ bit (noticed (read-lock ws k)) → j ≡ word-in ws (of-lock k 0) → whole ≡ noticed-left ws n (m + 1) j (c + b)
   unfolding noticed-left keep
   noticed-on {b} {j} e h q t =
-      i ∙ rw (follow-at (λ k. word-in ws (of-lock k 0)) n m k e h, ← t, q)
-      (count-one (noticed (read-lock ws k)) k (keep (λ k. noticed (read-lock ws k)) (follow (λ k. word-in ws (of-lock k 0)) (n - (m + 1)) j)) c)
+      i ∙ rw (follow-at (lock-link ws 0) n m k e h, ← t, q)
+      (count-one (noticed (read-lock ws k)) k (keep (λ k. noticed (read-lock ws k)) (follow (lock-link ws 0) (n - (m + 1)) j)) c)
 
   noticed-end : k ≡ 0 → c ≡ whole
   unfolding noticed-left keep
-  noticed-end e = sym (i ∙ rw (e, follow-zero (λ k. word-in ws (of-lock k 0)) (n - m)) (omega arith))
+  noticed-end e = sym (i ∙ rw (e, follow-zero (lock-link ws 0) (n - m)) (omega arith))
 
 -- THE WALK says that something is wrong, or ends
 module _ (ws : List ℕ) (r : ℕ) where

@@ -10,12 +10,12 @@ use lib.ListN.{length}
 use borrow.Author.Tests.{not-true, not-false, le-leb, lt-leb, leb-true, eqb-true}
 use Rattle.modes.specs.Sets.{fits-set, with-mode}
 use Rattle.tables.specs.declared.Lock.{Lock}
-use Rattle.tables.specs.Layout.{of-resource, of-lock, locks-in, word-in, follow, read-lock}
+use Rattle.tables.specs.Layout.{of-resource, of-lock, locks-in, word-in, follow, read-lock, lock-link}
 use Rattle.tables.specs.Sound.{modes-right, client-right}
 use Rattle.tables.proofs.Cases.{by-cases, and-left, and-right, parts}
 use Rattle.check_laws.specs.declared.HolderCount.{HolderCount}
-use Rattle.check_laws.specs.Check.{on-named, fields-fine, links-fine, lock-fine, stands, home-on, held-steps, tail-steps, grant-walk}
-use Rattle.check_queues.specs.QueueWalks.{mode-steps, modes-left, over, fits-beside, Walked}
+use Rattle.check_laws.specs.Check.{on-named, fields-fine, links-fine, lock-fine, stands, home-on, mode-steps, fits-beside, tail-steps, grant-walk}
+use Rattle.check_queues.specs.QueueWalks.{modes-left, over, Walked}
 
 -- MODES. A lock's fields, whatever its state, have modes up to 5
 pub record Modes (l : Lock) : Type 0 where
@@ -81,7 +81,7 @@ unfolding over
 walked-over e w h = record { is = e ∙ w; short = rw e (omega arith); small = rw e h }
 
 module _ (ws : List ℕ) (s r : ℕ) (fit : ℕ → ℕ → Bool) where
-  modes-zero : (n set : ℕ) → mode-steps ws s r fit n 0 set ≡ record { met = 0; modes = set }
+  pub modes-zero : (n set : ℕ) → mode-steps ws s r fit n 0 set ≡ record { met = 0; modes = set }
   unfolding mode-steps
   modes-zero zero set = refl
   modes-zero (suc n) set = refl
@@ -150,7 +150,7 @@ module _ (ws : List ℕ) (s r : ℕ) (fit : ℕ → ℕ → Bool) where
   modes-start n k set = let z : 0 + mode-steps ws s r fit n k set .met ≡ mode-steps ws s r fit n k set .met = omega arith in rw (sub-zero n, z)
 
   -- a walk on which nothing is wrong meets the locks of the chain
-  modes-length : (n k set : ℕ) → mode-steps ws s r fit n k set .met ≤ n → mode-steps ws s r fit n k set .met ≡ length (follow (λ k. word-in ws (of-lock k 0)) n k)
+  modes-length : (n k set : ℕ) → mode-steps ws s r fit n k set .met ≤ n → mode-steps ws s r fit n k set .met ≡ length (follow (lock-link ws 0) n k)
   unfolding mode-steps follow
   modes-length zero zero set h = refl
   modes-length zero (suc k) set h = absurd (omega arith)
@@ -161,26 +161,12 @@ module _ (ws : List ℕ) (s r : ℕ) (fit : ℕ → ℕ → Bool) where
       (λ p. absurd (omega (arith, rw p at h)))
 
 -- the walks along the grant chain and behind the convert head are two such
-held-alike : (ws : List ℕ) (s r n k set : ℕ) → held-steps ws s r n k set ≡ mode-steps ws s r fits-set n k set
-unfolding held-steps mode-steps
-held-alike ws s r zero zero set = refl
-held-alike ws s r zero (suc k) set = refl
-held-alike ws s r (suc n) zero set = refl
-held-alike ws s r (suc n) (suc k) set = rw (held-alike ws s r n (word-in ws (of-lock (suc k) 0)) (with-mode set (read-lock ws (suc k) .held)))
-
-tail-alike : (ws : List ℕ) (r h n k set : ℕ) → tail-steps ws r h n k set ≡ mode-steps ws 2 r (fits-beside h) n k set
-unfolding tail-steps mode-steps fits-beside
-tail-alike ws r h zero zero set = refl
-tail-alike ws r h zero (suc k) set = refl
-tail-alike ws r h (suc n) zero set = refl
-tail-alike ws r h (suc n) (suc k) set = rw (tail-alike ws r h n (word-in ws (of-lock (suc k) 0)) (with-mode set (read-lock ws (suc k) .held)))
-
 pub grant-start : (ws : List ℕ) (r : ℕ) {k : ℕ} → k ≡ word-in ws (of-resource r 1) → grant-walk ws r ≡ modes-left ws 1 r fits-set (locks-in ws) 0 k 0
 unfolding grant-walk
-grant-start ws r e = rw (e, held-alike ws 1 r (locks-in ws) (word-in ws (of-resource r 1)) 0) (modes-start ws 1 r fits-set (locks-in ws) (word-in ws (of-resource r 1)) 0)
+grant-start ws r e = rw e (modes-start ws 1 r fits-set (locks-in ws) (word-in ws (of-resource r 1)) 0)
 
 pub tail-start : (ws : List ℕ) (r h n k set : ℕ) → tail-steps ws r h n k set ≡ modes-left ws 2 r (fits-beside h) n 0 k set
-tail-start ws r h n k set = tail-alike ws r h n k set ∙ modes-start ws 2 r (fits-beside h) n k set
+tail-start ws r h n k set = modes-start ws 2 r (fits-beside h) n k set
 
-pub tail-length : (ws : List ℕ) (r h n k set : ℕ) → tail-steps ws r h n k set .met ≤ n → tail-steps ws r h n k set .met ≡ length (follow (λ k. word-in ws (of-lock k 0)) n k)
-tail-length ws r h n k set = rw (tail-alike ws r h n k set) (modes-length ws 2 r (fits-beside h) n k set)
+pub tail-length : (ws : List ℕ) (r h n k set : ℕ) → tail-steps ws r h n k set .met ≤ n → tail-steps ws r h n k set .met ≡ length (follow (lock-link ws 0) n k)
+tail-length ws r h n k set = modes-length ws 2 r (fits-beside h) n k set

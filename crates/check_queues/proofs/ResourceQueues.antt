@@ -9,11 +9,12 @@ use lib.Dec.{eqb}
 use lib.ListN.{length}
 use borrow.Author.Tests.{not-true, not-false, le-leb, lt-leb, eq-eqb, ne-eqb}
 use Rattle.modes.specs.Sets.{fits-set}
-use Rattle.tables.specs.Layout.{of-resource, of-lock, locks-in, word-in, follow, read-lock}
+use Rattle.tables.specs.Layout.{of-resource, of-lock, locks-in, word-in, follow, read-lock, lock-link, onward}
 use Rattle.tables.proofs.Cases.{by-cases, by-equal}
+use Rattle.tables.proofs.FollowedChains.{follow-zero, follow-step}
 use Rattle.check_laws.specs.declared.HolderCount.{HolderCount}
-use Rattle.check_laws.specs.Check.{steps, stands, home-on, home-steps, tail-steps, convert-from, convert-walk, heads-wait, wait-part, convert-part, grant-walk, resource-walk, queue-from, blocked-at}
-use Rattle.check_laws.proofs.ChainSteps.{steps-passed, follow-zero, follow-step}
+use Rattle.check_laws.specs.Check.{steps, stands, home-on, home-steps, tail-steps, convert-from, convert-walk, heads-wait, wait-part, convert-part, grant-walk, resource-walk, blocked-at}
+use Rattle.check_laws.proofs.ChainSteps.{steps-passed}
 use Rattle.check_laws.proofs.Heads.{home-low, home-fine}
 use Rattle.check_queues.specs.QueueWalks.{GrantCount, Census, over, queues-over, Walked, Granting, head-on, Heads, Counted}
 use Rattle.check_queues.proofs.HolderWalks.{walked-over, fine-modes, held-read, tail-length}
@@ -70,22 +71,22 @@ module _ (ws : List ℕ) (r set : ℕ) where
       (λ t. rw (ne-eqb c 0 z, t))
       (λ t. let w : suc (locks-in ws) ≤ locks-in ws = rw (ne-eqb c 0 z, t) at h in absurd (omega arith)))
 
-  convert-length : 1 ≤ locks-in ws → convert-walk ws r set .met ≤ locks-in ws → convert-walk ws r set .met ≡ length (queue-from ws 2 r)
-  unfolding convert-walk convert-from queue-from
+  convert-length : 1 ≤ locks-in ws → convert-walk ws r set .met ≤ locks-in ws → convert-walk ws r set .met ≡ length (onward ws 0 (word-in ws (of-resource r 2)))
+  unfolding convert-walk convert-from onward
   convert-length some h = go (word-in ws (of-resource r 2)) h
     where
       go : (c : ℕ) → cond (eqb c 0) (record { met = 0; modes = set }) (convert-from ws r c set) .met ≤ locks-in ws →
-          cond (eqb c 0) (record { met = 0; modes = set }) (convert-from ws r c set) .met ≡ length (follow (λ k. word-in ws (of-lock k 0)) (locks-in ws) c)
-      go zero h = rw (follow-zero (λ k. word-in ws (of-lock k 0)) (locks-in ws))
+          cond (eqb c 0) (record { met = 0; modes = set }) (convert-from ws r c set) .met ≡ length (follow (lock-link ws 0) (locks-in ws) c)
+      go zero h = rw (follow-zero (lock-link ws 0) (locks-in ws))
       go (suc k) h =
           let m = read-lock ws (suc k) .held in
           by-cases (home-on ws 2 r (suc k) && fits-set set m)
           (λ p.
-          rw (ne-eqb (suc k) 0 (omega arith), p, follow-step (λ k. word-in ws (of-lock k 0)) (locks-in ws) k some)
+          rw (ne-eqb (suc k) 0 (omega arith), p, follow-step (lock-link ws 0) (locks-in ws) k some)
           (ap suc (tail-length ws r m (locks-in ws - 1) (word-in ws (of-lock (suc k) 0)) set (omega (arith, rw (ne-eqb (suc k) 0 (omega arith), p) at h)))))
           (λ p. absurd (omega (arith, rw (ne-eqb (suc k) 0 (omega arith), p) at h)))
 
-home-first : (ws : List ℕ) (s r n k : ℕ) → steps (λ k. word-in ws (of-lock k 0)) (home-on ws s r) n k ≤ n → head-on ws s r k ≡ true
+home-first : (ws : List ℕ) (s r n k : ℕ) → steps (lock-link ws 0) (home-on ws s r) n k ≤ n → head-on ws s r k ≡ true
 unfolding steps head-on
 home-first ws s r n zero h = refl
 home-first ws s r zero (suc k) h = absurd (omega arith)
@@ -94,9 +95,9 @@ home-first ws s r (suc n) (suc k) h =
     (λ t. rw (ne-eqb (suc k) 0 (omega arith), t))
     (λ t. let w : suc (suc n) ≤ suc n = rw t at h in absurd (omega arith))
 
-wait-length : (ws : List ℕ) (r : ℕ) → home-steps ws 3 r (word-in ws (of-resource r 3)) ≤ locks-in ws → home-steps ws 3 r (word-in ws (of-resource r 3)) ≡ length (queue-from ws 3 r)
-unfolding home-steps queue-from
-wait-length ws r h = steps-passed (λ k. word-in ws (of-lock k 0)) (λ k. word-in ws (of-lock k 0)) (λ k. refl) (home-on ws 3 r) (locks-in ws) (word-in ws (of-resource r 3)) h .1
+wait-length : (ws : List ℕ) (r : ℕ) → home-steps ws 3 r (word-in ws (of-resource r 3)) ≤ locks-in ws → home-steps ws 3 r (word-in ws (of-resource r 3)) ≡ length (onward ws 0 (word-in ws (of-resource r 3)))
+unfolding home-steps onward
+wait-length ws r h = steps-passed (lock-link ws 0) (lock-link ws 0) (λ k. refl) (home-on ws 3 r) (locks-in ws) (word-in ws (of-resource r 3)) h .1
 
 pub heads : (ws : List ℕ) (r set : ℕ) {c : HolderCount} {w : ℕ} → Walked (locks-in ws) (convert-walk ws r set) c → c .met ≤ locks-in ws → w ≡ home-steps ws 3 r (word-in ws (of-resource r 3)) → w ≤ locks-in ws → Heads ws r
 unfolding home-steps
@@ -184,6 +185,6 @@ module _ (ws : List ℕ) (r : ℕ) {g : GrantCount} (p : Granting ws r g) where
         unfolding blocked-at
         all-three some f =
             let few = p .few in
-            let converts : c .met ≡ length (queue-from ws 2 r) = rw ec (convert-length ws r (g .modes) some (rw (← ec) lc)) in
-            let waits : w ≡ length (queue-from ws 3 r) = rw ew (wait-length ws r (rw (← ew) lw)) in
+            let converts : c .met ≡ length (onward ws 0 (word-in ws (of-resource r 2))) = rw ec (convert-length ws r (g .modes) some (rw (← ec) lc)) in
+            let waits : w ≡ length (onward ws 0 (word-in ws (of-resource r 3))) = rw ew (wait-length ws r (rw (← ew) lw)) in
             record { met = all-met f; short = omega arith; blocked = λ h. omega arith; noticed = λ h. p .noticed lg; few = (omega arith, omega arith) }

@@ -1,28 +1,17 @@
 -- What the walks along a resource's queues find, and what is left in the middle of one.
 use mathlib.Core.Path.{_≡_}
-use mathlib.Core.Bool.{Bool, true, _&&_, _||_, cond}
+use mathlib.Core.Bool.{Bool, true, _||_}
 use mathlib.Core.List.{List}
-use Prim.Native.Nat.{ℕ, zero, suc, _+_, _*_, _-_, _≤_, _<_}
+use Prim.Native.Nat.{ℕ, _+_, _*_, _-_, _≤_, _<_}
 use lib.ListN.{length}
 use lib.Dec.{eqb}
-use Rattle.modes.specs.Sets.{fits-set, with-mode}
 use Rattle.tables.specs.Lists.{keep}
 use Rattle.tables.specs.State.{noticed, state-converting, state-waiting}
-use Rattle.tables.specs.Layout.{of-resource, of-lock, locks-in, word-in, follow, read-lock}
+use Rattle.tables.specs.Layout.{of-resource, of-lock, locks-in, word-in, follow, read-lock, lock-link}
 use Rattle.check_laws.specs.declared.HolderCount.{HolderCount}
-use Rattle.check_laws.specs.Check.{home-on, grant-walk, resource-walk, blocked-at, noticed-at}
+use Rattle.check_laws.specs.Check.{home-on, mode-steps, grant-walk, resource-walk, blocked-at, noticed-at}
 pub use Rattle.check_queues.specs.declared.GrantCount.{GrantCount}
 pub use Rattle.check_queues.specs.declared.Census.{Census}
-
--- a walk along holders: each stands on the chain, and its mode fits the set of those before it
-unfoldable pub mode-steps : List ℕ → ℕ → ℕ → (ℕ → ℕ → Bool) → ℕ → ℕ → ℕ → HolderCount
-mode-steps ws s r fit zero zero set = record { met = 0; modes = set }
-mode-steps ws s r fit zero (suc k) set = record { met = 1; modes = set }
-mode-steps ws s r fit (suc n) zero set = record { met = 0; modes = set }
-mode-steps ws s r fit (suc n) (suc k) set =
-    let m = read-lock ws (suc k) .held in
-    let rest = mode-steps ws s r fit n (word-in ws (of-lock (suc k) 0)) (with-mode set m) in
-    cond (home-on ws s r (suc k) && fit set m) (record { met = suc (rest .met); modes = rest .modes }) (record { met = suc (suc n); modes = set })
 
 -- what is met, and what is left from k on with the set so far
 unfoldable pub modes-left : List ℕ → ℕ → ℕ → (ℕ → ℕ → Bool) → ℕ → ℕ → ℕ → ℕ → HolderCount
@@ -32,7 +21,7 @@ modes-left ws s r fit n met k set =
 
 -- how many locks belong on the notice chain: those before k, and those that are left from k on
 unfoldable pub noticed-left : List ℕ → ℕ → ℕ → ℕ → ℕ → ℕ
-noticed-left ws n met k before = before + length (keep (λ k. noticed (read-lock ws k)) (follow (λ k. word-in ws (of-lock k 0)) (n - met) k))
+noticed-left ws n met k before = before + length (keep (λ k. noticed (read-lock ws k)) (follow (lock-link ws 0) (n - met) k))
 
 -- the answer if something is wrong: with a chain, with a grant chain, with a resource
 unfoldable pub over : ℕ → ℕ → HolderCount
@@ -43,10 +32,6 @@ grants-over n set = record { met = n + 1; modes = set; noticed = 0 }
 
 unfoldable pub queues-over : ℕ → Census
 queues-over n = record { met = n + 1; blocked = 0; noticed = 0 }
-
--- a mode fits a set and one mode more
-unfoldable pub fits-beside : ℕ → ℕ → ℕ → Bool
-fits-beside h set m = fits-set (with-mode set h) m
 
 -- a walk along at most n holders gives what the definition says, and that is a small number and a set
 pub record Walked (n : ℕ) (whole x : HolderCount) : Type 0 where

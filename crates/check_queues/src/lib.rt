@@ -1,8 +1,9 @@
 // One resource's queues: each lock on them is fine, the held modes are compatible, and no head can be granted.
+use check_chains::WAIT_CHAIN;
+use check_chains::met;
 use check_laws::HolderCount;
 use check_locks::stands_converting;
 use check_locks::stands_granted;
-use check_locks::stands_waiting;
 use check_resources::bit;
 use table_fields::COMPLETION_NONE;
 use table_fields::LOCK_ASKED;
@@ -19,13 +20,13 @@ ghost use mathlib.Core.Path.{_≡_};
 ghost use mathlib.Core.Bool.{true};
 ghost use Prim.Native.Nat.{_+_, _-_, _<_, _≤_};
 ghost use Rattle.tables.specs.Lists.{bit};
-ghost use Rattle.tables.specs.State.{noticed, «state-waiting»};
+ghost use Rattle.tables.specs.State.{noticed, «state-waiting», «most-locks»};
 ghost use Rattle.tables.specs.Layout.{«of-resource», «word-in», «resources-in», «locks-in», «read-lock»};
 ghost use Rattle.table_fields.specs.Sizes.{Sized};
 ghost use Rattle.table_names.specs.Names.{named};
-ghost use Rattle.check_laws.specs.Check.{«home-steps», «tail-steps», «convert-from», «convert-walk», «heads-wait»};
+ghost use Rattle.check_laws.specs.Check.{«home-steps», «fits-beside», «tail-steps», «convert-from», «convert-walk», «heads-wait»};
 ghost use Rattle.check_resources.specs.Passes.{Fine};
-ghost use Rattle.check_queues.specs.QueueWalks.{over, «grants-over», «queues-over», «fits-beside», Walked, Granting, Heads, Counted};
+ghost use Rattle.check_queues.specs.QueueWalks.{over, «grants-over», «queues-over», Walked, Granting, Heads, Counted};
 
 // What the walk along the grant chain finds: how many locks, or one more than there are; the set of their modes; how
 // many belong on the notice chain.
@@ -45,7 +46,7 @@ pub struct Census {
 
 // What a walk answers if something is wrong with a chain: one lock more than the n that there may be.
 fn over(n: u32, set: u32) -> HolderCount
-    requires { ⌜ n ≤ 1024 ⌝ }
+    requires { ⌜ n ≤ most-locks ⌝ }
     ensures { λ x. ⌜ x ≡ over n set ⌝ }
 {
     HolderCount {
@@ -55,7 +56,7 @@ fn over(n: u32, set: u32) -> HolderCount
 }
 
 fn grants_over(n: u32, set: u32) -> GrantCount
-    requires { ⌜ n ≤ 1024 ⌝ }
+    requires { ⌜ n ≤ most-locks ⌝ }
     ensures { λ x. ⌜ x ≡ grants-over n set ⌝ }
 {
     GrantCount {
@@ -66,7 +67,7 @@ fn grants_over(n: u32, set: u32) -> GrantCount
 }
 
 fn queues_over(n: u32) -> Census
-    requires { ⌜ n ≤ 1024 ⌝ }
+    requires { ⌜ n ≤ most-locks ⌝ }
     ensures { λ x. ⌜ x ≡ queues-over n ⌝ }
 {
     Census {
@@ -218,38 +219,15 @@ fn convert_walk(words: &[u32], r: u32, granted: u32) -> HolderCount
 }
 
 // How many locks the wait chain of r has; one more than there are if it does not end, or has a lock that does not
-// belong there. The walk has an inner loop for runs of records, as those of `check_chains` have.
-pub fn waiting_met(words: &[u32], r: u32) -> u32
+// belong there.
+fn waiting_met(words: &[u32], r: u32) -> u32
     requires { ⌜ Sized (now words) ⌝ }
     requires { ⌜ (1 ≤ r) × (r ≤ resources-in (now words)) ⌝ }
     requires { ⌜ named (now words) r ≡ true ⌝ }
     ensures { λ x. ⌜ (x ≡ home-steps (now (words .entry)) state-waiting r (word-in (now (words .entry)) (of-resource r 3))) × (x ≤ locks-in (now (words .entry)) + 1) ⌝ }
 {
-    let n = words[LOCKS];
-    let mut k = resource_word(words, r, RESOURCE_WAIT);
-    let mut met = 0;
-    while k != 0 {
-        loop {
-            if n <= met {
-                return n + 1;
-            }
-            if n < k {
-                return n + 1;
-            }
-            if !stands_waiting(words, r, k) {
-                return n + 1;
-            }
-            let beside = k + 1;
-            let next = lock_word(words, k, LOCK_NEXT);
-            met += 1;
-            if next != beside {
-                k = next;
-                break;
-            }
-            k = beside;
-        }
-    }
-    met
+    let first = resource_word(words, r, RESOURCE_WAIT);
+    met(words, WAIT_CHAIN, r, LOCK_NEXT, first)
 }
 
 // The convert head is kept out by the others' modes. If there is no convert head, the wait head is kept out by the

@@ -1,4 +1,3 @@
-pub mod NumberRuns
 pub mod RecordTests
 pub mod RecordPass
 pub mod PassedRecords

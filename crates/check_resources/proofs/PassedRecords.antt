@@ -8,16 +8,16 @@ use lib.Dec.{eqb, leb}
 use lib.ListN.{length}
 use borrow.Author.Tests.{not-false, leb-true, eqb-true}
 use Rattle.tables.specs.Lists.{all, from}
-use Rattle.tables.specs.State.{name-width}
+use Rattle.tables.specs.State.{name-width, most-resources, most-locks}
 use Rattle.tables.specs.Layout.{of-resource, size, slot-width, resources-in, locks-in, word-in}
 use Rattle.tables.specs.Sound.{sizes-right}
 use Rattle.tables.proofs.Cases.{by-cases, and-left, and-right, parts}
+use Rattle.tables.proofs.Conditions.{each-at}
 use Rattle.table_fields.specs.Sizes.{Sized}
 use Rattle.table_names.specs.Names.{slot-fine}
 use Rattle.table_names.specs.Contracts.{Slotted, Tidy}
 use Rattle.check_laws.specs.Check.{row-in, used-row, row-fine, resource-fine}
 use Rattle.check_resources.specs.Passes.{Fine}
-use Rattle.check_resources.proofs.NumberRuns.{all-from}
 
 -- SIZES
 module _ (ws ss : List ℕ) {a : Bool} (e : a ≡ sizes-right ws ss) (f : not a ≡ false) where
@@ -29,8 +29,8 @@ module _ (ws ss : List ℕ) {a : Bool} (e : a ≡ sizes-right ws ss) (f : not a 
   slotted =
       let h = right in
       let p : eqb (length ws) (size (resources-in ws) (locks-in ws)) ≡ true = search parts depth 20 in
-      let q : leb (resources-in ws) 256 ≡ true = search parts depth 20 in
-      let r : leb (locks-in ws) 1024 ≡ true = search parts depth 20 in
+      let q : leb (resources-in ws) most-resources ≡ true = search parts depth 20 in
+      let r : leb (locks-in ws) most-locks ≡ true = search parts depth 20 in
       let s : eqb (length ss) (slot-width * resources-in ws) ≡ true = search parts depth 20 in
       record {
         sized = record { long = eqb-true _ _ p; few-resources = leb-true _ _ q; few-locks = leb-true _ _ r };
@@ -50,7 +50,7 @@ module _ (ws ss : List ℕ) {a : Bool} (e : a ≡ sizes-right ws ss) (f : not a 
   -- RESOURCES
   module _ (g : all (resource-fine ws ss) (from 1 (resources-in ws)) ≡ true) where
     fine-at : (r : ℕ) → 1 ≤ r → r ≤ resources-in ws → resource-fine ws ss r ≡ true
-    fine-at r l h = all-from (resource-fine ws ss) (resources-in ws) 1 r g l (omega arith)
+    fine-at = each-at (resource-fine ws ss) (resources-in ws) g
 
     rows : (r : ℕ) → 1 ≤ r → r ≤ resources-in ws → row-fine (row-in ws r) ≡ true
     unfolding resource-fine

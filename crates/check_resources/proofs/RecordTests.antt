@@ -9,6 +9,7 @@ use lib.ListN.{getD, length}
 use borrow.Author.Needs.{needs}
 use borrow.Author.Tests.{not-true, not-false, eq-eqb, ne-eqb}
 use Rattle.tables.specs.Lists.{bit}
+use Rattle.tables.specs.State.{most-resources, most-locks}
 use Rattle.tables.specs.Layout.{header-width, resource-width, size, slot-width, resources-in, locks-in}
 use Rattle.tables.specs.Sound.{sizes-right}
 use Rattle.table_names.specs.Names.{slot-fine}
@@ -19,7 +20,7 @@ use Rattle.check_laws.specs.Check.{row-in, free-row, used-row, row-fine, resour
 pub short-words : (ws ss : List ℕ) → length ws < header-width → false ≡ sizes-right ws ss
 unfolding sizes-right
 short-words ws ss h =
-    sym (rw (ne-eqb (length ws) (size (resources-in ws) (locks-in ws)) (λ e. omega arith), and-false (leb 1 (resources-in ws) && leb (resources-in ws) 256 && leb 1 (locks-in ws) && leb (locks-in ws) 1024)))
+    sym (rw (ne-eqb (length ws) (size (resources-in ws) (locks-in ws)) (λ e. omega arith), and-false (leb 1 (resources-in ws) && leb (resources-in ws) most-resources && leb 1 (locks-in ws) && leb (locks-in ws) most-locks)))
 
 -- COUNTS
 pub bit-one : {b : Bool} → b ≡ true → 1 ≡ bit b

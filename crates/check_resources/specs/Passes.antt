@@ -1,17 +1,13 @@
 -- How many records belong on a chain, and what the walks stand on.
 use mathlib.Core.Bool.{not}
 use mathlib.Core.List.{List}
-use Prim.Native.Nat.{ℕ, _+_, _-_, _≤_}
+use Prim.Native.Nat.{ℕ, _-_, _≤_}
 use lib.ListN.{length}
 use Rattle.tables.specs.Lists.{from, keep}
 use Rattle.tables.specs.State.{blocked-lock, noticed}
 use Rattle.tables.specs.Layout.{resources-in, locks-in, read-lock}
 use Rattle.table_fields.specs.Sizes.{Sized}
 use Rattle.table_names.specs.Names.{named}
-
--- the numbers from a to b
-unfoldable pub upto : ℕ → ℕ → List ℕ
-upto a b = from a (b + 1 - a)
 
 -- how many records belong on the chain of free resources, on the blocked and on the notice chain
 unfoldable pub free-count : List ℕ → ℕ

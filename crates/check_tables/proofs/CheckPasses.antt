@@ -63,3 +63,12 @@ checked ws ss {x = x} ea na eh n =
     }
 
 pub ruleset sounding = (needs, slotted, sized, fine, sound-sizes, sound-header, sound-homes, sound-sides, checked)
+
+-- the tests of a conjunction, one after the other, each with its own `return false`
+pub and-stop : {p r : Bool} (q : Bool) → r ≡ p → not r ≡ true → false ≡ p && q
+and-stop {r = r} q e f = rw (← e, not-true r f)
+
+pub and-go : {p q r x : Bool} → r ≡ p → not r ≡ false → x ≡ q → x ≡ p && q
+and-go {r = r} e f g = rw (← e, not-false r f) g
+
+pub ruleset and-chain = (needs, and-stop, and-go)

@@ -2,24 +2,20 @@
 use mathlib.Core.Path.{_≡_, refl, sym}
 use mathlib.Core.Bool.{Bool, true, false, not, _&&_}
 use mathlib.Core.List.{List, []}
-use Prim.Native.Nat.{ℕ, zero, suc}
+use Prim.Native.Nat.{ℕ}
 use native.Mathlib.Omega.{arith}
 use lib.Dec.{eqb}
 use borrow.Author.Tests.{eqb-true, eq-eqb, ne-eqb, le-leb}
 use Rattle.tables.specs.Lists.{keep}
-use Rattle.tables.specs.Layout.{of-resource, of-lock, locks-in, word-in}
+use Rattle.tables.specs.Layout.{of-resource, locks-in, word-in, lock-link, onward}
 use Rattle.tables.proofs.Cases.{and-left, and-right, parts}
+use Rattle.tables.proofs.FollowedChains.{follow-zero}
 use Rattle.table_names.specs.Names.{named, slot-fine}
 use Rattle.check_laws.specs.declared.ResourceRow.{ResourceRow}
-use Rattle.check_laws.specs.Check.{row-in, free-row, row-fine, resource-fine, steps, home-on, home-steps, held-steps, grant-walk, convert-walk, heads-wait, wait-part, convert-part, resource-walk, queue-from, blocked-at, noticed-at}
-use Rattle.check_laws.proofs.ChainSteps.{follow-zero}
+use Rattle.check_laws.specs.Check.{row-in, free-row, row-fine, resource-fine, home-on, home-steps, grant-walk, convert-walk, heads-wait, wait-part, convert-part, resource-walk, blocked-at, noticed-at}
 use Rattle.check_chains.proofs.ChainWalk.{steps-zero}
 use Rattle.check_queues.specs.QueueWalks.{Counted}
-
-no-holders : (ws : List ℕ) (s r n set : ℕ) → held-steps ws s r n 0 set ≡ record { met = 0; modes = set }
-unfolding held-steps
-no-holders ws s r zero set = refl
-no-holders ws s r (suc n) set = refl
+use Rattle.check_queues.proofs.HolderWalks.{modes-zero}
 
 -- by its words a resource has a name or not
 module _ (ws : List ℕ) (r : ℕ) {x : ResourceRow} (e : x ≡ row-in ws r) where
@@ -66,11 +62,11 @@ module _ (ws ss : List ℕ) (r : ℕ) (fine : resource-fine ws ss r ≡ true) (f
   no-walk : resource-walk ws r ≡ 0
   unfolding resource-walk convert-part wait-part convert-walk heads-wait grant-walk home-steps
   no-walk =
-      rw (no-grant, no-convert, no-wait, no-holders ws 1 r (locks-in ws) 0, steps-zero (λ k. word-in ws (of-lock k 0)) (home-on ws 3 r) (locks-in ws), le-leb 0 (locks-in ws) (omega arith))
+      rw (no-grant, no-convert, no-wait, modes-zero ws 1 r _ (locks-in ws) 0, steps-zero (lock-link ws 0) (home-on ws 3 r) (locks-in ws), le-leb 0 (locks-in ws) (omega arith))
 
-  no-queue : (f : ℕ) → word-in ws (of-resource r f) ≡ 0 → queue-from ws f r ≡ []
-  unfolding queue-from
-  no-queue f z = rw (z, follow-zero (λ k. word-in ws (of-lock k 0)) (locks-in ws))
+  no-queue : (f : ℕ) → word-in ws (of-resource r f) ≡ 0 → onward ws 0 (word-in ws (of-resource r f)) ≡ []
+  unfolding onward
+  no-queue f z = rw (z, follow-zero (lock-link ws 0) (locks-in ws))
 
   pub no-queues : Counted ws r (record { met = 0; blocked = 0; noticed = 0 })
   unfolding blocked-at noticed-at keep

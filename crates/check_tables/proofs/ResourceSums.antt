@@ -1,5 +1,5 @@
 -- What is found of the resources, added up.
-use mathlib.Core.Path.{_≡_, refl, sym, _∙_}
+use mathlib.Core.Path.{_≡_, sym, _∙_}
 use mathlib.Core.Bool.{Bool, true, false, not, _&&_, and-false}
 use mathlib.Core.List.{List}
 use Prim.Native.Nat.{ℕ, _+_, _*_, _≤_, _<_}
@@ -10,19 +10,20 @@ use lib.ListN.{length}
 use borrow.Author.Needs.{needs}
 use borrow.Author.Tests.{not-true, not-false, ne-eqb, eqb-true}
 use Rattle.tables.specs.Lists.{bit, all, from, keep}
+use Rattle.tables.specs.State.{most-locks}
 use Rattle.tables.specs.Layout.{of-header, resources-in, locks-in, word-in}
 use Rattle.tables.proofs.Cases.{clash, and-right}
 use Rattle.table_names.specs.Names.{named}
 use Rattle.check_laws.specs.declared.ResourceRow.{ResourceRow}
 use Rattle.check_laws.specs.Check.{row-in, resource-fine, home-steps, resource-walk, queues-walk, homes-fine, blocked-at, noticed-at, sum-over}
 use Rattle.check_laws.proofs.SideCounts.{blocked-counted, noticed-counted}
-use Rattle.check_resources.specs.Passes.{upto, free-count, blocked-count, noticed-count, Fine}
-use Rattle.check_resources.proofs.NumberRuns.{upto-more, upto-none, upto-all}
+use Rattle.check_resources.specs.Passes.{free-count, blocked-count, noticed-count, Fine}
 use Rattle.check_resources.proofs.RecordPass.{count-one}
 use Rattle.check_queues.specs.declared.Census.{Census}
 use Rattle.check_queues.specs.QueueWalks.{Counted}
 use Rattle.check_tables.specs.Chains.{HomeCounts, resources-fine, Queues, Homes}
 use Rattle.check_tables.proofs.FreeOrUsed.{in-use, nameless, no-queues}
+use Rattle.table_names.proofs.NumberRuns.{upto, upto-more, upto-none, from-first}
 
 -- THE LOCKS MET so far, and what the other resources have
 module _ (ws : List ℕ) (sum r n : ℕ) {whole : ℕ} (i : whole ≡ sum + queues-walk ws (upto r n)) where
@@ -58,8 +59,8 @@ bit-few false free r h = omega arith
 pub record Left (ws ss : List ℕ) (others denied met blocked noticed free r : ℕ) : Type 0 where
   pub low : 1 ≤ r
   pub met-few : met ≤ 4 * locks-in ws + 2
-  pub blocked-few : blocked ≤ 3073 * r
-  pub noticed-few : noticed ≤ 3073 * r + 1024
+  pub blocked-few : blocked ≤ (3 * most-locks + 1) * r
+  pub noticed-few : noticed ≤ (3 * most-locks + 1) * r + most-locks
   pub free-few : free < r
   pub fine : resources-fine ws ss ≡ all (resource-fine ws ss) (upto r (resources-in ws))
   pub homes : others + queues-walk ws (from 1 (resources-in ws)) ≡ met + queues-walk ws (upto r (resources-in ws))
@@ -77,11 +78,11 @@ module _ (ws ss : List ℕ) (others denied : ℕ) where
         blocked-few = omega arith;
         noticed-few = let z = f .sized .few-locks in omega arith;
         free-few = omega arith;
-        fine = rw (upto-all (resources-in ws));
-        homes = rw (upto-all (resources-in ws));
-        spare = rw (upto-all (resources-in ws)) (omega arith);
-        waits = λ t. rw (upto-all (resources-in ws)) (omega arith);
-        tells = λ t. rw (upto-all (resources-in ws));
+        fine = rw (from-first (resources-in ws));
+        homes = rw (from-first (resources-in ws));
+        spare = rw (from-first (resources-in ws)) (omega arith);
+        waits = λ t. rw (from-first (resources-in ws)) (omega arith);
+        tells = λ t. rw (from-first (resources-in ws));
       }
 
   -- what is said where something is wrong

@@ -10,12 +10,11 @@ use borrow.Author.Tests.{eqb-true, eq-eqb, ne-eqb, leb-true, leb-false}
 use Rattle.tables.specs.Lists.{count, any, keep}
 use Rattle.tables.specs.State.{Tables, lock, resource, converting, waiting, blocked-lock, converts, waits, queue}
 use Rattle.tables.specs.Grants.{holders}
-use Rattle.tables.proofs.Cases.{by-cases, by-equal, clash, or-left, or-right, eqb-same}
-use Rattle.tables.proofs.Counts.{count-nil, count-same, count-other, count-append, by-append}
+use Rattle.tables.proofs.Cases.{by-cases, by-equal, clash, eqb-same}
+use Rattle.tables.proofs.Counts.{count-nil, count-same, count-other, count-append, any-has}
 use Rattle.tables.specs.Validity.{Core, line}
-use Rattle.tables.proofs.ChainMembers.{state-within, chain-has, on-converts, on-waits, blocked-place}
+use Rattle.tables.proofs.ChainMembers.{state-within, chain-has, on-converts, blocked-place}
 use Rattle.rules.specs.Deadlock.{before, ahead, obstacles}
-use Rattle.rules.proofs.WalkSearch.{any-has}
 use Rattle.deadlock_graph.specs.Owners.{in-way}
 use Rattle.deadlock_graph.proofs.SameVictim.{Alike}
 
@@ -28,16 +27,6 @@ before-here k j xs e = rw (eq-eqb k j e, before)
 pub before-past : (k j : ℕ) (xs : List ℕ) → k ≢ j → before k (j ∷ xs) ≡ j ∷ before k xs
 unfolding before
 before-past k j xs e = rw (ne-eqb k j e, before)
-
-pub count-before : (j k : ℕ) (xs : List ℕ) → count j (before k xs) ≤ count j xs
-count-before j k [] = unfold before in omega arith
-count-before j k (x ∷ xs) =
-    by-equal k x
-    (λ e. rw (before-here k x xs e, count-nil j) (omega arith))
-    (λ e. rw (before-past k x xs e)
-    (by-equal j x
-    (λ d. rw (d, count-same x (before k xs), count-same x xs) (omega (arith, rw d at (count-before j k xs))))
-    (λ d. rw (count-other j x (before k xs) d, count-other j x xs d) (count-before j k xs))))
 
 pub any-counted : (k : ℕ) (xs : List ℕ) → any (eqb k) xs ≡ true → 1 ≤ count k xs
 any-counted k xs h = let w = any-has (eqb k) xs h in rw (eqb-true k (w .0) (w .2)) (w .1)
@@ -59,13 +48,6 @@ before-off k (x ∷ xs) ys m =
 -- ---- the line of a resource
 
 module _ (t : Tables) (c : Core t) where
-  pub line-blocked : (r k : ℕ) → 1 ≤ count k (line t r) → blocked-lock (lock t k) ≡ true
-  unfolding line
-  line-blocked r k m =
-      by-append k (resource t r .convert) (resource t r .wait) m
-      (λ h. or-left _ _ (on-converts t (c .linked) r k h .0))
-      (λ h. or-right (converting (lock t k)) _ (on-waits t (c .linked) r k h .0))
-
   pub line-here : (r k : ℕ) → 1 ≤ count k (line t r) → lock t k .resource ≡ r
   line-here r k m = blocked-place t c r k m .1
 

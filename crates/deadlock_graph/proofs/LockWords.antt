@@ -2,68 +2,44 @@
 use mathlib.Core.Path.{_≡_, sym, ap, _∙_}
 use mathlib.Core.Bool.{Bool, true, not, _&&_}
 use mathlib.Core.List.{List}
-use Prim.Native.Nat.{ℕ, zero, suc, _≤_, _<_, _^_}
+use Prim.Native.Nat.{ℕ, _≤_, _<_, _^_}
 use native.Mathlib.Omega.{arith}
 use lib.ListN.{length}
 use lib.Dec.{eqb}
-use borrow.Author.Tests.{eqb-true}
 use borrow.Author.Needs.{needs}
 use Rattle.modes.specs.Modes.{compatible}
 use Rattle.tables.specs.Lists.{within, count}
 use Rattle.tables.specs.declared.Lock.{Lock}
-use Rattle.tables.specs.State.{Tables, lock, converting, blocked-lock, blocked, grants, converts}
+use Rattle.tables.specs.State.{Tables, lock, blocked-lock, blocked}
 use Rattle.tables.specs.Layout.{of-lock, resources-in, locks-in, word-in, read-lock, of-resource}
-use Rattle.tables.proofs.Cases.{by-cases}
 use Rattle.tables.proofs.Counts.{within-le}
-use Rattle.tables.proofs.ReadBack.{resources-word, locks-word, lock-read}
-use Rattle.tables.specs.Validity.{used, StateOk, Core}
-use Rattle.tables.proofs.Valid.{ok-at, used-within}
-use Rattle.tables.proofs.ChainMembers.{state-within, on-chain, chain-has}
+use Rattle.tables.specs.Validity.{used, Core}
+use Rattle.tables.proofs.StateCases.{StateOk, ok-numbered}
+use Rattle.tables.proofs.Valid.{used-within, blocked-lock-place}
+use Rattle.tables.proofs.ChainMembers.{on-chain, chain-has, blocked-within}
 use Rattle.rules.specs.Deadlock.{owner}
 use Rattle.table_fields.specs.Sizes.{Sized}
+use Rattle.table_fields.proofs.StateWords.{resources-is, locks-is}
 use Rattle.table_chains.specs.Contracts.{Some}
-use Rattle.deadlock_graph.specs.Contracts.{seen, At, Blocked}
-use Rattle.deadlock_graph.specs.Owners.{in-way, Owned}
-use Rattle.deadlock_graph.specs.Chained.{Walking}
+use Rattle.table_chains.specs.Walking.{At, Walking}
+use Rattle.table_chains.proofs.ChainWalks.{some-sized, grants-walk, converts-walk}
+use Rattle.table_chains.proofs.LockLimits as limits
+use Rattle.table_chains.proofs.LockLimits.{at-sized, held-mode, asked-mode}
+use Rattle.deadlock_graph.specs.Contracts.{seen, Blocked}
+use Rattle.deadlock_graph.specs.Owners.{in-way, Owned, owner-places}
 use Rattle.deadlock_graph.proofs.SameVictim.{Alike, alike}
-use Rattle.deadlock_graph.proofs.ChainWalks.{some-sized, queue-walks}
 
 -- the state that the words tell is like that whose words they are
 pub some-alike : (ws : List ℕ) (s : Some Core ws) → Alike (s .state) (seen ws)
 some-alike ws s = alike (s .state) (s .good) ws (s .is)
 
 pub resources-told : (ws : List ℕ) (s : Some Core ws) → resources-in ws ≡ length (s .state .resources)
-resources-told ws s = ap (λ vs. resources-in vs) (s .is) ∙ resources-word (s .state)
+resources-told ws s = resources-is (s .state) ws (s .is)
 
 pub locks-told : (ws : List ℕ) (s : Some Core ws) → locks-in ws ≡ length (s .state .locks)
-locks-told ws s = ap (λ vs. locks-in vs) (s .is) ∙ locks-word (s .state)
+locks-told ws s = locks-is (s .state) ws (s .is)
 
 -- what every lock is
-module _ (u : ℕ → Bool) (l : Lock) where
-  client-in : (n : ℕ) → StateOk u l n → l .client < 256
-  client-in zero ok = rw ok (omega arith)
-  client-in (suc zero) ok = omega (arith, ok .place .client-high)
-  client-in (suc (suc zero)) ok = omega (arith, ok .place .client-high)
-  client-in (suc (suc (suc zero))) ok = omega (arith, ok .place .client-high)
-  client-in (suc (suc (suc (suc zero)))) ok = omega (arith, ok .client-high)
-  client-in (suc (suc (suc (suc (suc n))))) ok = absurd ok
-
-  held-in : (n : ℕ) → StateOk u l n → l .held < 6
-  held-in zero ok = rw ok (omega arith)
-  held-in (suc zero) ok = omega (arith, ok .place .held-mode)
-  held-in (suc (suc zero)) ok = omega (arith, ok .place .held-mode)
-  held-in (suc (suc (suc zero))) ok = omega (arith, ok .place .held-mode)
-  held-in (suc (suc (suc (suc zero)))) ok = omega (arith, ok .holds)
-  held-in (suc (suc (suc (suc (suc n))))) ok = absurd ok
-
-  asked-in : (n : ℕ) → StateOk u l n → l .asked < 6
-  asked-in zero ok = rw ok (omega arith)
-  asked-in (suc zero) ok = omega (arith, ok .place .asked-mode)
-  asked-in (suc (suc zero)) ok = omega (arith, ok .place .asked-mode)
-  asked-in (suc (suc (suc zero))) ok = omega (arith, ok .place .asked-mode)
-  asked-in (suc (suc (suc (suc zero)))) ok = omega (arith, ok .asks)
-  asked-in (suc (suc (suc (suc (suc n))))) ok = absurd ok
-
 module _ (ws : List ℕ) (s : Some Core ws) (k : ℕ) where
   abbrev t : Tables
   t = s .state
@@ -71,23 +47,19 @@ module _ (ws : List ℕ) (s : Some Core ws) (k : ℕ) where
   same-lock : lock (seen ws) k ≡ lock t k
   same-lock = some-alike ws s .locks k
 
-  pub client-few : lock (seen ws) k .client < 256
-  client-few = rw same-lock (client-in (used t) (lock t k) (lock t k .state) (s .good .lock-ok k))
+  pub client-few : lock (seen ws) k .client < owner-places
+  client-few = rw same-lock (limits.client-few t (s .good) k)
 
   pub held-few : lock (seen ws) k .held < 6
-  held-few = rw same-lock (held-in (used t) (lock t k) (lock t k .state) (s .good .lock-ok k))
+  held-few = rw same-lock (limits.held-few t (s .good) k)
 
   pub asked-few : lock (seen ws) k .asked < 6
-  asked-few = rw same-lock (asked-in (used t) (lock t k) (lock t k .state) (s .good .lock-ok k))
+  asked-few = rw same-lock (limits.asked-few t (s .good) k)
 
 -- the words of the lock k
 module _ (ws : List ℕ) (k : ℕ) (a : At ws k) where
   lock-seen : read-lock ws k ≡ lock (seen ws) k
-  lock-seen =
-      let s = a .some in
-      let t = s .state in
-      let high : k ≤ length (t .locks) = omega (arith, a .high, locks-told ws s) in
-      ap (λ vs. read-lock vs k) (s .is) ∙ lock-read t k (a .low) high ∙ sym (same-lock ws s k)
+  lock-seen = limits.lock-told ws k a ∙ sym (same-lock ws (a .some) k)
 
   pub resource-told : word-in ws (of-lock k 3) ≡ lock (seen ws) k .resource
   unfolding read-lock
@@ -111,13 +83,6 @@ module _ (ws : List ℕ) (k : ℕ) (a : At ws k) where
       let is : r ≡ owner (lock (seen ws) k) = h .0 ∙ e ∙ client-told in
       record { is = is; few = rw is (client-few ws (a .some) k) }
 
-  -- its modes are modes
-  pub held-mode : (x : ℕ) → x ≡ word-in ws (of-lock k 6) → x < 6
-  held-mode x e = rw (e ∙ held-told) (held-few ws (a .some) k)
-
-  pub asked-mode : (x : ℕ) → x ≡ word-in ws (of-lock k 7) → x < 6
-  asked-mode x e = rw (e ∙ asked-told) (asked-few ws (a .some) k)
-
 -- whether j is in a's way
 pub way-known : (ws : List ℕ) (a j x y : ℕ) (g : Bool) → At ws a → At ws j → x ≡ word-in ws (of-lock j 6) → y ≡ word-in ws (of-lock a 7) → g ≡ compatible x y
     → (not (eqb j a) && not g) ≡ in-way (seen ws) a j
@@ -138,24 +103,14 @@ module _ (ws : List ℕ) (k : ℕ) where
       let w = within-le (length (s .state .locks)) k (blocked-there s (b .stands) .0) in
       record { some = s; low = w .0; high = omega (arith, w .1, locks-told ws s) }
 
-  blocked-within : (t : Tables) → blocked-lock (lock t k) ≡ true → within (length (t .locks)) k ≡ true
-  blocked-within t h =
-      by-cases (converting (lock t k))
-      (λ g. state-within t k 1 (eqb-true _ 2 g))
-      (λ g. state-within t k 2 (eqb-true _ 3 (rw g at h)))
-
   pub is-blocked : Some Core ws → blocked-lock (lock (seen ws) k) ≡ true → Blocked ws k
   is-blocked s h =
       let h′ : blocked-lock (lock (s .state) k) ≡ true = rw (same-lock ws s k) at h in
-      record { some = s; stands = rw (some-alike ws s .stopped) (omega (arith, chain-has (s .state) (s .good .linked) blocked k (blocked-within (s .state) h′) h′)) }
+      record { some = s; stands = rw (some-alike ws s .stopped) (omega (arith, chain-has (s .state) (s .good .linked) blocked k (blocked-within (s .state) k h′) h′)) }
 
   -- its resource is one
   blocked-used : (s : Some Core ws) → blocked-lock (lock (s .state) k) ≡ true → used (s .state) (lock (s .state) k .resource) ≡ true
-  blocked-used s h =
-      let ok = s .good .lock-ok k in
-      by-cases (converting (lock (s .state) k))
-      (λ g. ok-at (used (s .state)) (lock (s .state) k) 2 ok g .place .in-use)
-      (λ g. ok-at (used (s .state)) (lock (s .state) k) 3 ok (rw g at h) .place .in-use)
+  blocked-used s h = blocked-lock-place (used (s .state)) (lock (s .state) k) (s .good .lock-ok k) h .in-use
 
   pub blocked-home : Blocked ws k → (1 ≤ lock (seen ws) k .resource) × (lock (seen ws) k .resource ≤ resources-in ws)
   blocked-home b =
@@ -168,10 +123,7 @@ module _ (ws : List ℕ) (k : ℕ) where
 
 -- ---- what a read of a word asks for
 
-pub at-sized : {ws : List ℕ} {k : ℕ} → At ws k → Sized ws
-at-sized a = some-sized (a .some)
-
-pub owner-place : {ws : List ℕ} {k x : ℕ} (o : List Bool) → Owned ws k x → length o ≡ 256 → x < length o
+pub owner-place : {ws : List ℕ} {k x : ℕ} (o : List Bool) → Owned ws k x → length o ≡ owner-places → x < length o
 owner-place o w e = omega (arith, w .few)
 
 pub blocked-sized : {ws : List ℕ} {a : ℕ} → Blocked ws a → Sized ws
@@ -194,9 +146,9 @@ module _ {ws : List ℕ} {a r : ℕ} (b : Blocked ws a) (e : r ≡ word-in ws (o
   bar-high = blocked-resource ws a r b e .1
 
   pub bar-grants : {g : ℕ} → g ≡ word-in ws (of-resource r 1) → Walking ws 0 g
-  bar-grants h = rw h (queue-walks ws (b .some) r grants bar-low bar-high)
+  bar-grants h = grants-walk (b .some) (bar-low, bar-high) h
 
   pub bar-converts : {g : ℕ} → g ≡ word-in ws (of-resource r 2) → Walking ws 0 g
-  bar-converts h = rw h (queue-walks ws (b .some) r converts bar-low bar-high)
+  bar-converts h = converts-walk (b .some) (bar-low, bar-high) h
 
 pub ruleset read-laws = (needs, at-sized, owner-known, held-mode, asked-mode, way-known)

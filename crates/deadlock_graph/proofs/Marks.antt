@@ -10,7 +10,8 @@ use lib.Seq.{getD-set-same, getD-set-other}
 use Rattle.tables.specs.Lists.{count}
 use Rattle.tables.proofs.Cases.{by-cases, by-equal}
 use Rattle.rules.specs.Walks.{Walk, step, through}
-use Rattle.deadlock_graph.specs.Marks.{marked, unmarked, Cleared}
+use Rattle.table_chains.specs.Marks.{marked}
+use Rattle.deadlock_graph.specs.Marks.{unmarked, Cleared}
 
 -- ---- one mark
 

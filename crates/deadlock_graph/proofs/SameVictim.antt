@@ -3,7 +3,7 @@ use mathlib.Core.Path.{_≡_, refl, sym, ap, ap₂, _∙_}
 use mathlib.Core.List.{List, [], map}
 use Prim.Native.Nat.{ℕ, zero, suc, _+_, _≤_, _<_}
 use native.Mathlib.Omega.{arith}
-use native.Mathlib.Nat.{add-comm, add-zero}
+use native.Mathlib.Nat.{add-comm}
 use native.Mathlib.Numerals.{add-one}
 use lib.ListN.{getD, length, List·getD-eq-default}
 use lib.Dec.{ltb}
@@ -13,7 +13,7 @@ use Rattle.tables.specs.State.{Tables, no-lock, no-resource, lock, resource, Qu
 use Rattle.tables.specs.Layout.{words, read-lock, read-resource, read, resources-in}
 use Rattle.tables.specs.Grants.{holders}
 use Rattle.tables.proofs.Cases.{by-cases}
-use Rattle.tables.proofs.Blocks.{tabulated}
+use Rattle.tables.proofs.Blocks.{tabulated, getD-map-from, length-map-from}
 use Rattle.tables.proofs.ReadBack.{resources-word, locks-word, chain-read, lock-read}
 use Rattle.tables.proofs.ThreadedChains.{core-threaded}
 use Rattle.tables.specs.Validity.{Core}
@@ -27,15 +27,6 @@ pub record Alike (t u : Tables) : Type 0 where
   pub locks : (k : ℕ) → lock u k ≡ lock t k
   pub stopped : u .blocked ≡ t .blocked
   pub queues : (q : Queue) (r : ℕ) → queue-of q (resource u r) ≡ queue-of q (resource t r)
-
-length-tabulate : {A : Type 0} (f : ℕ → A) (a n : ℕ) → length (map f (from a n)) ≡ n
-length-tabulate f a zero = refl
-length-tabulate f a (suc n) = ap suc (length-tabulate f (suc a) n)
-
-tabulate-at : {A : Type 0} (f : ℕ → A) (d : A) (a n i : ℕ) → i < n → getD (map f (from a n)) i d ≡ f (a + i)
-tabulate-at f d a zero i p = absurd (omega arith)
-tabulate-at f d a (suc n) zero p = rw add-zero
-tabulate-at f d a (suc n) (suc i) p = tabulate-at f d (suc a) n i (omega arith) ∙ ap f (omega arith)
 
 module _ (t : Tables) (core : Core t) where
   lock-told : (k : ℕ) → lock (seen (words t)) k ≡ lock t k
@@ -55,14 +46,14 @@ module _ (t : Tables) (core : Core t) where
   unfolding seen read resource
   resource-inside k p =
       ap (λ n. getD (map (read-resource (words t) []) (from 1 n)) k no-resource) (resources-word t)
-      ∙ tabulate-at (read-resource (words t) []) no-resource 1 (length (t .resources)) k p
+      ∙ getD-map-from (read-resource (words t) []) no-resource 1 (length (t .resources)) k p
       ∙ ap (read-resource (words t) []) (add-comm 1 k ∙ add-one k)
 
   resource-outside : (k : ℕ) → length (t .resources) ≤ k → resource (seen (words t)) (suc k) ≡ no-resource
   unfolding seen read resource
   resource-outside k p =
       List·getD-eq-default (map (read-resource (words t) []) (from 1 (resources-in (words t)))) no-resource
-      (rw (length-tabulate (read-resource (words t) []) 1 (resources-in (words t)), resources-word t) p)
+      (rw (length-map-from (read-resource (words t) []) 1 (resources-in (words t)), resources-word t) p)
 
   queue-told : (q : Queue) (r : ℕ) → queue-of q (resource (seen (words t)) r) ≡ queue-of q (resource t r)
   queue-told q zero = unfold resource in refl

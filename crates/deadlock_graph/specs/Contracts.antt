@@ -3,7 +3,7 @@ use mathlib.Core.List.{List, []}
 use Prim.Native.Nat.{ℕ, _≤_}
 use Rattle.tables.specs.Lists.{count}
 use Rattle.tables.specs.State.{Tables}
-use Rattle.tables.specs.Layout.{locks-in, read}
+use Rattle.tables.specs.Layout.{read}
 use Rattle.tables.specs.Validity.{Core}
 use Rattle.table_chains.specs.Contracts.{Some}
 
@@ -11,13 +11,7 @@ use Rattle.table_chains.specs.Contracts.{Some}
 unfoldable pub seen : List ℕ → Tables
 seen ws = read ws []
 
--- k is one of the locks in the words of a state
-pub record At (ws : List ℕ) (k : ℕ) : Type 0 where
-  pub some : Some Core ws
-  pub low : 1 ≤ k
-  pub high : k ≤ locks-in ws
-
--- .. and it is blocked
+-- k is one of the locks in the words of a state, and it is blocked
 pub record Blocked (ws : List ℕ) (k : ℕ) : Type 0 where
   pub some : Some Core ws
   pub stands : 1 ≤ count k (seen ws .blocked)

@@ -1,4 +1,3 @@
 pub mod Contracts
-pub mod Chained
 pub mod Owners
 pub mod Marks

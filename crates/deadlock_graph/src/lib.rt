@@ -1,20 +1,19 @@
 // Blocked locks in the lent words: who has a lock, and who is in whose way. The definitions and laws that `deadlock_prune`
 // and `deadlock_search` share are here, so that an edit of their code does not prove these again.
 use modes::goes_with;
+use table_fields::LAST_CLIENT;
 use table_fields::LOCK_ASKED;
 use table_fields::LOCK_CLIENT;
 use table_fields::LOCK_HELD;
 use table_fields::lock_word;
 use table_fields::wide;
 ghost use mathlib.Core.Path.{_≡_};
-ghost use Rattle.deadlock_graph.specs.Contracts.{seen, At};
+ghost use Rattle.table_chains.specs.Walking.{At};
+ghost use Rattle.deadlock_graph.specs.Contracts.{seen};
 ghost use Rattle.deadlock_graph.specs.Owners.{«in-way», Owned};
 
-// A place for each lock number, up to 1,024.
-pub const LOCK_PLACES: usize = 1025;
-
-// A place for each owner: clients are 1 to 255.
-pub const OWNER_PLACES: usize = 256;
+// A place for each owner: an owner is a client.
+pub const OWNER_PLACES: usize = LAST_CLIENT as usize + 1;
 
 // Who owns lock k. A blocked lock leads to the blocked locks of the owners that are in its way.
 pub fn owner_of(words: &[u32], k: u32) -> usize

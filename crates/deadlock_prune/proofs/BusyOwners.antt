@@ -10,22 +10,24 @@ use lib.Seq.{getD-set-same, getD-set-other}
 use borrow.Author.Needs.{needs}
 use Rattle.tables.specs.Lists.{count}
 use Rattle.tables.specs.State.{lock}
-use Rattle.tables.specs.Layout.{of-header, of-lock, word-in}
+use Rattle.tables.specs.Layout.{of-header, of-lock, word-in, onward}
 use Rattle.tables.proofs.Cases.{by-equal, clash}
 use Rattle.tables.proofs.Counts.{count-nil, count-other}
 use Rattle.tables.specs.Validity.{Core}
 use Rattle.rules.specs.Deadlock.{owner}
+use Rattle.table_fields.specs.Sizes.{lock-places}
 use Rattle.table_chains.specs.Contracts.{Some}
-use Rattle.deadlock_graph.specs.Contracts.{seen, At}
-use Rattle.deadlock_graph.specs.Chained.{onward, Walking}
-use Rattle.deadlock_graph.specs.Owners.{Owned}
-use Rattle.deadlock_graph.specs.Marks.{marked}
-use Rattle.deadlock_graph.proofs.ChainWalks.{some-sized, walk-splits, walk-ends, blocked-walks, blocked-onward, walk-sized, walk-low, walk-high, walk-stands, walk-less, walk-on}
+use Rattle.deadlock_graph.specs.Contracts.{seen}
+use Rattle.deadlock_graph.specs.Owners.{Owned, owner-places}
+use Rattle.table_chains.specs.Walking.{At, Walking}
+use Rattle.table_chains.proofs.ChainWalks.{some-sized, walk-splits, walk-ends, blocked-walks, walk-sized, walk-low, walk-high, walk-stands, walk-less, walk-on}
+use Rattle.table_chains.specs.Marks.{marked}
+use Rattle.deadlock_graph.proofs.SeenChains.{blocked-seen}
 use Rattle.deadlock_graph.proofs.LockWords.{owner-place}
 use Rattle.deadlock_prune.specs.Clearing.{is-busy, BusyNoted, Busy}
 
 -- a mark for each lock
-pub mark-place : {ws : List ℕ} {k : ℕ} (m : List Bool) → At ws k → length m ≡ 1025 → k < length m
+pub mark-place : {ws : List ℕ} {k : ℕ} (m : List Bool) → At ws k → length m ≡ lock-places → k < length m
 mark-place m a e = omega (arith, a .high, some-sized (a .some) .few-locks)
 
 -- ---- one lock
@@ -35,7 +37,7 @@ module _ (ws : List ℕ) (m : List Bool) (k : ℕ) (b : List Bool) where
   unfolding marked
   busy-skips h = record { here = λ f. clash (getD m k false) h f; kept = λ j e. e }
 
-  pub busy-stores : (x : ℕ) → Owned ws k x → length b ≡ 256 → BusyNoted ws m k b (set b x true)
+  pub busy-stores : (x : ℕ) → Owned ws k x → length b ≡ owner-places → BusyNoted ws m k b (set b x true)
   unfolding is-busy
   busy-stores x w e =
       let inside : x < length b = owner-place b w e in
@@ -54,17 +56,17 @@ pub ruleset note-busy-laws = (needs, mark-place, owner-place, busy-skips, busy-s
 -- at the lock k of the blocked chain: the owners of those before it are written down
 pub record BusyBefore (ws : List ℕ) (m b₀ b : List Bool) (k : ℕ) : Type 0 where
   pub walks : Walking ws 1 k
-  pub wide : length b ≡ 256
+  pub wide : length b ≡ owner-places
   pub size : length b ≡ length b₀
   pub each : (j : ℕ) → 1 ≤ count j (seen ws .blocked) → count j (onward ws 1 k) ≡ 0 → marked m j ≡ false → is-busy (seen ws) b j ≡ true
 
-pub busy-starts : {ws : List ℕ} {b : List Bool} {k : ℕ} (m : List Bool) → Some Core ws → length b ≡ 256 → k ≡ word-in ws (of-header 5) → BusyBefore ws m b b k
+pub busy-starts : {ws : List ℕ} {b : List Bool} {k : ℕ} (m : List Bool) → Some Core ws → length b ≡ owner-places → k ≡ word-in ws (of-header 5) → BusyBefore ws m b b k
 busy-starts {ws} {b} {k} m s l e =
     record {
       walks = blocked-walks s e;
       wide = l;
       size = refl;
-      each = λ j h z. absurd (omega (arith, h, rw (blocked-onward ws k s e) at z));
+      each = λ j h z. absurd (omega (arith, h, rw (blocked-seen ws k s e) at z));
     }
 
 module _ {ws : List ℕ} {m b₀ b : List Bool} {k : ℕ} (i : BusyBefore ws m b₀ b k) where

@@ -12,23 +12,25 @@ use borrow.Author.Needs.{needs}
 use Rattle.modes.specs.Sets.{fits-set, FitsRow}
 use Rattle.tables.specs.Lists.{count, any}
 use Rattle.tables.specs.State.{Tables, lock, resource, converting, blocked-lock, converts, waits}
-use Rattle.tables.specs.Layout.{of-resource, of-lock, resources-in, word-in}
+use Rattle.tables.specs.Layout.{of-resource, of-lock, resources-in, word-in, onward}
 use Rattle.tables.specs.Grants.{holders}
 use Rattle.tables.proofs.Cases.{by-cases, by-equal, clash, and-left, and-right, or-left}
-use Rattle.tables.proofs.Counts.{count-nil, count-same, count-other, count-append, by-append}
+use Rattle.tables.proofs.Counts.{count-nil, count-same, count-other, count-append, by-append, any-has}
 use Rattle.tables.specs.Validity.{Core, line}
-use Rattle.tables.proofs.ChainMembers.{on-converts}
+use Rattle.tables.proofs.ChainMembers.{on-converts, line-blocked}
 use Rattle.rules.specs.Deadlock.{before, ahead, obstacles, owner, leads}
-use Rattle.rules.proofs.WalkSearch.{any-has}
 use Rattle.table_fields.specs.Sizes.{Sized}
 use Rattle.table_chains.specs.Contracts.{Some}
+use Rattle.table_chains.specs.Walking.{Walking}
+use Rattle.table_chains.proofs.ChainWalks.{some-sized, walk-splits, walk-ends, converts-walk, waits-walk, walk-sized, walk-low, walk-high, walk-less, walk-on}
+use Rattle.table_chains.proofs.LockLimits.{asked-mode}
 use Rattle.deadlock_graph.specs.Contracts.{seen, Blocked}
-use Rattle.deadlock_graph.specs.Chained.{onward, Walking}
-use Rattle.deadlock_graph.specs.Marks.{marked, Cleared}
+use Rattle.table_chains.specs.Marks.{marked}
+use Rattle.deadlock_graph.specs.Marks.{Cleared}
 use Rattle.deadlock_graph.proofs.SameVictim.{ahead-alike}
-use Rattle.deadlock_graph.proofs.ChainWalks.{some-sized, walk-splits, walk-ends, queue-walks, queue-onward, walk-sized, walk-low, walk-high, walk-less, walk-on}
-use Rattle.deadlock_graph.proofs.LockWords.{some-alike, asked-told, asked-mode, is-blocked, blocked-at}
-use Rattle.deadlock_graph.proofs.LineAhead.{before-here, before-past, any-counted, line-blocked, line-here, ahead-line, line-alike}
+use Rattle.deadlock_graph.proofs.SeenChains.{queue-seen}
+use Rattle.deadlock_graph.proofs.LockWords.{some-alike, asked-told, is-blocked, blocked-at}
+use Rattle.deadlock_graph.proofs.LineAhead.{before-here, before-past, any-counted, line-here, ahead-line, line-alike}
 use Rattle.deadlock_graph.proofs.Marks.{mark-same, mark-kept, clear-behind}
 use Rattle.deadlock_prune.specs.Clearing.{is-busy, hinders, busy-modes, Busy, Clearing, AllCleared, AfterConversions}
 use Rattle.deadlock_prune.proofs.BusyOwners.{mark-place}
@@ -179,11 +181,11 @@ module _ {ws : List ℕ} {b m : List Bool} {r : ℕ} (i : Clearing ws b m) (ther
   converts-start e =
       record {
         lined = converts-lined r (i .some);
-        walks = rw e (queue-walks ws (i .some) r converts (there .0) (there .1));
+        walks = converts-walk (i .some) there e;
         clearing = i;
         size = refl;
         passed = [];
-        is = rw e (sym (queue-onward ws (i .some) r converts (there .0) (there .1)));
+        is = rw e (sym (queue-seen ws (i .some) r converts (there .0) (there .1)));
         done = record { each = λ j c. absurd (omega (arith, count-nil j)) };
       }
 
@@ -192,11 +194,11 @@ module _ {ws : List ℕ} {b m : List Bool} {r : ℕ} (i : Clearing ws b m) (ther
   waits-start h e =
       record {
         lined = line-lined r (i .some);
-        walks = rw e (queue-walks ws (i .some) r waits (there .0) (there .1));
+        walks = waits-walk (i .some) there e;
         clearing = i;
         size = refl;
         passed = resource (seen ws) r .convert;
-        is = rw e (ap (λ ys. resource (seen ws) r .convert ++ ys) (sym (queue-onward ws (i .some) r waits (there .0) (there .1))));
+        is = rw e (ap (λ ys. resource (seen ws) r .convert ++ ys) (sym (queue-seen ws (i .some) r waits (there .0) (there .1))));
         done = h;
       }
 

@@ -9,15 +9,19 @@ use lib.ListN.{getD, length}
 use lib.Dec.{eqb, ltb}
 use borrow.Author.Tests.{ltb-true, not-true, not-false}
 use borrow.Author.Needs.{needs}
-use Rattle.tables.specs.Layout.{of-header, of-lock, word-in}
+use Rattle.tables.specs.Layout.{of-header, of-lock, word-in, onward}
 use Rattle.tables.proofs.Cases.{and-left}
 use Rattle.tables.specs.Validity.{Core}
+use Rattle.tables.specs.State.{most-locks}
 use Rattle.rules.specs.Deadlock.{leads}
+use Rattle.table_fields.specs.Sizes.{lock-places}
 use Rattle.table_chains.specs.Contracts.{Some}
+use Rattle.table_chains.specs.Walking.{Walking}
+use Rattle.table_chains.proofs.ChainWalks.{some-sized, walk-splits, walk-ends, blocked-walks, walk-short, walk-sized, walk-low, walk-high, walk-stands, walk-less, walk-on}
 use Rattle.deadlock_graph.specs.Contracts.{seen}
-use Rattle.deadlock_graph.specs.Chained.{onward, Walking}
-use Rattle.deadlock_graph.specs.Marks.{marked, unmarked, Cleared}
-use Rattle.deadlock_graph.proofs.ChainWalks.{some-sized, walk-splits, walk-ends, blocked-walks, blocked-onward, walk-sized, walk-low, walk-high, walk-stands, walk-less, walk-on}
+use Rattle.table_chains.specs.Marks.{marked}
+use Rattle.deadlock_graph.specs.Marks.{unmarked, Cleared}
+use Rattle.deadlock_graph.proofs.SeenChains.{blocked-seen}
 use Rattle.deadlock_graph.proofs.Marks.{unmarked-le}
 use Rattle.deadlock_prune.specs.Clearing.{Uncleared}
 use Rattle.deadlock_prune.proofs.BusyOwners.{mark-place}
@@ -27,18 +31,17 @@ use Rattle.deadlock_prune.proofs.BusyOwners.{mark-place}
 -- at the lock k of the blocked chain: n of those before it are not cleared
 pub record Counting (ws : List ℕ) (m : List Bool) (n k : ℕ) : Type 0 where
   pub walks : Walking ws 1 k
-  pub wide : length m ≡ 1025
+  pub wide : length m ≡ lock-places
   pub whole : unmarked (seen ws .blocked) m ≡ n + unmarked (onward ws 1 k) m
-  pub few : unmarked (seen ws .blocked) m ≤ 1024
+  pub few : unmarked (seen ws .blocked) m ≤ most-locks
 
-left-few : {ws : List ℕ} (m : List Bool) → Some Core ws → unmarked (seen ws .blocked) m ≤ 1024
+left-few : {ws : List ℕ} (m : List Bool) → Some Core ws → unmarked (seen ws .blocked) m ≤ most-locks
 left-few {ws} m s =
-    let w = blocked-walks s refl in
-    omega (arith, unmarked-le (seen ws .blocked) m, ap length (blocked-onward ws (word-in ws (of-header 5)) s refl), w .short, some-sized s .few-locks)
+    omega (arith, unmarked-le (seen ws .blocked) m, ap length (blocked-seen ws (word-in ws (of-header 5)) s refl), walk-short ws 1 (word-in ws (of-header 5)), some-sized s .few-locks)
 
-pub counting-starts : {ws : List ℕ} {k : ℕ} (m : List Bool) → Some Core ws → length m ≡ 1025 → k ≡ word-in ws (of-header 5) → Counting ws m 0 k
+pub counting-starts : {ws : List ℕ} {k : ℕ} (m : List Bool) → Some Core ws → length m ≡ lock-places → k ≡ word-in ws (of-header 5) → Counting ws m 0 k
 counting-starts {ws} {k} m s l e =
-    let all = ap (λ xs. unmarked xs m) (blocked-onward ws k s e) in
+    let all = ap (λ xs. unmarked xs m) (blocked-seen ws k s e) in
     record { walks = blocked-walks s e; wide = l; whole = omega arith; few = left-few m s }
 
 module _ {ws : List ℕ} {m : List Bool} {n k : ℕ} (i : Counting ws m n k) where

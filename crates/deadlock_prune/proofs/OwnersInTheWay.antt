@@ -14,18 +14,20 @@ use Rattle.modes.specs.Sets.{fits-set, with-mode}
 use Rattle.modes.proofs.Laws.{with-mode-small, fits-with}
 use Rattle.tables.specs.Lists.{count, any, keep}
 use Rattle.tables.specs.State.{Tables, lock, resource, grants, converts}
-use Rattle.tables.specs.Layout.{of-resource, of-lock, resources-in, word-in}
+use Rattle.tables.specs.Layout.{of-resource, of-lock, resources-in, word-in, onward}
 use Rattle.tables.specs.Grants.{holders}
 use Rattle.tables.proofs.Cases.{by-cases, by-equal, clash, and-left, and-right, or-left}
 use Rattle.tables.proofs.Counts.{count-nil, count-other, count-keep, any-intro}
 use Rattle.tables.specs.Validity.{Core}
 use Rattle.rules.specs.Deadlock.{obstacles}
 use Rattle.table_chains.specs.Contracts.{Some}
-use Rattle.deadlock_graph.specs.Contracts.{seen, At, Blocked}
-use Rattle.deadlock_graph.specs.Chained.{onward, Walking}
+use Rattle.table_chains.specs.Walking.{At, Walking}
+use Rattle.table_chains.proofs.ChainWalks.{some-sized, walk-splits, walk-ends, grants-walk, walk-sized, walk-low, walk-high, walk-stands, walk-less, walk-on}
+use Rattle.table_chains.proofs.LockLimits.{held-mode, at-sized}
+use Rattle.deadlock_graph.specs.Contracts.{seen, Blocked}
 use Rattle.deadlock_graph.specs.Owners.{in-way, Owned}
-use Rattle.deadlock_graph.proofs.ChainWalks.{some-sized, walk-splits, walk-ends, queue-walks, queue-onward, line-converts, walk-sized, walk-low, walk-high, walk-stands, walk-less, walk-on}
-use Rattle.deadlock_graph.proofs.LockWords.{held-few, asked-few, held-told, held-mode, resource-told, blocked-at, at-sized, owner-place, blocked-sized, blocked-low, blocked-high, bar-low, bar-high}
+use Rattle.deadlock_graph.proofs.SeenChains.{queue-seen}
+use Rattle.deadlock_graph.proofs.LockWords.{held-few, asked-few, held-told, resource-told, blocked-at, owner-place, blocked-sized, blocked-low, blocked-high, bar-low, bar-high}
 use Rattle.deadlock_graph.proofs.LineAhead.{obstacles-are}
 use Rattle.deadlock_prune.specs.Clearing.{is-busy, hinders, with-busy, with-all-busy, busy-modes}
 
@@ -82,7 +84,7 @@ module _ {ws : List ℕ} {a r g : ℕ} {f : Bool} (b : List Bool) (p : Blocked w
   here = e ∙ resource-told ws a (blocked-at ws a p)
 
   granted-are : onward ws 0 g ≡ resource (seen ws) r .grant
-  granted-are = ap (onward ws 0) eg ∙ queue-onward ws (p .some) r grants (bar-low p e) (bar-high p e)
+  granted-are = ap (onward ws 0) eg ∙ queue-seen ws (p .some) r grants (bar-low p e) (bar-high p e)
 
   pub hindered-grant : f ≡ true → true ≡ any (hinders (seen ws) b a) (holders (seen ws) (lock (seen ws) a .resource))
   unfolding holders
@@ -92,7 +94,7 @@ module _ {ws : List ℕ} {a r g : ℕ} {f : Bool} (b : List Bool) (p : Blocked w
       q ≡ any (hinders (seen ws) b a) (holders (seen ws) (lock (seen ws) a .resource))
   unfolding holders
   hindered-convert {c} {q} h ec eq =
-      let cs : onward ws 0 c ≡ resource (seen ws) r .convert = ap (onward ws 0) ec ∙ queue-onward ws (p .some) r converts (bar-low p e) (bar-high p e) in
+      let cs : onward ws 0 c ≡ resource (seen ws) r .convert = ap (onward ws 0) ec ∙ queue-seen ws (p .some) r converts (bar-low p e) (bar-high p e) in
       let none : any (hinders (seen ws) b a) (resource (seen ws) r .grant) ≡ false = rw granted-are at (sym ef ∙ h) in
       eq ∙ rw (sym here, any-append, none, cs)
 
@@ -188,9 +190,6 @@ unfolding busy-modes
 modes-few {ws} b r s = with-all-small (seen ws) b (held-few ws s) 0 (holders (seen ws) r) (omega arith)
 
 module _ {ws : List ℕ} {r g : ℕ} (b : List Bool) (s : Some Core ws) (there : (1 ≤ r) × (r ≤ resources-in ws)) (eg : g ≡ word-in ws (of-resource r 1)) where
-  pub modes-grants : Walking ws 0 g
-  modes-grants = rw eg (queue-walks ws s r grants (there .0) (there .1))
-
   module _ {x : ℕ} (ex : x ≡ with-all-busy (seen ws) b 0 (onward ws 0 g)) where
     pub modes-small : x < 64
     modes-small = rw ex (with-all-small (seen ws) b (held-few ws s) 0 (onward ws 0 g) (omega arith))
@@ -198,11 +197,11 @@ module _ {ws : List ℕ} {r g : ℕ} (b : List Bool) (s : Some Core ws) (there :
     pub modes-done : {c y : ℕ} → c ≡ word-in ws (of-resource r 2) → y ≡ with-all-busy (seen ws) b x (onward ws 0 c) → y ≡ busy-modes (seen ws) b r
     unfolding busy-modes holders
     modes-done {c} {y} ec ey =
-        let gs : onward ws 0 g ≡ resource (seen ws) r .grant = ap (onward ws 0) eg ∙ queue-onward ws s r grants (there .0) (there .1) in
-        let cs : onward ws 0 c ≡ resource (seen ws) r .convert = ap (onward ws 0) ec ∙ queue-onward ws s r converts (there .0) (there .1) in
+        let gs : onward ws 0 g ≡ resource (seen ws) r .grant = ap (onward ws 0) eg ∙ queue-seen ws s r grants (there .0) (there .1) in
+        let cs : onward ws 0 c ≡ resource (seen ws) r .convert = ap (onward ws 0) ec ∙ queue-seen ws s r converts (there .0) (there .1) in
         ey ∙ rw (ex, gs, cs) (sym (with-all-append (seen ws) b (held-few ws s) 0 (resource (seen ws) r .grant) (resource (seen ws) r .convert)))
 
-pub ruleset modes-laws = (needs, some-sized, line-converts, modes-grants, modes-small, modes-done)
+pub ruleset modes-laws = (needs, some-sized, grants-walk, modes-small, modes-done)
 
 -- ---- no busy owner in a blocked lock's way
 

@@ -12,8 +12,9 @@ use Rattle.tables.specs.Validity.{Core}
 use Rattle.rules.specs.Deadlock.{owner, leads}
 use Rattle.table_chains.specs.Contracts.{Some}
 use Rattle.deadlock_graph.specs.Contracts.{seen}
-use Rattle.deadlock_graph.specs.Owners.{in-way}
-use Rattle.deadlock_graph.specs.Marks.{marked, unmarked, Cleared}
+use Rattle.deadlock_graph.specs.Owners.{in-way, owner-places}
+use Rattle.table_chains.specs.Marks.{marked}
+use Rattle.deadlock_graph.specs.Marks.{unmarked, Cleared}
 
 -- the owner of j is busy
 unfoldable pub is-busy : Tables → List Bool → ℕ → Bool
@@ -26,7 +27,7 @@ pub record BusyNoted (ws : List ℕ) (m : List Bool) (k : ℕ) (b b′ : List Bo
 
 -- whoever has a blocked lock that is not cleared is busy
 pub record Busy (ws : List ℕ) (m b : List Bool) : Type 0 where
-  pub wide : length b ≡ 256
+  pub wide : length b ≡ owner-places
   pub each : (j : ℕ) → 1 ≤ count j (seen ws .blocked) → marked m j ≡ false → is-busy (seen ws) b j ≡ true
 
 -- j is in a's way, and its owner is busy

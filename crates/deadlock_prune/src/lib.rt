@@ -22,21 +22,23 @@ ghost use Prim.Native.Nat.{_≤_, _<_};
 ghost use lib.ListN.{length};
 ghost use Rattle.tables.specs.Lists.{any};
 ghost use Rattle.tables.specs.State.{lock, resource};
-ghost use Rattle.tables.specs.Layout.{«resources-in»};
+ghost use Rattle.tables.specs.Layout.{«resources-in», onward};
 ghost use Rattle.tables.specs.Grants.{holders};
 ghost use Rattle.tables.specs.Validity.{Core};
 ghost use Rattle.rules.specs.Deadlock.{leads};
+ghost use Rattle.table_fields.specs.Sizes.{«lock-places»};
 ghost use Rattle.table_chains.specs.Contracts.{Some};
-ghost use Rattle.deadlock_graph.specs.Contracts.{seen, At, Blocked};
-ghost use Rattle.deadlock_graph.specs.Chained.{onward, Walking};
+ghost use Rattle.table_chains.specs.Walking.{At, Walking};
+ghost use Rattle.deadlock_graph.specs.Contracts.{seen, Blocked};
 ghost use Rattle.deadlock_graph.specs.Marks.{unmarked, Cleared};
 ghost use Rattle.deadlock_prune.specs.Clearing.{hinders, «with-busy», «with-all-busy», «busy-modes», BusyNoted, Busy, Clearing, AllCleared, AfterConversions, Uncleared};
+ghost use Rattle.deadlock_graph.specs.Owners.{«owner-places»};
 
 // The owner of the blocked lock k is busy, unless k is cleared.
 fn note_busy(words: &[u32], cleared: &[bool], k: u32, busy: &mut [bool])
     requires { ⌜ At (now words) k ⌝ }
-    requires { ⌜ length (now cleared) ≡ 1025 ⌝ }
-    requires { ⌜ length (now busy) ≡ 256 ⌝ }
+    requires { ⌜ length (now cleared) ≡ lock-places ⌝ }
+    requires { ⌜ length (now busy) ≡ owner-places ⌝ }
     ensures { λ _. ⌜ BusyNoted (now (words .entry)) (now (cleared .entry)) k (now (busy .entry)) (now (busy .exit)) ⌝ }
 {
     if cleared[k as usize] {
@@ -49,8 +51,8 @@ fn note_busy(words: &[u32], cleared: &[bool], k: u32, busy: &mut [bool])
 // The busy owners: those of the blocked locks that are not cleared.
 fn busy_owners(words: &[u32], cleared: &[bool], busy: &mut [bool])
     requires { ⌜ Some Core (now words) ⌝ }
-    requires { ⌜ length (now cleared) ≡ 1025 ⌝ }
-    requires { ⌜ length (now busy) ≡ 256 ⌝ }
+    requires { ⌜ length (now cleared) ≡ lock-places ⌝ }
+    requires { ⌜ length (now busy) ≡ owner-places ⌝ }
     ensures { λ _. ⌜ Busy (now (words .entry)) (now (cleared .entry)) (now (busy .exit)) ⌝ }
 {
     let mut k = header_word(words, BLOCKED);
@@ -64,7 +66,7 @@ fn busy_owners(words: &[u32], cleared: &[bool], busy: &mut [bool])
 fn hinders(words: &[u32], busy: &[bool], a: u32, j: u32) -> bool
     requires { ⌜ At (now words) a ⌝ }
     requires { ⌜ At (now words) j ⌝ }
-    requires { ⌜ length (now busy) ≡ 256 ⌝ }
+    requires { ⌜ length (now busy) ≡ owner-places ⌝ }
     ensures { λ r. ⌜ r ≡ hinders (seen (now (words .entry))) (now (busy .entry)) a j ⌝ }
 {
     if !in_way(words, a, j) {
@@ -78,7 +80,7 @@ fn hinders(words: &[u32], busy: &[bool], a: u32, j: u32) -> bool
 fn hindered_from(words: &[u32], busy: &[bool], a: u32, first: u32) -> bool
     requires { ⌜ At (now words) a ⌝ }
     requires { ⌜ Walking (now words) 0 first ⌝ }
-    requires { ⌜ length (now busy) ≡ 256 ⌝ }
+    requires { ⌜ length (now busy) ≡ owner-places ⌝ }
     ensures { λ r. ⌜ r ≡ any (hinders (seen (now (words .entry))) (now (busy .entry)) a) (onward (now (words .entry)) 0 first) ⌝ }
 {
     let mut k = first;
@@ -94,7 +96,7 @@ fn hindered_from(words: &[u32], busy: &[bool], a: u32, first: u32) -> bool
 // Whether a busy owner is in the way of the blocked lock a.
 fn hindered(words: &[u32], busy: &[bool], a: u32) -> bool
     requires { ⌜ Blocked (now words) a ⌝ }
-    requires { ⌜ length (now busy) ≡ 256 ⌝ }
+    requires { ⌜ length (now busy) ≡ owner-places ⌝ }
     ensures { λ r. ⌜ r ≡ any (hinders (seen (now (words .entry))) (now (busy .entry)) a) (holders (seen (now (words .entry))) (lock (seen (now (words .entry))) a .resource)) ⌝ }
 {
     let r = lock_word(words, a, LOCK_RESOURCE);
@@ -125,7 +127,7 @@ fn clear_conversions(words: &[u32], busy: &[bool], r: u32, cleared: &mut [bool])
 // The set with the mode that j holds, if its owner is busy.
 fn with_busy(words: &[u32], busy: &[bool], set: u32, j: u32) -> u32
     requires { ⌜ At (now words) j ⌝ }
-    requires { ⌜ length (now busy) ≡ 256 ⌝ }
+    requires { ⌜ length (now busy) ≡ owner-places ⌝ }
     requires { ⌜ set < 64 ⌝ }
     ensures { λ x. ⌜ x ≡ with-busy (seen (now (words .entry))) (now (busy .entry)) set j ⌝ }
 {
@@ -139,7 +141,7 @@ fn with_busy(words: &[u32], busy: &[bool], set: u32, j: u32) -> u32
 // The same for each lock of a home chain, from `first` on.
 fn with_all_busy(words: &[u32], busy: &[bool], set: u32, first: u32) -> u32
     requires { ⌜ Walking (now words) 0 first ⌝ }
-    requires { ⌜ length (now busy) ≡ 256 ⌝ }
+    requires { ⌜ length (now busy) ≡ owner-places ⌝ }
     requires { ⌜ set < 64 ⌝ }
     ensures { λ x. ⌜ x ≡ with-all-busy (seen (now (words .entry))) (now (busy .entry)) set (onward (now (words .entry)) 0 first) ⌝ }
 {
@@ -156,7 +158,7 @@ fn with_all_busy(words: &[u32], busy: &[bool], set: u32, first: u32) -> u32
 fn busy_modes(words: &[u32], busy: &[bool], r: u32) -> u32
     requires { ⌜ Some Core (now words) ⌝ }
     requires { ⌜ (1 ≤ r) × (r ≤ resources-in (now words)) ⌝ }
-    requires { ⌜ length (now busy) ≡ 256 ⌝ }
+    requires { ⌜ length (now busy) ≡ owner-places ⌝ }
     ensures { λ x. ⌜ x ≡ busy-modes (seen (now (words .entry))) (now (busy .entry)) r ⌝ }
 {
     let held = with_all_busy(words, busy, 0, resource_word(words, r, RESOURCE_GRANT));
@@ -219,7 +221,7 @@ fn clear_lines(words: &[u32], cleared: &mut [bool])
 // How many blocked locks are not cleared.
 fn count_left(words: &[u32], cleared: &[bool]) -> u32
     requires { ⌜ Some Core (now words) ⌝ }
-    requires { ⌜ length (now cleared) ≡ 1025 ⌝ }
+    requires { ⌜ length (now cleared) ≡ lock-places ⌝ }
     ensures { λ r. ⌜ r ≡ unmarked (seen (now (words .entry)) .blocked) (now (cleared .entry)) ⌝ }
 {
     let mut n = 0;

@@ -3,23 +3,26 @@ use mathlib.Core.Path.{_≡_, refl, sym, _∙_}
 use mathlib.Core.Logic.{_≢_}
 use mathlib.Core.Bool.{Bool, true, false}
 use mathlib.Core.List.{List, [], _∷_}
-use Prim.Native.Nat.{ℕ, zero, suc, _+_, _≤_, _<_, _^_}
+use Prim.Native.Nat.{ℕ, _+_, _≤_, _<_, _^_}
 use native.Mathlib.Omega.{arith}
 use lib.ListN.{getD, set, replicate, length-replicate}
 use borrow.Author.Needs.{needs}
 use Rattle.tables.specs.Lists.{count, first-that}
-use Rattle.tables.specs.Layout.{of-header, of-lock, locks-in, word-in}
+use Rattle.tables.specs.Layout.{of-header, of-lock, locks-in, word-in, onward}
 use Rattle.tables.proofs.Cases.{by-cases, clash}
-use Rattle.tables.proofs.Counts.{count-same, count-step}
+use Rattle.tables.proofs.Counts.{count-same, count-step, getD-same}
 use Rattle.tables.specs.Validity.{Core}
 use Rattle.rules.specs.Deadlock.{leads, deadlocked, victim}
 use Rattle.rules.proofs.DeadlockVictim.{deadlocked-walk}
+use Rattle.table_fields.specs.Sizes.{lock-places}
 use Rattle.table_chains.specs.Contracts.{Some, Tells}
+use Rattle.table_chains.specs.Walking.{Walking}
+use Rattle.table_chains.proofs.ChainWalks.{some-sized, walk-splits, walk-ends, walk-found, walk-passed, blocked-walks, walk-sized, walk-low, walk-high, walk-less, walk-on}
 use Rattle.deadlock_graph.specs.Contracts.{seen}
-use Rattle.deadlock_graph.specs.Chained.{onward, Walking}
-use Rattle.deadlock_graph.specs.Marks.{marked, unmarked, Cleared}
+use Rattle.table_chains.specs.Marks.{marked}
+use Rattle.deadlock_graph.specs.Marks.{unmarked, Cleared}
 use Rattle.deadlock_graph.proofs.SameVictim.{alike, victim-alike}
-use Rattle.deadlock_graph.proofs.ChainWalks.{some-sized, walk-splits, walk-ends, blocked-walks, blocked-onward, walk-sized, walk-low, walk-high, walk-less, walk-on}
+use Rattle.deadlock_graph.proofs.SeenChains.{blocked-seen}
 use Rattle.deadlock_graph.proofs.LockWords.{blocked-at}
 use Rattle.deadlock_graph.proofs.Marks.{mark-kept, clear-more}
 use Rattle.deadlock_prune.specs.Clearing.{Uncleared}
@@ -34,7 +37,7 @@ blocked-below : {ws : List ℕ} → Some Core ws → (y : ℕ) → 1 ≤ count y
 blocked-below {ws} s y m = let at = blocked-at ws y (record { some = s; stands = m }) in omega (arith, at .high)
 
 module _ {ws ranks : List ℕ} {a d : ℕ} {m : List Bool} (i : Trying ws ranks a d m) where
-  pub cycle-place : a < 1025
+  pub cycle-place : a < lock-places
   cycle-place = omega (arith, blocked-below (i .stands .some) a (i .stands .stands), some-sized (i .stands .some) .few-locks)
 
   pub cycle-none : getD m a false ≡ true → false ≡ deadlocked (seen ws) a
@@ -67,21 +70,8 @@ pub ruleset cycle-laws = (needs, cycle-place, cycle-none, cycle-searches, cycle-
 
 -- ---- the first on the blocked chain that is
 
-none-ranked : (n k : ℕ) → _≡_ {A = ℕ} (getD (replicate n 0) k 0) 0
-none-ranked zero k = refl
-none-ranked (suc n) zero = refl
-none-ranked (suc n) (suc k) = none-ranked n k
-
-pub none-ranked-yet : Unranked (replicate 1025 0)
-none-ranked-yet = record { wide = length-replicate {A = ℕ} 1025 0; each = none-ranked 1025 }
-
-first-of : (p : ℕ → Bool) (xs : List ℕ) (k : ℕ) (ks : List ℕ) → xs ≡ k ∷ ks → p k ≡ true → first-that p xs ≡ k
-unfolding first-that
-first-of p xs k ks e h = rw (e, h, first-that)
-
-first-past : (p : ℕ → Bool) (xs : List ℕ) (k : ℕ) (ks : List ℕ) → xs ≡ k ∷ ks → p k ≡ false → first-that p xs ≡ first-that p ks
-unfolding first-that
-first-past p xs k ks e h = rw (e, h, first-that)
+pub none-ranked-yet : Unranked (replicate lock-places 0)
+none-ranked-yet = record { wide = length-replicate {A = ℕ} lock-places 0; each = getD-same {A = ℕ} 0 lock-places }
 
 -- at the lock k of the chain, c the cleared locks
 pub record Seeking (ws m : List ℕ) (d k : ℕ) (c : List Bool) : Type 0 where
@@ -95,7 +85,7 @@ pub record Seeking (ws m : List ℕ) (d k : ℕ) (c : List Bool) : Type 0 where
 pub seeking-starts : {ws m : List ℕ} {d k : ℕ} {c : List Bool} → Some Core ws → Ranked ws m → Uncleared ws c d → k ≡ word-in ws (of-header 5) → Seeking ws m d k c
 unfolding victim
 seeking-starts {ws} {m} {d} {k} {c} s r l e =
-    let all = blocked-onward ws k s e in
+    let all = blocked-seen ws k s e in
     record {
       ranked = r;
       walks = blocked-walks s e;
@@ -122,7 +112,7 @@ module _ {ws m : List ℕ} {d k : ℕ} {c : List Bool} (i : Seeking ws m d k c) 
           deep = i .deep;
         }
 
-    pub seeking-place : k < 1025
+    pub seeking-place : k < lock-places
     seeking-place =
         let below = blocked-below (i .walks .some) k (i .inside k here) in
         omega (arith, some-sized (i .walks .some) .few-locks)
@@ -132,7 +122,7 @@ module _ {ws m : List ℕ} {d k : ℕ} {c : List Bool} (i : Seeking ws m d k c) 
 
     module _ {r : Bool} (e : r ≡ deadlocked (seen ws) k) where
       pub seeking-found : r ≡ true → k ≡ victim (seen ws)
-      seeking-found h = sym (i .whole ∙ first-of (deadlocked (seen ws)) (onward ws 1 k) k _ from-here (sym e ∙ h))
+      seeking-found h = sym (i .whole ∙ walk-found ws 1 k (i .walks) n (deadlocked (seen ws)) (sym e ∙ h))
 
       module _ {x : ℕ} (h : r ≡ false) (q : x ≡ word-in ws (of-lock k 1)) where
         -- a lock that stands behind k on the chain
@@ -145,7 +135,7 @@ module _ {ws m : List ℕ} {d k : ℕ} {c : List Bool} (i : Seeking ws m d k c) 
               ranked = i .ranked;
               walks = walk-on (i .walks) n q;
               inside = λ j l. i .inside j (later j l);
-              whole = i .whole ∙ first-past (deadlocked (seen ws)) (onward ws 1 k) k _ from-here (sym e ∙ h) ∙ rw q;
+              whole = i .whole ∙ walk-passed ws 1 k (i .walks) n (deadlocked (seen ws)) (sym e ∙ h) ∙ rw q;
               cleared = clear-more c k (i .cleared) (λ w. clash (deadlocked (seen ws) k) (deadlocked-walk (seen ws) k (i .inside k here) .1 w) (sym e ∙ h));
               deep = omega (arith, i .deep, unmarked-mono (seen ws .blocked) c (set c k true) (mark-kept c k (omega (arith, seeking-place, i .cleared .wide))));
             }
@@ -158,14 +148,9 @@ pub ruleset seek-laws = (needs, some-sized, walk-sized, walk-low, walk-high, wal
 
 -- ---- the victim
 
-none-marked : (n x : ℕ) → marked (replicate n false) x ≡ false
+pub none-cleared : (step : ℕ → ℕ → Bool) (nodes : List ℕ) → Cleared step nodes (replicate lock-places false)
 unfolding marked
-none-marked zero x = refl
-none-marked (suc n) zero = refl
-none-marked (suc n) (suc x) = none-marked n x
-
-pub none-cleared : (step : ℕ → ℕ → Bool) (nodes : List ℕ) → Cleared step nodes (replicate 1025 false)
-none-cleared step nodes = record { wide = length-replicate 1025 false; none = λ x h. clash (marked (replicate 1025 false) x) h (none-marked 1025 x) }
+none-cleared step nodes = record { wide = length-replicate lock-places false; none = λ x h. clash (marked (replicate lock-places false) x) h (getD-same false lock-places x) }
 
 first-none : (p : ℕ → Bool) (xs : List ℕ) → ((j : ℕ) → 1 ≤ count j xs → p j ≡ false) → first-that p xs ≡ 0
 unfolding first-that

@@ -10,13 +10,15 @@ use borrow.Author.Tests.{not-true, not-false}
 use borrow.Author.Needs.{needs}
 use Rattle.tables.specs.Lists.{keep}
 use Rattle.tables.specs.State.{lock, resource, grants, converts}
-use Rattle.tables.specs.Layout.{of-resource, of-lock, word-in}
+use Rattle.tables.specs.Layout.{of-resource, of-lock, word-in, onward}
 use Rattle.rules.specs.Deadlock.{obstacles, owner}
-use Rattle.deadlock_graph.specs.Contracts.{seen, At, Blocked}
-use Rattle.deadlock_graph.specs.Chained.{onward, Walking}
-use Rattle.deadlock_graph.specs.Owners.{in-way, Owned}
-use Rattle.deadlock_graph.proofs.ChainWalks.{walk-splits, walk-ends, queue-onward, walk-sized, walk-low, walk-high, walk-stands, walk-less, walk-on}
-use Rattle.deadlock_graph.proofs.LockWords.{client-few, resource-told, blocked-at, at-sized, owner-place, blocked-sized, blocked-low, blocked-high, bar-low, bar-high}
+use Rattle.deadlock_graph.specs.Contracts.{seen, Blocked}
+use Rattle.deadlock_graph.specs.Owners.{in-way, Owned, owner-places}
+use Rattle.deadlock_graph.proofs.SeenChains.{queue-seen}
+use Rattle.deadlock_graph.proofs.LockWords.{client-few, resource-told, blocked-at, owner-place, blocked-sized, blocked-low, blocked-high, bar-low, bar-high}
+use Rattle.table_chains.specs.Walking.{At, Walking}
+use Rattle.table_chains.proofs.ChainWalks.{walk-splits, walk-ends, walk-sized, walk-low, walk-high, walk-stands, walk-less, walk-on}
+use Rattle.table_chains.proofs.LockLimits.{at-sized}
 use Rattle.deadlock_graph.proofs.LineAhead.{obstacles-are}
 use Rattle.deadlock_search.specs.OwnersInTheWay.{note, note-all, Unbarred, Barred}
 use Rattle.deadlock_search.proofs.OwnersInTheWay.{length-note, length-notes, notes-append, notes-at}
@@ -37,11 +39,11 @@ module _ (ws : List ℕ) (a j : ℕ) (o : List Bool) (r : Bool) (e : r ≡ in-wa
 pub record Noting (ws : List ℕ) (a first : ℕ) (o₀ o : List Bool) (k : ℕ) : Type 0 where
   pub at : At ws a
   pub walks : Walking ws 0 k
-  pub wide : length o ≡ 256
+  pub wide : length o ≡ owner-places
   pub size : length o ≡ length o₀
   pub whole : note-all (seen ws) a (onward ws 0 first) o₀ ≡ note-all (seen ws) a (onward ws 0 k) o
 
-pub noting-starts : {ws : List ℕ} {a k : ℕ} {o : List Bool} → At ws a → Walking ws 0 k → length o ≡ 256 → Noting ws a k o o k
+pub noting-starts : {ws : List ℕ} {a k : ℕ} {o : List Bool} → At ws a → Walking ws 0 k → length o ≡ owner-places → Noting ws a k o o k
 noting-starts p w l = record { at = p; walks = w; wide = l; size = refl; whole = refl }
 
 pub noting-again : {ws : List ℕ} {a first k x : ℕ} {o₀ o o′ : List Bool} → Noting ws a first o₀ o k → k ≢ 0 → o′ ≡ note (seen ws) a k o →
@@ -68,8 +70,8 @@ module _ {ws : List ℕ} {a r : ℕ} (b : Blocked ws a) (e : r ≡ word-in ws (o
       o₁ ≡ note-all (seen ws) a (onward ws 0 g) o → o₂ ≡ note-all (seen ws) a (onward ws 0 h) o₁ → Barred ws a o₂
   bar-done {g} {h} {o} {o₁} {o₂} eg eh u e₁ e₂ =
       let here : r ≡ lock (seen ws) a .resource = e ∙ resource-told ws a (blocked-at ws a b) in
-      let gs : onward ws 0 g ≡ resource (seen ws) r .grant = ap (onward ws 0) eg ∙ queue-onward ws (b .some) r grants (bar-low b e) (bar-high b e) in
-      let cs : onward ws 0 h ≡ resource (seen ws) r .convert = ap (onward ws 0) eh ∙ queue-onward ws (b .some) r converts (bar-low b e) (bar-high b e) in
+      let gs : onward ws 0 g ≡ resource (seen ws) r .grant = ap (onward ws 0) eg ∙ queue-seen ws (b .some) r grants (bar-low b e) (bar-high b e) in
+      let cs : onward ws 0 h ≡ resource (seen ws) r .convert = ap (onward ws 0) eh ∙ queue-seen ws (b .some) r converts (bar-low b e) (bar-high b e) in
       let holders : List ℕ = resource (seen ws) r .grant ++ resource (seen ws) r .convert in
       let all : o₂ ≡ note-all (seen ws) a holders o = e₂ ∙ rw (e₁, gs, cs) (sym (notes-append (seen ws) a (resource (seen ws) r .grant) (resource (seen ws) r .convert) o)) in
       let few : (j : ℕ) → owner (lock (seen ws) j) < length o = λ j. omega (arith, client-few ws (b .some) j, u .wide) in

@@ -13,10 +13,12 @@ use Rattle.tables.specs.Lists.{count, any}
 use Rattle.tables.specs.State.{Tables, lock, resource, blocked-lock}
 use Rattle.tables.proofs.Cases.{by-cases, by-equal, clash, or-left}
 use Rattle.tables.proofs.Counts.{count-nil, count-same, count-other}
+use Rattle.tables.proofs.ChainMembers.{line-blocked}
 use Rattle.tables.specs.Validity.{Core, line}
 use Rattle.rules.specs.Deadlock.{before, ahead}
-use Rattle.deadlock_graph.proofs.LineAhead.{before-here, before-past, count-before, any-counted, line-blocked, line-here, line-has, ahead-line}
+use Rattle.deadlock_graph.proofs.LineAhead.{before-here, before-past, any-counted, line-here, line-has, ahead-line}
 use Rattle.deadlock_search.specs.Ranks.{rank, rank-of, write-ranks}
+use Rattle.rules.proofs.DeadlockVictim.{count-before}
 
 -- ---- the place on a list
 

@@ -10,19 +10,21 @@ use lib.Dec.{leb}
 use borrow.Author.Tests.{leb-true, leb-false}
 use borrow.Author.Needs.{needs}
 use Rattle.tables.specs.Lists.{count}
-use Rattle.tables.specs.State.{Tables, lock, resource, converts, waits}
-use Rattle.tables.specs.Layout.{of-resource, of-lock, resources-in, locks-in, word-in}
+use Rattle.tables.specs.State.{Tables, lock, resource, converts, waits, most-locks}
+use Rattle.tables.specs.Layout.{of-resource, of-lock, resources-in, locks-in, word-in, onward}
 use Rattle.tables.proofs.Cases.{by-cases, by-equal}
 use Rattle.tables.proofs.Counts.{within-le}
-use Rattle.tables.specs.Validity.{used, StateOk, Core, line}
+use Rattle.tables.specs.Validity.{used, Core, line}
+use Rattle.tables.proofs.StateCases.{StateOk, ok-numbered}
 use Rattle.tables.proofs.Valid.{used-within}
 use Rattle.tables.proofs.ChainMembers.{line-once, blocked-place}
-use Rattle.table_fields.specs.Sizes.{Sized}
+use Rattle.table_fields.specs.Sizes.{Sized, lock-places}
 use Rattle.table_chains.specs.Contracts.{Some}
+use Rattle.table_chains.specs.Walking.{Walking}
+use Rattle.table_chains.proofs.ChainWalks.{some-sized, walk-splits, walk-ends, walk-short, walk-sized, walk-low, walk-high, walk-less, walk-on}
 use Rattle.deadlock_graph.specs.Contracts.{seen}
-use Rattle.deadlock_graph.specs.Chained.{onward, Walking}
 use Rattle.deadlock_graph.proofs.SameVictim.{Alike}
-use Rattle.deadlock_graph.proofs.ChainWalks.{some-sized, walk-splits, walk-ends, queue-onward, walk-sized, walk-low, walk-high, walk-less, walk-on, line-converts}
+use Rattle.deadlock_graph.proofs.SeenChains.{queue-seen}
 use Rattle.deadlock_graph.proofs.LockWords.{some-alike, resources-told}
 use Rattle.deadlock_graph.proofs.LineAhead.{line-here, line-alike}
 use Rattle.deadlock_search.specs.Ranks.{rank, rank-of, write-ranks, Unranked, Numbered, Ranked}
@@ -32,16 +34,16 @@ use Rattle.deadlock_search.proofs.RankLaws.{rank-none, length-number, n
 
 pub record Numbering (ws : List ℕ) (first n₀ : ℕ) (m₀ m : List ℕ) (k n : ℕ) : Type 0 where
   pub walks : Walking ws 0 k
-  pub wide : length m ≡ 1025
+  pub wide : length m ≡ lock-places
   pub size : length m ≡ length m₀
   pub below : n + length (onward ws 0 k) ≤ 2048
   pub count : n₀ + length (onward ws 0 first) ≡ n + length (onward ws 0 k)
   pub whole : write-ranks n₀ (onward ws 0 first) m₀ ≡ write-ranks n (onward ws 0 k) m
 
-pub numbering-starts : {ws : List ℕ} {k n : ℕ} {m : List ℕ} → Walking ws 0 k → n ≤ 1024 → length m ≡ 1025 → Numbering ws k n m m k n
-numbering-starts w h l =
+pub numbering-starts : {ws : List ℕ} {k n : ℕ} {m : List ℕ} → Walking ws 0 k → n ≤ most-locks → length m ≡ lock-places → Numbering ws k n m m k n
+numbering-starts {ws} {k} w h l =
     let few = some-sized (w .some) .few-locks in
-    record { walks = w; wide = l; size = refl; below = omega (arith, w .short); count = refl; whole = refl }
+    record { walks = w; wide = l; size = refl; below = omega (arith, walk-short ws 0 k); count = refl; whole = refl }
 
 module _ {ws : List ℕ} {first n₀ k n : ℕ} {m₀ m : List ℕ} (i : Numbering ws first n₀ m₀ m k n) where
   module _ (e : k ≢ 0) where
@@ -85,15 +87,15 @@ rank-alike t u a k = rw (a .locks k, line-alike t u a (lock t k .resource))
 
 module _ {ws : List ℕ} {r : ℕ} (s : Some Core ws) (there : (1 ≤ r) × (r ≤ resources-in ws)) where
   module _ {x : ℕ} (e : x ≡ word-in ws (of-resource r 2)) where
-    pub line-last : {n : ℕ} {m m₁ : List ℕ} → Numbered ws x 0 m m₁ n → n ≤ 1024
-    line-last d = omega (arith, d .last, line-converts s there e .short, some-sized s .few-locks)
+    pub line-last : {n : ℕ} {m m₁ : List ℕ} → Numbered ws x 0 m m₁ n → n ≤ most-locks
+    line-last d = omega (arith, d .last, walk-short ws 0 x, some-sized s .few-locks)
 
     module _ {y : ℕ} (h : y ≡ word-in ws (of-resource r 3)) where
       pub line-done : {n p : ℕ} {m m₁ m₂ : List ℕ} → Numbered ws x 0 m m₁ n → Numbered ws y n m₁ m₂ p → m₂ ≡ write-ranks 0 (line (seen ws) r) m
       unfolding line
       line-done {n} {p} {m} {m₁} {m₂} a b =
-          let cs : onward ws 0 x ≡ resource (seen ws) r .convert = ap (onward ws 0) e ∙ queue-onward ws s r converts (there .0) (there .1) in
-          let qs : onward ws 0 y ≡ resource (seen ws) r .wait = ap (onward ws 0) h ∙ queue-onward ws s r waits (there .0) (there .1) in
+          let cs : onward ws 0 x ≡ resource (seen ws) r .convert = ap (onward ws 0) e ∙ queue-seen ws s r converts (there .0) (there .1) in
+          let qs : onward ws 0 y ≡ resource (seen ws) r .wait = ap (onward ws 0) h ∙ queue-seen ws s r waits (there .0) (there .1) in
           let n-is : n ≡ 0 + length (resource (seen ws) r .convert) = a .last ∙ ap (λ zs. 0 + length zs) cs in
           b .written ∙ rw (a .written, n-is, cs, qs) (sym (number-append 0 (resource (seen ws) r .convert) (resource (seen ws) r .wait) m))
 
@@ -103,7 +105,7 @@ module _ {ws : List ℕ} {r : ℕ} (s : Some Core ws) (there : (1 ≤ r) × (r �
 pub record RankedBelow (ws m₀ m : List ℕ) (r : ℕ) : Type 0 where
   pub some : Some Core ws
   pub low : 1 ≤ r
-  pub wide : length m ≡ 1025
+  pub wide : length m ≡ lock-places
   pub size : length m ≡ length m₀
   pub done : (k : ℕ) → 1 ≤ k → k ≤ locks-in ws → lock (seen ws) k .resource < r → getD m k 0 ≡ rank-of (seen ws) k
   pub left : (k : ℕ) → r ≤ lock (seen ws) k .resource → getD m k 0 ≡ 0
@@ -176,7 +178,7 @@ module _ {ws m₀ m : List ℕ} {r : ℕ} (i : RankedBelow ws m₀ m r) where
 
   resource-few : (k : ℕ) → lock (seen ws) k .resource ≤ resources-in ws
   resource-few k =
-      rw (some-alike ws (i .some) .locks k, resources-told ws (i .some)) (go (lock t k .state) (i .some .good .lock-ok k))
+      rw (some-alike ws (i .some) .locks k, resources-told ws (i .some)) (go (lock t k .state) (ok-numbered (i .some .good .lock-ok k)))
     where
       go : (n : ℕ) → StateOk (used t) (lock t k) n → lock t k .resource ≤ length (t .resources)
       go zero ok = rw ok (omega arith)

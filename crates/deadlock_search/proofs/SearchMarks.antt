@@ -12,7 +12,9 @@ use Rattle.tables.proofs.Cases.{by-cases, by-equal, clash}
 use Rattle.tables.proofs.Counts.{count-nil, count-other}
 use Rattle.rules.specs.Walks.{reaches, Walk, step, through}
 use Rattle.rules.proofs.WalkSearch.{search-complete}
-use Rattle.deadlock_graph.specs.Marks.{marked, unmarked, Cleared}
+use Rattle.table_fields.specs.Sizes.{lock-places}
+use Rattle.table_chains.specs.Marks.{marked}
+use Rattle.deadlock_graph.specs.Marks.{unmarked, Cleared}
 use Rattle.deadlock_graph.proofs.Marks.{mark-same, mark-other, Keeping, mark-kept, join}
 use Rattle.deadlock_search.specs.SearchMarks.{Passed, Tried, Grown, StartNode, Followed, Searched}
 
@@ -55,7 +57,7 @@ some-left (y ∷ xs) m x l f =
 -- what holds at the head of a search's loop: m₀ are the marks where the loop begins, and the numbers below b have been tried
 pub record Loop (leads : ℕ → ℕ → Bool) (nodes : List ℕ) (n t from d : ℕ) (m₀ m : List Bool) (b : ℕ) : Type 0 where
   pub low : 1 ≤ b
-  pub wide : length m ≡ 1025
+  pub wide : length m ≡ lock-places
   pub size : length m ≡ length m₀
   pub here : marked m from ≡ true
   pub deep : unmarked nodes m < d

@@ -16,11 +16,12 @@ use Rattle.tables.specs.Validity.{Core}
 use Rattle.rules.specs.Deadlock.{ahead, leads}
 use Rattle.table_fields.specs.Sizes.{Sized}
 use Rattle.table_chains.specs.Contracts.{Some}
-use Rattle.deadlock_graph.specs.Contracts.{seen, At, Blocked}
-use Rattle.deadlock_graph.specs.Owners.{Owned}
-use Rattle.deadlock_graph.specs.Marks.{marked}
+use Rattle.deadlock_graph.specs.Contracts.{seen, Blocked}
+use Rattle.deadlock_graph.specs.Owners.{Owned, owner-places}
+use Rattle.table_chains.specs.Walking.{At}
+use Rattle.table_chains.proofs.ChainWalks.{some-sized}
+use Rattle.table_chains.specs.Marks.{marked}
 use Rattle.deadlock_graph.proofs.SameVictim.{Alike, ahead-alike}
-use Rattle.deadlock_graph.proofs.ChainWalks.{some-sized}
 use Rattle.deadlock_graph.proofs.LockWords.{some-alike, resource-told, blocked-at, blocked-is, is-blocked, blocked-sized, blocked-low, blocked-high}
 use Rattle.deadlock_search.specs.Ranks.{rank-of, Ranked}
 use Rattle.deadlock_search.specs.OwnersInTheWay.{Unbarred, Barred}
@@ -198,8 +199,8 @@ module _ {step : ℕ → ℕ → Bool} {nodes : List ℕ} {n t from d b : ℕ} {
   turn-size m″ i e = e ∙ search-size i
 
 -- no owner is written down before the walk over the holders
-pub none-barred : Unbarred (replicate 256 false)
-none-barred = record { wide = length-replicate 256 false; each = λ c. all-false 256 c }
+pub none-barred : Unbarred (replicate owner-places false)
+none-barred = record { wide = length-replicate owner-places false; each = λ c. all-false owner-places c }
   where
     all-false : (n c : ℕ) → getD (replicate n false) c false ≡ false
     all-false zero c = refl

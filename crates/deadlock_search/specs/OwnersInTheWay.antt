@@ -9,7 +9,7 @@ use Rattle.tables.specs.Lists.{any}
 use Rattle.tables.specs.State.{Tables, lock}
 use Rattle.rules.specs.Deadlock.{obstacles, owner}
 use Rattle.deadlock_graph.specs.Contracts.{seen}
-use Rattle.deadlock_graph.specs.Owners.{in-way}
+use Rattle.deadlock_graph.specs.Owners.{in-way, owner-places}
 
 -- the owner of j is written down if j is in a's way; the same for each lock of a list
 unfoldable pub note : Tables → ℕ → ℕ → List Bool → List Bool
@@ -22,10 +22,10 @@ note-all t a (j ∷ js) o = note-all t a js (note t a j o)
 
 -- none is written down yet
 pub record Unbarred (o : List Bool) : Type 0 where
-  pub wide : length o ≡ 256
+  pub wide : length o ≡ owner-places
   pub each : (c : ℕ) → getD o c false ≡ false
 
 -- the owners in a's way are written down
 pub record Barred (ws : List ℕ) (a : ℕ) (o : List Bool) : Type 0 where
-  pub wide : length o ≡ 256
-  pub each : (c : ℕ) → c < 256 → getD o c false ≡ any (λ j. eqb (owner (lock (seen ws) j)) c) (obstacles (seen ws) a)
+  pub wide : length o ≡ owner-places
+  pub each : (c : ℕ) → c < owner-places → getD o c false ≡ any (λ j. eqb (owner (lock (seen ws) j)) c) (obstacles (seen ws) a)

@@ -6,10 +6,10 @@ use Prim.Native.Nat.{ℕ, suc, _+_, _≤_}
 use lib.ListN.{getD, set, length}
 use lib.Dec.{eqb}
 use Rattle.tables.specs.State.{Tables, lock}
-use Rattle.tables.specs.Layout.{locks-in}
+use Rattle.tables.specs.Layout.{locks-in, onward}
 use Rattle.tables.specs.Validity.{line}
+use Rattle.table_fields.specs.Sizes.{lock-places}
 use Rattle.deadlock_graph.specs.Contracts.{seen}
-use Rattle.deadlock_graph.specs.Chained.{onward}
 
 -- the place of k on a list, counted on from n, or 0
 unfoldable pub rank : ℕ → ℕ → List ℕ → ℕ
@@ -27,7 +27,7 @@ write-ranks n (k ∷ ks) m = write-ranks (suc n) ks (set m k (suc n))
 
 -- none is written down yet
 pub record Unranked (m : List ℕ) : Type 0 where
-  pub wide : length m ≡ 1025
+  pub wide : length m ≡ lock-places
   pub each : (k : ℕ) → getD m k 0 ≡ 0
 
 -- the locks from `first` on have got their ranks, counted on from n up to r
@@ -37,5 +37,5 @@ pub record Numbered (ws : List ℕ) (first n : ℕ) (m m′ : List ℕ) (r : ℕ
 
 -- the ranks are written down
 pub record Ranked (ws m : List ℕ) : Type 0 where
-  pub wide : length m ≡ 1025
+  pub wide : length m ≡ lock-places
   pub each : (k : ℕ) → 1 ≤ k → k ≤ locks-in ws → getD m k 0 ≡ rank-of (seen ws) k

@@ -6,7 +6,8 @@ use Prim.Native.Nat.{ℕ, _<_, _≤_}
 use lib.ListN.{length}
 use Rattle.tables.specs.Lists.{count}
 use Rattle.rules.specs.Walks.{Walk}
-use Rattle.deadlock_graph.specs.Marks.{marked}
+use Rattle.table_fields.specs.Sizes.{lock-places}
+use Rattle.table_chains.specs.Marks.{marked}
 
 -- y is not t, and has been entered
 pub record Passed (t : ℕ) (m : List Bool) (y : ℕ) : Type 0 where
@@ -26,8 +27,8 @@ pub record Grown (leads : ℕ → ℕ → Bool) (n t : ℕ) (m m′ : List Bool)
 pub record StartNode (nodes : List ℕ) (n from : ℕ) (m : List Bool) : Type 0 where
   pub start : 1 ≤ count from nodes
   pub below : from < n
-  pub wide : length m ≡ 1025
-  pub small : n ≤ 1025
+  pub wide : length m ≡ lock-places
+  pub small : n ≤ lock-places
 
 -- what a search for t by way of the step from `from` to b says, and leaves in the marks
 pub record Followed (leads : ℕ → ℕ → Bool) (nodes : List ℕ) (n from b t : ℕ) (m m′ : List Bool) (r : Bool) : Type 0 where

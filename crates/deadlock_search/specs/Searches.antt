@@ -7,8 +7,10 @@ use Rattle.tables.specs.Layout.{locks-in}
 use Rattle.tables.specs.Validity.{Core}
 use Rattle.rules.specs.Deadlock.{leads}
 use Rattle.table_chains.specs.Contracts.{Some}
-use Rattle.deadlock_graph.specs.Contracts.{seen, At, Blocked}
-use Rattle.deadlock_graph.specs.Marks.{marked, unmarked, Cleared}
+use Rattle.table_chains.specs.Walking.{At}
+use Rattle.deadlock_graph.specs.Contracts.{seen, Blocked}
+use Rattle.table_chains.specs.Marks.{marked}
+use Rattle.deadlock_graph.specs.Marks.{unmarked, Cleared}
 use Rattle.deadlock_search.specs.Ranks.{Ranked}
 use Rattle.deadlock_search.specs.OwnersInTheWay.{Barred}
 use Rattle.deadlock_search.specs.SearchMarks.{StartNode}

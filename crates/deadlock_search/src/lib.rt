@@ -1,5 +1,4 @@
 // Breaking deadlocks: the first blocked lock that leads back to itself, found in the lent words.
-use deadlock_graph::LOCK_PLACES;
 use deadlock_graph::OWNER_PLACES;
 use deadlock_graph::in_way;
 use deadlock_graph::owner_of;
@@ -7,6 +6,7 @@ use deadlock_prune::clear_all;
 use table_fields::BLOCKED;
 use table_fields::LOCK_NEXT;
 use table_fields::LOCK_NEXT_BLOCKED;
+use table_fields::LOCK_PLACES;
 use table_fields::LOCK_RESOURCE;
 use table_fields::RESOURCE_CONVERT;
 use table_fields::RESOURCE_GRANT;
@@ -22,23 +22,26 @@ ghost use Prim.Native.Nat.{_+_, _≤_};
 ghost use lib.Dec.{eqb};
 ghost use lib.ListN.{length};
 ghost use Rattle.tables.specs.Lists.{any};
-ghost use Rattle.tables.specs.Layout.{«resources-in», «locks-in»};
+ghost use Rattle.tables.specs.Layout.{«resources-in», «locks-in», onward};
 ghost use Rattle.tables.specs.Validity.{Core, line};
+ghost use Rattle.tables.specs.State.{«most-locks»};
 ghost use Rattle.rules.specs.Deadlock.{ahead, leads, deadlocked, victim};
+ghost use Rattle.table_fields.specs.Sizes.{«lock-places»};
 ghost use Rattle.table_chains.specs.Contracts.{Some, Tells};
-ghost use Rattle.deadlock_graph.specs.Contracts.{seen, At, Blocked};
-ghost use Rattle.deadlock_graph.specs.Chained.{onward, Walking};
+ghost use Rattle.table_chains.specs.Walking.{At, Walking};
+ghost use Rattle.deadlock_graph.specs.Contracts.{seen, Blocked};
 ghost use Rattle.deadlock_search.specs.Ranks.{«write-ranks», Unranked, Numbered, Ranked};
 ghost use Rattle.deadlock_search.specs.OwnersInTheWay.{note, «note-all», Unbarred, Barred};
 ghost use Rattle.deadlock_search.specs.SearchMarks.{Followed, Searched};
 ghost use Rattle.deadlock_search.specs.Searches.{Following, Searching, Trying};
 ghost use Rattle.deadlock_prune.specs.Clearing.{Uncleared};
+ghost use Rattle.deadlock_graph.specs.Owners.{«owner-places»};
 
 // The owner of j is written down, if j is in a's way.
 fn note_owner(words: &[u32], a: u32, j: u32, owners: &mut [bool])
     requires { ⌜ At (now words) a ⌝ }
     requires { ⌜ At (now words) j ⌝ }
-    requires { ⌜ length (now owners) ≡ 256 ⌝ }
+    requires { ⌜ length (now owners) ≡ owner-places ⌝ }
     ensures { λ _. ⌜ now (owners .exit) ≡ note (seen (now (words .entry))) a j (now (owners .entry)) ⌝ }
 {
     if !in_way(words, a, j) {
@@ -52,7 +55,7 @@ fn note_owner(words: &[u32], a: u32, j: u32, owners: &mut [bool])
 fn note_owners(words: &[u32], a: u32, first: u32, owners: &mut [bool])
     requires { ⌜ At (now words) a ⌝ }
     requires { ⌜ Walking (now words) 0 first ⌝ }
-    requires { ⌜ length (now owners) ≡ 256 ⌝ }
+    requires { ⌜ length (now owners) ≡ owner-places ⌝ }
     ensures { λ _. ⌜ now (owners .exit) ≡ note-all (seen (now (words .entry))) a (onward (now (words .entry)) 0 first) (now (owners .entry)) ⌝ }
 {
     let mut k = first;
@@ -76,8 +79,8 @@ fn bar_owners(words: &[u32], a: u32, owners: &mut [bool])
 // The locks of a home chain, from `first` on, get the ranks after `rank`; answers the last of them.
 fn rank_chain(words: &[u32], first: u32, rank: u32, ranks: &mut [u32]) -> u32
     requires { ⌜ Walking (now words) 0 first ⌝ }
-    requires { ⌜ rank ≤ 1024 ⌝ }
-    requires { ⌜ length (now ranks) ≡ 1025 ⌝ }
+    requires { ⌜ rank ≤ most-locks ⌝ }
+    requires { ⌜ length (now ranks) ≡ lock-places ⌝ }
     ensures { λ r. ⌜ Numbered (now (words .entry)) first rank (now (ranks .entry)) (now (ranks .exit)) r ⌝ }
 {
     let mut k = first;
@@ -95,7 +98,7 @@ fn rank_chain(words: &[u32], first: u32, rank: u32, ranks: &mut [u32]) -> u32
 fn rank_line(words: &[u32], r: u32, ranks: &mut [u32])
     requires { ⌜ Some Core (now words) ⌝ }
     requires { ⌜ (1 ≤ r) × (r ≤ resources-in (now words)) ⌝ }
-    requires { ⌜ length (now ranks) ≡ 1025 ⌝ }
+    requires { ⌜ length (now ranks) ≡ lock-places ⌝ }
     ensures { λ _. ⌜ now (ranks .exit) ≡ write-ranks 0 (line (seen (now (words .entry))) r) (now (ranks .entry)) ⌝ }
 {
     let last = rank_chain(words, resource_word(words, r, RESOURCE_CONVERT), 0, ranks);

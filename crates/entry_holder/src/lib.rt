@@ -10,27 +10,36 @@ use table_fields::wide;
 ghost use mathlib.Core.Path.{_≡_};
 ghost use mathlib.Core.Bool.{true};
 ghost use Prim.Native.Nat.{_≤_, _<_};
-ghost use Rattle.tables.specs.Lists.{«first-that», same};
+ghost use lib.ListN.{getD};
+ghost use Rattle.tables.specs.Lists.{same};
 ghost use Rattle.tables.specs.State.{«name-width»};
 ghost use Rattle.tables.specs.Layout.{«resource-width», «lock-width», «of-resource», «of-lock», «resources-in», «locks-in», «word-in», read};
 ghost use Rattle.tables.specs.Sound.{sound};
 ghost use Rattle.rules.specs.Queues.{find};
-ghost use Rattle.rules.specs.Images.{«image-words», «holder-of», «holder-entry»};
+ghost use Rattle.rules.specs.Images.{«image-size», «image-words», ex, «holder-of», «holder-entry»};
 ghost use Rattle.table_names.specs.Names.{«name-in», «find-in»};
 ghost use Rattle.table_names.specs.Contracts.{Short, Named};
 ghost use Rattle.table_chains.specs.Contracts.{Some, Tells, Resourced};
-ghost use Rattle.queues.specs.Holders.{«locks-from»};
-ghost use Rattle.entry_holder.specs.Contracts.{HasAllWords, Chained, «holds-ex», «ex-lock»};
+ghost use Rattle.table_chains.specs.Walking.{Walking, «first-with»};
+ghost use Rattle.entry_holder.specs.Contracts.{HasAllWords, «ex-lock»};
 
 // The takeover program gets a refusal as this plus its number.
 const REFUSED: u32 = 256;
 
-// The words of the image's tables, as `table_fields` gives those of tables.
+// The word at that place among the words of the image's tables. Those below read through it, as `table_fields` reads words.
+fn word(image: &[u8], at: usize) -> u32
+    requires { ⌜ HasAllWords (now image) ⌝ }
+    requires { ⌜ at < image-size (now image) ⌝ }
+    ensures { λ x. ⌜ x ≡ getD (image-words (now (image .entry))) at 0 ⌝ }
+{
+    word_at(image, WORD_BYTES * at)
+}
+
 fn resource_count(image: &[u8]) -> u32
     requires { ⌜ HasAllWords (now image) ⌝ }
     ensures { λ x. ⌜ x ≡ resources-in (image-words (now (image .entry))) ⌝ }
 {
-    word_at(image, WORD_BYTES * table_fields::RESOURCES)
+    word(image, table_fields::RESOURCES)
 }
 
 fn resource_word(image: &[u8], r: u32, field: usize) -> u32
@@ -40,7 +49,7 @@ fn resource_word(image: &[u8], r: u32, field: usize) -> u32
     ensures { λ x. ⌜ x ≡ word-in (image-words (now (image .entry))) (of-resource r field) ⌝ }
 {
     let start = table_fields::HEADER_WORDS + table_fields::RESOURCE_WORDS * (r as usize - 1);
-    word_at(image, WORD_BYTES * (start + field))
+    word(image, start + field)
 }
 
 fn lock_word(image: &[u8], k: u32, field: usize) -> u32
@@ -53,7 +62,7 @@ fn lock_word(image: &[u8], k: u32, field: usize) -> u32
     let start = table_fields::HEADER_WORDS
         + table_fields::RESOURCE_WORDS * resources
         + table_fields::LOCK_WORDS * (k as usize - 1);
-    word_at(image, WORD_BYTES * (start + field))
+    word(image, start + field)
 }
 
 fn name_length(image: &[u8], r: u32) -> usize
@@ -101,8 +110,8 @@ fn named_resource(image: &[u8], slots: &[u8], name: &[u8]) -> u32
 // The first lock from `first` on along its queue that holds EX, or 0.
 fn ex_from(image: &[u8], first: u32) -> u32
     requires { ⌜ HasAllWords (now image) ⌝ }
-    requires { ⌜ Chained (image-words (now image)) first ⌝ }
-    ensures { λ k. ⌜ k ≡ first-that (holds-ex (image-words (now (image .entry)))) (locks-from (image-words (now (image .entry))) first) ⌝ }
+    requires { ⌜ Walking (image-words (now image)) 0 first ⌝ }
+    ensures { λ k. ⌜ k ≡ first-with (image-words (now (image .entry))) 0 6 ex first ⌝ }
 {
     let mut k = first;
     while k != 0 {

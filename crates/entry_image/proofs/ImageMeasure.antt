@@ -7,38 +7,40 @@ use native.Mathlib.Omega.{arith}
 use borrow.Author.Needs.{needs}
 use borrow.Author.Tests.{leb-true, le-leb, eqb-true, eq-eqb, not-false}
 use lib.Dec.{leb}
-use lib.ListN.{length, take, drop, replicate, length-drop, length-append, length-replicate}
-use lib.Seq.{take-all, take-at, length-take-le}
-use Rattle.tables.specs.Layout.{slot-width, resources-in, locks-in}
+use lib.ListN.{length, take, drop, replicate, length-drop, length-append, length-replicate, getD}
+use lib.Seq.{take-all, take-at}
+use Rattle.tables.specs.State.{most-resources, most-locks}
+use Rattle.tables.specs.Layout.{slot-width, resources-in, locks-in, header-width, resource-width, lock-width}
 use Rattle.tables.specs.Sound.{sound}
-use Rattle.tables.proofs.Blocks.{getD-map-from}
 use Rattle.tables.proofs.Cases.{by-cases, clash, parts}
 use Rattle.tables.proofs.Conditions.{resources-low, resources-high, locks-low, locks-high, words-sized}
 use Rattle.rules.specs.Images.{word-from, image-size, image-words, image-slots, image-sound}
 use Rattle.table_bytes.specs.Bytes.{decoded}
-use Rattle.table_bytes.proofs.Loops.{length-decoded}
+use Rattle.table_bytes.proofs.Loops.{length-decoded, decoded-at}
 use Rattle.entry_image.specs.Contracts.{measures, Measured, Decoded}
+use Rattle.table_names.proofs.FourBytes.{front-long}
 
 module _ (bs : List ℕ) where
-  -- the first two words
-  pub first-word : resources-in (image-words bs) ≡ word-from bs 0
-  unfolding image-words
-  first-word = getD-map-from (λ i. word-from bs (4 * i)) 0 (image-size bs) 0 (omega arith)
-
-  pub second-word : locks-in (image-words bs) ≡ word-from bs 4
-  unfolding image-words
-  second-word = getD-map-from (λ i. word-from bs (4 * i)) 0 (image-size bs) 1 (omega arith)
-
   pub words-decoded : image-words bs ≡ decoded bs (image-size bs)
   unfolding image-words decoded
   words-decoded = refl
 
+  -- a word, where it stands in the bytes; the first two
+  pub image-word : (i : ℕ) → i < image-size bs → getD (image-words bs) i 0 ≡ word-from bs (4 * i)
+  image-word i h = ap (λ (ws : List ℕ). getD ws i 0) words-decoded ∙ decoded-at bs (image-size bs) i h
+
+  pub first-word : resources-in (image-words bs) ≡ word-from bs 0
+  first-word = image-word 0 (omega arith)
+
+  pub second-word : locks-in (image-words bs) ≡ word-from bs 4
+  second-word = image-word 1 (omega arith)
+
   -- R and L are in range, and the length is right
   pub record Measure : Type 0 where
     pub resources-low : 1 ≤ word-from bs 0
-    pub resources-high : word-from bs 0 ≤ 256
+    pub resources-high : word-from bs 0 ≤ most-resources
     pub locks-low : 1 ≤ word-from bs 4
-    pub locks-high : word-from bs 4 ≤ 1024
+    pub locks-high : word-from bs 4 ≤ most-locks
     pub long : length bs ≡ 4 * image-size bs + slot-width * word-from bs 0
 
   pub measure : measures bs ≡ true → Measure
@@ -104,28 +106,28 @@ module _ (bs : List ℕ) where
     l-is : l ≡ word-from bs 4
     l-is = el .0 ∙ ey
 
-    pub words-beyond : not (leb 1 r && leb r 256 && leb 1 l && leb l 1024) ≡ true → Measured bs 0
+    pub words-beyond : not (leb 1 r && leb r most-resources && leb 1 l && leb l most-locks) ≡ true → Measured bs 0
     words-beyond h =
         unless-measure (λ m.
         let a : 1 ≤ r = rw r-is (m .resources-low) in
-        let b : r ≤ 256 = rw r-is (m .resources-high) in
+        let b : r ≤ most-resources = rw r-is (m .resources-high) in
         let c : 1 ≤ l = rw l-is (m .locks-low) in
-        let d : l ≤ 1024 = rw l-is (m .locks-high) in
-        clash false (rw (le-leb 1 r a, le-leb r 256 b, le-leb 1 l c, le-leb l 1024 d) at h) refl)
+        let d : l ≤ most-locks = rw l-is (m .locks-high) in
+        clash false (rw (le-leb 1 r a, le-leb r most-resources b, le-leb 1 l c, le-leb l most-locks d) at h) refl)
 
-    size-is : 8 + 8 * r + 9 * l ≡ image-size bs
+    size-is : header-width + resource-width * r + lock-width * l ≡ image-size bs
     size-is = rw (r-is, l-is) (omega arith)
 
-    pub words-misfit : not (leb 1 r && leb r 256 && leb 1 l && leb l 1024) ≡ false → (length bs ≡ 4 * (8 + 8 * r + 9 * l) + 96 * r → ⊥) → Measured bs 0
+    pub words-misfit : not (leb 1 r && leb r most-resources && leb 1 l && leb l most-locks) ≡ false → (length bs ≡ 4 * (header-width + resource-width * r + lock-width * l) + slot-width * r → ⊥) → Measured bs 0
     words-misfit h n = unless-measure (λ m. n (rw (size-is, r-is) (m .long)))
 
-    pub words-fit : not (leb 1 r && leb r 256 && leb 1 l && leb l 1024) ≡ false → length bs ≡ 4 * (8 + 8 * r + 9 * l) + 96 * r → Measured bs (8 + 8 * r + 9 * l)
+    pub words-fit : not (leb 1 r && leb r most-resources && leb 1 l && leb l most-locks) ≡ false → length bs ≡ 4 * (header-width + resource-width * r + lock-width * l) + slot-width * r → Measured bs (header-width + resource-width * r + lock-width * l)
     words-fit h long =
-        let t = not-false (leb 1 r && leb r 256 && leb 1 l && leb l 1024) h in
+        let t = not-false (leb 1 r && leb r most-resources && leb 1 l && leb l most-locks) h in
         let a : 1 ≤ r = leb-true 1 r (search parts depth 20) in
-        let b : r ≤ 256 = leb-true r 256 (search parts depth 20) in
+        let b : r ≤ most-resources = leb-true r most-resources (search parts depth 20) in
         let c : 1 ≤ l = leb-true 1 l (search parts depth 20) in
-        let d : l ≤ 1024 = leb-true l 1024 (search parts depth 20) in
+        let d : l ≤ most-locks = leb-true l most-locks (search parts depth 20) in
         let m : Measure = record {
           resources-low = rw (← r-is) a;
           resources-high = rw (← r-is) b;
@@ -172,18 +174,15 @@ pub ruleset judging = (needs, sound-told)
 
 -- load and holder: the front of a buffer has room for just the words, and then holds them
 module _ (n size : ℕ) (h : n ≤ size) where
-  front-long : length (take n (replicate {A = ℕ} size 0)) ≡ n
-  front-long = length-take-le n (replicate {A = ℕ} size 0) (rw length-replicate h)
-
   pub front-room : n ≡ length (take n (replicate {A = ℕ} size 0))
-  front-room = sym front-long
+  front-room = front-long n (replicate {A = ℕ} size 0) (rw length-replicate h)
 
   pub front-inside : (bs : List ℕ) → Measured bs n → 4 * length (take n (replicate {A = ℕ} size 0)) ≤ length bs
-  front-inside bs m = rw front-long (m .inside)
+  front-inside bs m = rw (← front-room) (m .inside)
 
   module _ (bs zs : List ℕ) (e : zs ≡ decoded bs (length (take n (replicate {A = ℕ} size 0)))) where
     front-is : zs ≡ decoded bs n
-    front-is = e ∙ ap (decoded bs) front-long
+    front-is = e ∙ ap (decoded bs) (sym front-room)
 
     zs-long : length zs ≡ n
     zs-long = ap length front-is ∙ length-decoded bs n

@@ -9,7 +9,7 @@ use borrow.Author.Tests.{eqb-true, eq-eqb, ne-eqb, not-true, not-false}
 use borrow.Rule.Slice.PartMut.{putMid}
 use lib.Dec.{eqb}
 use lib.ListN.{length, take, drop, length-drop, drop-of-length-le}
-use lib.Seq.{take-at, length-take-le}
+use lib.Seq.{take-at}
 use Rattle.tables.specs.Sound.{sound}
 use Rattle.tables.proofs.Cases.{by-cases, and-left, and-right}
 use Rattle.tables.proofs.Conditions.{words-sized}
@@ -23,6 +23,7 @@ use Rattle.table_bytes.specs.Bytes.{encoded}
 use Rattle.table_bytes.proofs.Loops.{length-encoded}
 use Rattle.entry_image.specs.Contracts.{imaged, Decoded}
 use Rattle.entry_image.proofs.ImageMeasure.{sound-inside, rest-slots, decoded-words, decoded-size}
+use Rattle.table_names.proofs.FourBytes.{front-long}
 
 -- image
 module _ (ws ss area : List ℕ) (x : Bool) (ex : x ≡ sound ws ss) where
@@ -60,7 +61,7 @@ module _ (ws ss area : List ℕ) (x : Bool) (ex : x ≡ sound ws ss) where
 -- the bytes for the words, of an area of this length
 module _ (ws area : List ℕ) (m : ℕ) (long : length area ≡ 4 * length ws + m) where
   pub area-front : 4 * length ws ≡ length (take (4 * length ws) area)
-  area-front = sym (length-take-le (4 * length ws) area (omega arith))
+  area-front = front-long (4 * length ws) area (omega arith)
 
   pub area-words : length (take (4 * length ws) area) ≡ 4 * length ws
   area-words = sym area-front

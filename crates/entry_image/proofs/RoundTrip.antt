@@ -10,20 +10,14 @@ use lib.Seq.{drop-at}
 use Rattle.tables.specs.Layout.{size, slot-width, resources-in, locks-in}
 use Rattle.tables.specs.Sound.{sound}
 use Rattle.tables.specs.Threads.{Each}
-use Rattle.tables.proofs.Blocks.{getD-map-from}
 use Rattle.tables.proofs.Conditions.{words-sized, slots-sized}
 use Rattle.rules.specs.Calls.{accepted, unless}
 use Rattle.rules.specs.Entries.{lent, outcome}
 use Rattle.rules.specs.Images.{image-bytes, word-from, image-size, image-words, image-slots, image-sound, load-refusal, load-into, load-entry}
 use Rattle.table_bytes.specs.Bytes.{encoded, decoded}
-use Rattle.table_bytes.proofs.Loops.{length-encoded}
+use Rattle.table_bytes.proofs.Loops.{length-encoded, decoded-at}
 use Rattle.table_bytes.proofs.Inverse.{decoded-encoded, encoded-decoded}
 use Rattle.entry_image.proofs.ImageMeasure.{words-decoded, sound-measure}
-
--- what is read at a place of n words
-decoded-at : (bs : List ℕ) (n i : ℕ) → i < n → getD (decoded bs n) i 0 ≡ word-from bs (4 * (0 + i))
-unfolding decoded
-decoded-at bs n i h = getD-map-from (λ j. word-from bs (4 * j)) 0 n i h
 
 -- an image's first two words, its words and its slots. Words lent as `&[u32]` are below 2 ^ 32.
 module _ (ws ss : List ℕ) (h : sound ws ss ≡ true) (small : Each (λ w. w < 2 ^ 32) ws) where

@@ -5,9 +5,10 @@ use mathlib.Core.List.{List}
 use Prim.Native.Nat.{ℕ, _*_, _≤_}
 use lib.ListN.{length}
 use lib.Dec.{eqb, leb}
+use Rattle.tables.specs.State.{most-resources, most-locks}
 use Rattle.tables.specs.Layout.{size, slot-width}
 use Rattle.rules.specs.Images.{Imaged, image-length, word-from, image-size}
-use Rattle.rules.specs.Calls.{Said}
+use Rattle.rules.specs.declared.Said.{Said}
 use Rattle.table_bytes.specs.Bytes.{decoded}
 
 -- the answer, and what the lent area then holds
@@ -16,12 +17,12 @@ imaged x area = record { refusal = x .refusal; area = area }
 
 -- the words of the largest tables
 abbrev pub most-words : ℕ
-most-words = size 256 1024
+most-words = size most-resources most-locks
 
 -- R, L and the length are those of an image
 unfoldable pub measures : List ℕ → Bool
 measures bs =
-    leb 1 (word-from bs 0) && leb (word-from bs 0) 256 && leb 1 (word-from bs 4) && leb (word-from bs 4) 1024
+    leb 1 (word-from bs 0) && leb (word-from bs 0) most-resources && leb 1 (word-from bs 4) && leb (word-from bs 4) most-locks
     && eqb (length bs) (image-length (image-size bs) (slot-width * word-from bs 0))
 
 -- n is the number of its words if they are, else 0

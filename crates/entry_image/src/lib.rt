@@ -20,11 +20,23 @@ const MOST_WORDS: usize = table_fields::HEADER_WORDS
     + table_fields::RESOURCE_WORDS * table_fields::MOST_RESOURCES
     + table_fields::LOCK_WORDS * table_fields::MOST_LOCKS;
 
-// The smaller buffers. What decoding leaves over is cleared, so an image's words go to the smallest buffer that has
-// room.
-const SMALL_WORDS: usize = 128;
+// The smaller buffers have room for the words of tables with so many resources and locks. Where records become wider, the
+// buffers do too. What decoding leaves over is cleared, so an image's words go to the smallest buffer that has room.
+const SMALL_RESOURCES: usize = 6;
 
-const MIDDLE_WORDS: usize = 3072;
+const SMALL_LOCKS: usize = 8;
+
+const SMALL_WORDS: usize = table_fields::HEADER_WORDS
+    + table_fields::RESOURCE_WORDS * SMALL_RESOURCES
+    + table_fields::LOCK_WORDS * SMALL_LOCKS;
+
+const MIDDLE_RESOURCES: usize = 95;
+
+const MIDDLE_LOCKS: usize = 256;
+
+const MIDDLE_WORDS: usize = table_fields::HEADER_WORDS
+    + table_fields::RESOURCE_WORDS * MIDDLE_RESOURCES
+    + table_fields::LOCK_WORDS * MIDDLE_LOCKS;
 
 // The refusal of what isn't the image of sound tables.
 pub const NO_IMAGE: u32 = UNSOUND;
@@ -79,7 +91,7 @@ fn is_sound(image: &[u8], decoded: &[u32]) -> bool
 }
 
 // The words d become the words s, which are as many.
-fn copy_words(d: &mut [u32], s: &[u32])
+pub fn copy_words(d: &mut [u32], s: &[u32])
     requires { ⌜ length (now d) ≡ length (now s) ⌝ }
     ensures { λ _. ⌜ now (d .exit) ≡ now (s .entry) ⌝ }
 {

@@ -3,14 +3,15 @@ use mathlib.Core.Path.{_≡_, refl, sym, ap, ap₂, _∙_}
 use mathlib.Core.Bool.{Bool, true, false, not}
 use mathlib.Core.List.{List}
 use Prim.Native.Nat.{ℕ, zero, suc}
-use borrow.Author.Tests.{not-true, not-false}
+use borrow.Author.Tests.{not-true}
 use borrow.Author.Needs.{needs}
 use Rattle.tables.specs.State.{Tables}
-use Rattle.tables.specs.Layout.{words, slots, read}
+use Rattle.tables.specs.Layout.{read}
 use Rattle.tables.specs.Sound.{sound}
 use Rattle.tables.specs.Validity.{Core, Valid}
-use Rattle.tables.proofs.Soundness.{sound-valid, sound-words, sound-slots}
-use Rattle.rules.specs.Calls.{Said, Step, refused-or, request-refusal, request-change, request, convert-refusal, convert-change, convert, release-refusal, release-change, release, cancel-refusal, cancel-change, cancel, purge-refusal, purge-change, purge, break, poll-refusal, poll-change, poll}
+use Rattle.rules.specs.declared.Said.{Said}
+use Rattle.rules.specs.Calls.{Step, refused-or, request-refusal, request-change, request, convert-refusal, convert-change, convert, release-refusal, release-change, release, cancel-refusal, cancel-change, cancel, purge-refusal, purge-change, purge, break, poll-refusal, poll-change, poll}
+use Rattle.tables.proofs.Written.{Writes}
 use Rattle.rules.specs.Entries.{lent, lent-of, outcome, written, if-sound, entry, Call, step-of, to-request, to-convert, to-release, to-cancel, to-purge, to-break, to-poll, call-entry, Keeps}
 use Rattle.rules.proofs.QueueTheorem.{outcome-is}
 use Rattle.rules.specs.Accepted.{Requestable, Releasable, Convertible, Cancellable, Purgeable}
@@ -18,18 +19,19 @@ use Rattle.rules.proofs.AcceptedCalls.{request-passed, convert-passed, release-
 use Rattle.table_chains.specs.Contracts.{Some, Tells}
 use Rattle.table_names.specs.Names.{find-in}
 use Rattle.table_names.specs.Contracts.{Named}
-use Rattle.table_names.proofs.StateNames.{core-named, find-is}
+use Rattle.table_names.proofs.StateNames.{sound-named, sound-find}
 use Rattle.queues.specs.Contracts.{SomeTables}
 use Rattle.call_refusals.specs.Contracts.{Finds}
 use Rattle.answers.specs.Answers.{refused-with}
 use Rattle.answers.specs.Contracts.{Makes, MakesWords}
+use Rattle.table_chains.proofs.FoundSound.{found-sound, found-written, found-valid, found-core}
 
 -- a call's rule: its refusal, its change, and what the change stands on
 record Ruled (call : Call) (refusal : Tables → ℕ) (change : Tables → Step) (P : Tables → Type 0) : Type 0 where
   step-is : (t : Tables) → step-of call t ≡ refused-or (refusal t) (change t) t
   passes : (t : Tables) → Valid t → refusal t ≡ 0 → P t
 
-request-ruled : (c m f : ℕ) (n : List ℕ) → Ruled (to-request c m f n) (request-refusal c m f n) (request-change c m n) (Requestable c m n)
+request-ruled : (c m f : ℕ) (n : List ℕ) → Ruled (to-request c m f n) (request-refusal c m f n) (request-change c m n) (Requestable c m f n)
 unfolding request
 request-ruled c m f n = record { step-is = λ t. refl; passes = λ t val. request-passed t val c m f n }
 
@@ -62,99 +64,76 @@ unfolding refused-or
 refused-step zero s t z = absurd (z refl)
 refused-step (suc n) s t z = refl
 
--- the names in a state's words and slots can be read, and what is found there is what the state has
-module _ (t : Tables) (core : Core t) (ws ss : List ℕ) (words-are : ws ≡ words t) (slots-are : ss ≡ slots t) where
-  named-at : Named ws ss
-  named-at = rw (words-are, slots-are) (core-named t core)
-
-  finds-at : (n : List ℕ) (r : ℕ) → r ≡ find-in ws ss n → Finds n r t
-  finds-at n r e = record { core = core; found = e ∙ (rw (words-are, slots-are) (find-is t core n)) }
-
 module _ (ws ss : List ℕ) (b : Bool) (checked : b ≡ sound ws ss) where
   pub entry-unsound : (call : Call) → not b ≡ true → Keeps call (lent ws ss) (refused-with 1) (lent ws ss)
   unfolding call-entry entry if-sound
   entry-unsound call q = rw (← checked, not-true b q)
 
   module _ (ok : not b ≡ false) where
-    is-sound : sound ws ss ≡ true
-    is-sound = sym checked ∙ not-false b ok
-
     abbrev t : Tables
     t = read ws ss
 
-    val : Valid t
-    val = sound-valid ws ss is-sound
-
-    words-are : ws ≡ words t
-    words-are = sound-words ws ss is-sound
-
-    slots-are : ss ≡ slots t
-    slots-are = sound-slots ws ss is-sound
-
-    pub entry-core : Some Core ws
-    entry-core = record { state = t; good = val .core; is = words-are }
+    w : Writes ws ss t
+    w = found-written ws ss b checked ok
 
     pub entry-named : Named ws ss
-    entry-named = named-at t (val .core) ws ss words-are slots-are
-
-    pub entry-valid : Some Valid ws
-    entry-valid = record { state = t; good = val; is = words-are }
+    entry-named = sound-named ws ss (found-sound ws ss b checked ok)
 
     entry-is : (call : Call) → written (step-of call t) ≡ call-entry call (lent ws ss)
-    entry-is call = sym (outcome-is call t val) ∙ ap₂ (λ (v z : List ℕ). call-entry call (lent v z)) (sym words-are) (sym slots-are)
+    entry-is call = sym (outcome-is call t (w .valid)) ∙ ap₂ (λ (v z : List ℕ). call-entry call (lent v z)) (sym (w .is)) (sym (w .slots-are))
 
     -- the code's number is the refusal of the state in the tables
     module _ {call : Call} {refusal : Tables → ℕ} {change : Tables → Step} {P : Tables → Type 0} (rule : Ruled call refusal change P)
         (n : ℕ) (n-is : n ≡ refusal t) where
       refused-by : (n ≡ 0 → ⊥) → Keeps call (lent ws ss) (refused-with n) (lent ws ss)
       refused-by z =
-          ap₂ (λ (v z : List ℕ). outcome (refused-with n) (lent v z)) words-are slots-are
+          ap₂ (λ (v z : List ℕ). outcome (refused-with n) (lent v z)) (w .is) (w .slots-are)
           ∙ refused-step n (change t) t z
           ∙ ap (λ (z : Step). written z) (ap (λ (i : ℕ). refused-or i (change t) t) n-is ∙ sym (rule .step-is t))
           ∙ entry-is call
 
       module _ (none : n ≡ 0) where
         good : P t
-        good = rule .passes t val (sym n-is ∙ none)
+        good = rule .passes t (w .valid) (sym n-is ∙ none)
 
         lent-for : SomeTables P ws ss
-        lent-for = record { state = t; good = good; is = words-are; slots-are = slots-are }
+        lent-for = record { state = t; good = good; is = w .is; slots-are = w .slots-are }
 
         some-for : Some P ws
-        some-for = record { state = t; good = good; is = words-are }
+        some-for = record { state = t; good = good; is = w .is }
 
         change-is : written (change t) ≡ call-entry call (lent ws ss)
         unfolding refused-or
         change-is = ap (λ (i : ℕ). written (refused-or i (change t) t)) (sym none ∙ n-is) ∙ ap (λ (z : Step). written z) (sym (rule .step-is t)) ∙ entry-is call
 
         made-by : (ds es : List ℕ) (x : Said) → Makes P change ws ss ds es x → Keeps call (lent ws ss) x (lent ds es)
-        made-by ds es x m = m .then t good words-are slots-are ∙ change-is
+        made-by ds es x m = m .then t good (w .is) (w .slots-are) ∙ change-is
 
         words-made-by : (ds : List ℕ) (x : Said) → MakesWords P change ws ds x → Keeps call (lent ws ss) x (lent ds ss)
-        words-made-by ds x m = ap (λ (z : List ℕ). outcome x (lent ds z)) slots-are ∙ m .then t good words-are ∙ change-is
+        words-made-by ds x m = ap (λ (z : List ℕ). outcome x (lent ds z)) (w .slots-are) ∙ m .then t good (w .is) ∙ change-is
 
     told-by : {g : Tables → ℕ} (n : ℕ) → Tells Core g ws n → n ≡ g t
-    told-by n en = en .then t (val .core) words-are
+    told-by n en = en .then t (w .valid .core) (w .is)
 
     -- REQUEST
     module _ (name : List ℕ) (r : ℕ) (er : r ≡ find-in ws ss name) where
       finds : Finds name r t
-      finds = finds-at t (val .core) ws ss words-are slots-are name r er
+      finds = record { core = w .valid .core; found = er ∙ sound-find name ws ss (found-sound ws ss b checked ok) }
 
       pub request-finds : Some (Finds name r) ws
-      request-finds = record { state = t; good = finds; is = words-are }
+      request-finds = record { state = t; good = finds; is = w .is }
 
       module _ (c m f n : ℕ) (en : Tells (Finds name r) (request-refusal c m f name) ws n) where
         request-number : n ≡ request-refusal c m f name t
-        request-number = en .then t finds words-are
+        request-number = en .then t finds (w .is)
 
         pub request-refused : (n ≡ 0 → ⊥) → Keeps (to-request c m f name) (lent ws ss) (refused-with n) (lent ws ss)
         request-refused = refused-by (request-ruled c m f name) n request-number
 
-        pub request-lent : n ≡ 0 → SomeTables (Requestable c m name) ws ss
+        pub request-lent : n ≡ 0 → SomeTables (Requestable c m f name) ws ss
         request-lent = lent-for (request-ruled c m f name) n request-number
 
-        pub request-made : n ≡ 0 → (ds es : List ℕ) (x : Said) → Makes (Requestable c m name) (request-change c m name) ws ss ds es x
+        pub request-made : n ≡ 0 → (ds es : List ℕ) (x : Said) → Makes (Requestable c m f name) (request-change c m name) ws ss ds es x
             → Keeps (to-request c m f name) (lent ws ss) x (lent ds es)
         request-made = made-by (request-ruled c m f name) n request-number
 
@@ -223,9 +202,9 @@ module _ (ws ss : List ℕ) (b : Bool) (checked : b ≡ sound ws ss) where
 pub ruleset entering = (
   needs,
   entry-unsound,
-  entry-core,
+  found-core,
   entry-named,
-  entry-valid,
+  found-valid,
   request-finds,
   request-refused,
   request-lent,

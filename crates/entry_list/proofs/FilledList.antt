@@ -9,16 +9,15 @@ use lib.Dec.{eqb, ltb}
 use borrow.Author.Tests.{ltb-true, ltb-false, lt-ltb, le-ltb, ne-eqb}
 use Rattle.tables.specs.declared.LockEntry.{LockEntry}
 use Rattle.tables.specs.Lists.{count, next}
-use Rattle.tables.specs.State.{Tables, lock, resource, Queue, grants, converts, waits, queue, queue-of, of-locks}
-use Rattle.tables.specs.Layout.{words, read-chain, read-lock}
+use Rattle.tables.specs.State.{Tables, lock, resource, Queue, grants, converts, waits, queue-of}
+use Rattle.tables.specs.Layout.{words, read-lock}
 use Rattle.tables.specs.Grants.{holders}
 use Rattle.tables.proofs.Cases.{by-cases}
-use Rattle.tables.proofs.Counts.{within-le, count-same, count-step}
-use Rattle.tables.specs.Threads.{Present}
-use Rattle.tables.proofs.ReadBack.{chain-read, lock-read}
-use Rattle.tables.proofs.ThreadedChains.{core-threaded}
+use Rattle.tables.proofs.Counts.{count-same, count-step}
+use Rattle.tables.proofs.ReadBack.{lock-read}
 use Rattle.rules.specs.Entries.{lock-entry, listed, fill}
 use Rattle.table_chains.specs.Contracts.{Some, Tells, Resourced}
+use Rattle.table_chains.proofs.ChainWalks.{queue-onward}
 use Rattle.list_walker.specs.Order.{locks-on, first-on, Queued, next-on, PlaceOn, SomePlaceOn, CountedOn}
 use Rattle.list_walker.proofs.ListsInARow.{first-at, at-on, at-next}
 use Rattle.list_walker.proofs.ResourceLocks.{resource-on, range-on, once-on, few-on, queued-at}
@@ -106,16 +105,8 @@ module _ (r : ℕ) (t : Tables) where
 
 -- what the words say of them is the same for every state that has these words
 module _ (r : ℕ) (t u : Tables) (p : Resourced r t) (g : Resourced r u) (same : words t ≡ words u) where
-  here : (v : Tables) → Resourced r v → (q : Queue) → Present v (of-locks (queue r q))
-  here v h grants = let w = within-le (length (v .resources)) r (h .in-range) in (w .0, w .1, omega arith)
-  here v h converts = let w = within-le (length (v .resources)) r (h .in-range) in (w .0, w .1, omega arith)
-  here v h waits = let w = within-le (length (v .resources)) r (h .in-range) in (w .0, w .1, omega arith)
-
   queue-same : (q : Queue) → queue-of q (resource t r) ≡ queue-of q (resource u r)
-  queue-same q =
-      sym (chain-read t (of-locks (queue r q)) (core-threaded t (p .core) (of-locks (queue r q)) (here t p q)))
-      ∙ ap (λ (ws : List ℕ). read-chain ws (of-locks (queue r q))) same
-      ∙ chain-read u (of-locks (queue r q)) (core-threaded u (g .core) (of-locks (queue r q)) (here u g q))
+  queue-same q = sym (queue-onward r t p q (words t) refl) ∙ queue-onward r u g q (words t) same
 
   locks-same : locks-on r t ≡ locks-on r u
   unfolding locks-on holders

@@ -4,19 +4,19 @@ use mathlib.Core.Bool.{Bool, true, false, not}
 use mathlib.Core.List.{List}
 use Prim.Native.Nat.{ℕ}
 use borrow.Author.Needs.{needs}
-use borrow.Author.Tests.{not-true, not-false}
+use borrow.Author.Tests.{not-true}
 use Rattle.tables.specs.declared.Lock.{Lock}
 use Rattle.tables.specs.declared.LockEntry.{LockEntry}
 use Rattle.tables.specs.Layout.{of-lock, word-in, read-lock, read}
 use Rattle.tables.specs.Sound.{sound}
 use Rattle.tables.specs.Validity.{Core}
-use Rattle.tables.proofs.Soundness.{sound-valid, sound-words}
 use Rattle.rules.specs.Calls.{unless}
 use Rattle.rules.specs.Entries.{look-refusal}
-use Rattle.table_chains.specs.Contracts.{Some, Tells}
+use Rattle.table_chains.specs.Contracts.{Tells}
 use Rattle.list_walker.specs.Order.{Queued}
 use Rattle.list_walker.proofs.WalkerReads.{queued-sized, queued-low, queued-high, queued-record}
 use Rattle.entry_list.specs.Listings.{list-refusal, resource-of, entry-of}
+use Rattle.table_chains.proofs.FoundSound.{found-sound, found-written, found-core}
 
 -- list_refusal
 module _ (ws ss : List ℕ) (c k : ℕ) (a : Bool) (ea : a ≡ sound ws ss) where
@@ -24,20 +24,11 @@ module _ (ws ss : List ℕ) (c k : ℕ) (a : Bool) (ea : a ≡ sound ws ss) wher
   unfolding list-refusal unless
   unsound-refused h = rw (sym ea ∙ not-true a h)
 
-  module _ (h : not a ≡ false) where
-    is-sound : sound ws ss ≡ true
-    is-sound = sym ea ∙ not-false a h
+  pub sound-looked : not a ≡ false → (n : ℕ) → Tells Core (look-refusal c k) ws n → n ≡ list-refusal ws ss c k
+  unfolding list-refusal unless
+  sound-looked h n told = let w = found-written ws ss a ea h in rw (found-sound ws ss a ea h) (told .then (read ws ss) (w .valid .core) (w .is))
 
-    pub sound-looked : (n : ℕ) → Tells Core (look-refusal c k) ws n → n ≡ list-refusal ws ss c k
-    unfolding list-refusal unless
-    sound-looked n told = rw is-sound (told .then (read ws ss) (sound-valid ws ss is-sound .core) (sound-words ws ss is-sound))
-
-pub sound-core : (ws ss : List ℕ) (a : Bool) → a ≡ sound ws ss → not a ≡ false → Some Core ws
-sound-core ws ss a ea h =
-    let s = sym ea ∙ not-false a h in
-    record { state = read ws ss; good = sound-valid ws ss s .core; is = sound-words ws ss s }
-
-pub ruleset refusal-laws = (needs, unsound-refused, sound-core, sound-looked)
+pub ruleset refusal-laws = (needs, unsound-refused, found-core, sound-looked)
 
 -- resource_of, entry_of
 abbrev pub entry-by : ℕ → Lock → LockEntry

@@ -12,7 +12,7 @@ use Rattle.tables.proofs.Cases.{by-cases}
 use Rattle.tables.proofs.Counts.{count-append}
 use Rattle.tables.specs.Validity.{Core}
 use Rattle.tables.proofs.ChainMembers.{holder-in}
-use Rattle.tables.proofs.Soundness.{sound-valid, sound-words}
+use Rattle.tables.proofs.Written.{Writes, sound-written}
 use Rattle.rules.specs.Calls.{accepted, unless}
 use Rattle.rules.specs.Entries.{look-refusal, list-locks, list-if, list-entry}
 use Rattle.rules.proofs.AcceptedCalls.{passed, next-test}
@@ -51,29 +51,29 @@ module _ (ws ss : List ℕ) (c k n : ℕ) (en : n ≡ list-refusal ws ss c k) wh
     unfolding list-refusal
     looked = next-test (sound ws ss) 0 _ (sym en ∙ z)
 
-    core : Core (read ws ss)
-    core = sound-valid ws ss is-sound .core
+    w : Writes ws ss (read ws ss)
+    w = sound-written ws ss is-sound
 
     queued : Queued k (read ws ss)
     unfolding look-refusal
-    queued = holder-queued k (read ws ss) core (passed _ 9 _ (next-test _ 7 _ (next-test _ 2 _ looked)))
+    queued = holder-queued k (read ws ss) (w .valid .core) (passed _ 9 _ (next-test _ 7 _ (next-test _ 2 _ looked)))
 
     pub answer-queued : Some (Queued k) ws
-    answer-queued = record { state = read ws ss; good = queued; is = sound-words ws ss is-sound }
+    answer-queued = record { state = read ws ss; good = queued; is = w .is }
 
     module _ (r : ℕ) (er : Tells (Queued k) (resource-of k) ws r) where
       resource-is : r ≡ lock (read ws ss) k .resource
       unfolding resource-of
-      resource-is = er .then (read ws ss) queued (sound-words ws ss is-sound)
+      resource-is = er .then (read ws ss) queued (w .is)
 
       resourced : Resourced r (read ws ss)
       resourced = subst (λ (s : ℕ). Resourced s (read ws ss)) (sym resource-is) (queued-resourced k (read ws ss) queued)
 
       pub answer-resourced : Some (Resourced r) ws
-      answer-resourced = record { state = read ws ss; good = resourced; is = sound-words ws ss is-sound }
+      answer-resourced = record { state = read ws ss; good = resourced; is = w .is }
 
       pub answer-listed : (m : ℕ) (es zs : List LockEntry) → Tells (Resourced r) (listing-of r es) ws (listing (accepted m 0) zs) → listing (accepted m 0) zs ≡ list-entry ws ss c k es
       unfolding list-entry list-if list-locks listing-of
       answer-listed m es zs told =
           rw (is-sound, list-if, looked)
-          (told .then (read ws ss) resourced (sound-words ws ss is-sound) ∙ ap (λ (s : ℕ). list-locks 0 s (read ws ss) es) resource-is)
+          (told .then (read ws ss) resourced (w .is) ∙ ap (λ (s : ℕ). list-locks 0 s (read ws ss) es) resource-is)

@@ -6,7 +6,8 @@ use Rattle.tables.specs.declared.LockEntry.{LockEntry}
 use Rattle.tables.specs.State.{Tables, lock}
 use Rattle.tables.specs.Layout.{read}
 use Rattle.tables.specs.Sound.{sound}
-use Rattle.rules.specs.Calls.{Said, unless}
+use Rattle.rules.specs.declared.Said.{Said}
+use Rattle.rules.specs.Calls.{unless}
 use Rattle.rules.specs.Entries.{look-refusal, Listing, lock-entry, listed, fill}
 
 -- the answer, and what the lent list then holds

@@ -44,7 +44,7 @@ pub fn request(
     if refusal != 0 {
         return Requested::Refused(refusal);
     }
-    call_request::request_change(words, slots, found, client, mode, name)
+    call_request::request_change(words, slots, found, client, mode, flags, name)
 }
 
 // A granted lock goes to another mode: in place, or it joins the convert queue.

@@ -7,17 +7,7 @@ use lib.ListN.{getD, length}
 use Rattle.tables.specs.Lists.{count, first, next}
 use Rattle.tables.proofs.Cases.{by-equal}
 use Rattle.tables.proofs.Counts.{count-nil, count-same, count-other, count-step}
-use Rattle.tables.proofs.Links.{next-here, next-past}
-
--- the first of two lists in a row
-pub first-of : (xs ys : List ℕ) → (first xs ≡ 0 → ⊥) → first (xs ++ ys) ≡ first xs
-first-of [] ys n = absurd (n refl)
-first-of (x ∷ xs) ys n = refl
-
-pub first-after : (xs ys : List ℕ) → count 0 xs ≡ 0 → first xs ≡ 0 → first (xs ++ ys) ≡ first ys
-first-after [] ys z e = refl
-first-after (zero ∷ xs) ys z e = absurd (omega (arith, count-same 0 xs))
-first-after (suc x ∷ xs) ys z e = absurd (omega arith)
+use Rattle.tables.proofs.Links.{next-here, next-past, first-of, first-after}
 
 -- what follows k there: something on its own list, or the first of what comes after it
 pub next-skip : (k : ℕ) (xs ys : List ℕ) → count k xs ≡ 0 → next k (xs ++ ys) ≡ next k ys

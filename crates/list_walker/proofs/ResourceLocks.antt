@@ -1,5 +1,5 @@
 -- The locks on a resource of a state, and their links among its words.
-use mathlib.Core.Path.{_≡_, refl, sym, _∙_, ap, subst}
+use mathlib.Core.Path.{_≡_, sym, _∙_, ap, subst}
 use mathlib.Core.Bool.{true}
 use mathlib.Core.List.{List, [], _∷_, _++_, append-assoc, append-nil}
 use Prim.Native.Nat.{ℕ, zero, suc, _+_, _≤_, _<_}
@@ -8,21 +8,19 @@ use lib.ListN.{getD, length}
 use borrow.Author.Tests.{eqb-true}
 use Rattle.tables.specs.Lists.{within, count, first, next}
 use Rattle.tables.specs.State.{Tables, lock, resource, Queue, grants, converts, waits, LockChain, queue, queue-of, chain, belongs}
-use Rattle.tables.specs.Layout.{Address, of-resource, of-lock, queue-head, content, words, word-in}
+use Rattle.tables.specs.Layout.{of-lock, words, word-in}
 use Rattle.tables.specs.Grants.{holders}
 use Rattle.tables.proofs.Counts.{within-le, count-nil, count-append, by-append}
-use Rattle.tables.proofs.Links.{counted-distinct, few, next-here, next-past}
-use Rattle.tables.specs.Threads.{In}
-use Rattle.tables.proofs.ReadBack.{word-read}
+use Rattle.tables.proofs.Links.{counted-distinct, few, next-past}
 use Rattle.tables.proofs.ThreadedChains.{each-counted, belongs-home}
 use Rattle.tables.specs.Validity.{used, Core}
 use Rattle.tables.proofs.Valid.{ok-at, used-within}
 use Rattle.tables.proofs.ChainMembers.{on-chain, chain-once, on-grants, on-converts, on-waits}
-use Rattle.table_fields.specs.Sizes.{Sized}
+use Rattle.table_fields.proofs.StateWords.{core-sized}
 use Rattle.table_chains.specs.Contracts.{Resourced}
-use Rattle.table_chains.proofs.ChainCells.{sized-is}
 use Rattle.list_walker.specs.Order.{locks-on, queues-past, Queued}
 use Rattle.list_walker.proofs.ListsInARow.{next-skip, next-in, next-end, at-on}
+use Rattle.table_fields.proofs.StateWords.{word-is}
 
 exclusive : (g c w s : ℕ) → g ≤ 1 → c ≤ 1 → w ≤ 1 → (1 ≤ g → s ≡ 1) → (1 ≤ c → s ≡ 2) → (1 ≤ w → s ≡ 3) → g + c + w ≤ 1
 exclusive zero zero w s a b d p q r = omega arith
@@ -52,9 +50,7 @@ split-past k n whole rest s e =
 
 module _ (t : Tables) (core : Core t) where
   pub none-zero : (q : Queue) (r : ℕ) → count 0 (queue-of q (resource t r)) ≡ 0
-  none-zero grants r = core .linked (queue r grants) 0
-  none-zero converts r = core .linked (queue r converts) 0
-  none-zero waits r = core .linked (queue r waits) 0
+  none-zero q r = core .linked (queue r q) 0
 
   pub no-lock-zero : (r : ℕ) → count 0 (locks-on r t) ≡ 0
   unfolding locks-on holders
@@ -124,22 +120,11 @@ module _ (k : ℕ) (t : Tables) (p : Queued k t) where
 
 -- by the words of the state
 module _ (t : Tables) (core : Core t) (ws : List ℕ) (is : ws ≡ words t) where
-  pub core-sized : Sized ws
-  core-sized = sized-is t ws is (core .resources-high) (core .locks-high)
-
-  word-here : (a : Address) → In t a → word-in ws a ≡ content t a
-  word-here a h = ap (λ (w : List ℕ). word-in w a) is ∙ word-read t a h
-
-  pub head-here : (r : ℕ) → within (length (t .resources)) r ≡ true → (q : Queue) → word-in ws (of-resource r (queue-head q)) ≡ first (queue-of q (resource t r))
-  head-here r h grants = let w = within-le (length (t .resources)) r h in word-here (of-resource r 1) (w .0, w .1, omega arith) ∙ next-here 0 0 (resource t r .grant) refl
-  head-here r h converts = let w = within-le (length (t .resources)) r h in word-here (of-resource r 2) (w .0, w .1, omega arith) ∙ next-here 0 0 (resource t r .convert) refl
-  head-here r h waits = let w = within-le (length (t .resources)) r h in word-here (of-resource r 3) (w .0, w .1, omega arith) ∙ next-here 0 0 (resource t r .wait) refl
-
   module _ (r k : ℕ) (m : 1 ≤ count k (locks-on r t)) (n : ℕ) (e : n ≡ word-in ws (of-lock k 0)) where
     link-here : (q : Queue) → belongs (queue r q) (lock t k) ≡ true → n ≡ next k (queue-of q (resource t r))
     link-here q b =
         let w = range-on t core r k m in
-        e ∙ word-here (of-lock k 0) (w .0, w .1, omega arith)
+        e ∙ word-is t ws is (of-lock k 0) (w .0, w .1, omega arith)
         ∙ ap (λ (c : LockChain). next k (0 ∷ chain t c)) (belongs-home (queue r q) (lock t k) tt b)
         ∙ next-past k 0 (queue-of q (resource t r)) (λ z. omega (arith, w .0))
 

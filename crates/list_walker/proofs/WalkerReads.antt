@@ -11,33 +11,19 @@ use borrow.Author.Needs.{needs}
 use borrow.Author.Tests.{eqb-true, eqb-false, ltb-true, not-true, not-false, ne-eqb}
 use Rattle.tables.specs.declared.Lock.{Lock}
 use Rattle.tables.specs.Lists.{count, first, next}
-use Rattle.tables.specs.State.{Resource, Tables, lock, resource, Queue, grants, converts, waits, queue-of}
-use Rattle.tables.specs.Layout.{of-resource, of-lock, queue-head, words, resources-in, locks-in, word-in, read-lock}
+use Rattle.tables.specs.State.{Resource, Tables, lock, resource, Queue, grants, converts, waits, queue-of, most-locks}
+use Rattle.tables.specs.Layout.{of-resource, of-lock, queue-head, words, locks-in, word-in, read-lock}
 use Rattle.tables.specs.Grants.{holders}
 use Rattle.tables.proofs.Cases.{and-left}
-use Rattle.tables.proofs.Counts.{within-le}
-use Rattle.tables.proofs.ReadBack.{lock-read}
+use Rattle.tables.proofs.Links.{first-of, first-after}
 use Rattle.tables.specs.Validity.{Core}
 use Rattle.table_fields.specs.Sizes.{Sized}
+use Rattle.table_fields.proofs.StateWords.{locks-is, lock-record}
 use Rattle.table_chains.specs.Contracts.{Some, Tells, Resourced}
-use Rattle.table_chains.proofs.ChainCells.{resources-is, locks-is}
+use Rattle.table_chains.proofs.ChainWalks.{some-sized, queue-first, here-sized, here-low, here-high}
 use Rattle.list_walker.specs.Order.{locks-on, first-on, queues-past, first-past, Queued, next-on, PlaceOn, SomePlaceOn, CountedOn}
-use Rattle.list_walker.proofs.ListsInARow.{first-of, first-after, at-on, at-inside, at-end, at-next}
-use Rattle.list_walker.proofs.ResourceLocks.{Split, split-next, split-past, none-zero, no-lock-zero, resource-on, once-on, few-on, queued-at, queued-range, queued-resourced, core-sized, head-here, split-here}
-
--- the resource r
-module _ (ws : List ℕ) (r : ℕ) (s : Some (Resourced r) ws) where
-  pub here-sized : Sized ws
-  here-sized = core-sized (s .state) (s .good .core) ws (s .is)
-
-  pub here-range : (1 ≤ r) × (r ≤ resources-in ws)
-  here-range = rw (resources-is (s .state) ws (s .is)) (within-le (length (s .state .resources)) r (s .good .in-range))
-
-  pub here-low : 1 ≤ r
-  here-low = here-range .0
-
-  pub here-high : r ≤ resources-in ws
-  here-high = here-range .1
+use Rattle.list_walker.proofs.ListsInARow.{at-on, at-inside, at-end, at-next}
+use Rattle.list_walker.proofs.ResourceLocks.{Split, split-next, split-past, none-zero, no-lock-zero, resource-on, once-on, few-on, queued-at, queued-range, queued-resourced, split-here}
 
 -- first_past: by the numbers of the state, and of the three heads
 module _ (x : Resource) (g c w : ℕ) (eg : g ≡ first (x .grant)) (ec : c ≡ first (x .convert)) (ew : w ≡ first (x .wait)) (zg : count 0 (x .grant) ≡ 0) (zc : count 0 (x .convert) ≡ 0) where
@@ -69,7 +55,7 @@ past-end x s h = rw (ne-eqb s 0 (omega arith), ne-eqb s 1 (omega arith), ne-eqb 
 
 module _ (ws : List ℕ) (r s : ℕ) where
   heads : (t : Tables) → Resourced r t → ws ≡ words t → (q : Queue) → word-in ws (of-resource r (queue-head q)) ≡ first (queue-of q (resource t r))
-  heads t p is = head-here t (p .core) ws is r (p .in-range)
+  heads t p is q = queue-first r t p q ws is
 
   module _ (g : ℕ) (eg : g ≡ word-in ws (of-resource r 1)) where
     pub past-granted : (ltb s 1 && not (eqb g 0)) ≡ true → Tells (Resourced r) (first-past r s) ws g
@@ -114,7 +100,7 @@ pub ruleset first-laws = (needs, first-told)
 -- following
 module _ (ws : List ℕ) (k : ℕ) where
   pub queued-sized : Some (Queued k) ws → Sized ws
-  queued-sized s = core-sized (s .state) (s .good .core) ws (s .is)
+  queued-sized s = some-sized (record { state = s .state; good = s .good .core; is = s .is })
 
   pub queued-low : Some (Queued k) ws → 1 ≤ k
   queued-low s = queued-range k (s .state) (s .good) .0
@@ -123,7 +109,7 @@ module _ (ws : List ℕ) (k : ℕ) where
   queued-high s = rw (locks-is (s .state) ws (s .is)) (queued-range k (s .state) (s .good) .1)
 
   pub queued-record : (t : Tables) → Queued k t → ws ≡ words t → read-lock ws k ≡ lock t k
-  queued-record t p is = ap (λ (v : List ℕ). read-lock v k) is ∙ lock-read t k (queued-range k t p .0) (queued-range k t p .1)
+  queued-record t p is = lock-record t ws is k (queued-range k t p .0) (queued-range k t p .1)
 
   module _ (n : ℕ) (en : n ≡ word-in ws (of-lock k 0)) where
     split : (t : Tables) (p : Queued k t) → ws ≡ words t → Split k n (locks-on (lock t k .resource) t) (queues-past (lock t k .state) (resource t (lock t k .resource)))
@@ -194,7 +180,7 @@ module _ (ws : List ℕ) (n k : ℕ) where
     }
 
     module _ (m : j ≡ 0 → ⊥) where
-      inside : (i < locks-in ws) × (i < 1024)
+      inside : (i < locks-in ws) × (i < most-locks)
       inside =
           let s = g .some in
           let core = s .good .there .core in

@@ -3,26 +3,25 @@
 use libc::STDIN_FILENO;
 use libc::STDOUT_FILENO;
 use play_lines::Line;
+use play_session::CHUNK_BYTES;
+use play_session::OUTPUT_BYTES;
 ghost use mathlib.Core.Path.{_≡_};
 ghost use Prim.Native.Nat.{_≤_};
 ghost use lib.ListN.{length};
-ghost use Rattle.play_lines.specs.InputLines.{Room};
+ghost use Rattle.play_lines.specs.InputLines.{Room, «line-width»};
+ghost use Rattle.play_session.specs.Sessions.{«chunk-width», «output-width»};
 
-// What is read at once, and room for what its lines can print.
-const CHUNK: usize = 1024;
-
-const PRINTED: usize = 24576;
-
-fn chunk_space() -> [u8; CHUNK]
-    ensures { λ r. ⌜ 1024 ≡ length r ⌝ }
+// Room for what is read at once, and for what its lines can print.
+fn chunk_space() -> [u8; CHUNK_BYTES]
+    ensures { λ r. ⌜ chunk-width ≡ length r ⌝ }
 {
-    [0; CHUNK]
+    [0; CHUNK_BYTES]
 }
 
-fn print_space() -> [u8; PRINTED]
-    ensures { λ r. ⌜ 24576 ≡ length r ⌝ }
+fn print_space() -> [u8; OUTPUT_BYTES]
+    ensures { λ r. ⌜ output-width ≡ length r ⌝ }
 {
-    [0; PRINTED]
+    [0; OUTPUT_BYTES]
 }
 
 // After a read: the line that has begun, and whether the input has ended.
@@ -55,7 +54,7 @@ fn play_some(words: &mut [u32], slots: &mut [u8], buffer: &mut [u8], line: Line)
 
 // A proved loop has to end, and nothing says that an input does: it counts down from a number that no run uses up.
 fn play_all(words: &mut [u32], slots: &mut [u8], buffer: &mut [u8]) -> Line
-    requires { ⌜ 256 ≤ length (now buffer) ⌝ }
+    requires { ⌜ line-width ≤ length (now buffer) ⌝ }
     ensures { λ r. ⌜ Room (now (buffer .exit)) r ⌝ }
 {
     let mut line = play_lines::start();

@@ -1,2 +1,2 @@
-pub mod AnswerNumbers
+pub mod AnsweredLines
 pub mod PlayedLine

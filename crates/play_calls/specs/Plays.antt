@@ -2,15 +2,12 @@
 use mathlib.Core.Bool.{cond}
 use mathlib.Core.List.{List, []}
 use Prim.Native.Nat.{ℕ}
-use mathlib.Core.Path.{_≡_}
 use lib.Dec.{eqb}
-use Rattle.rules.specs.Calls.{Said}
+use Rattle.rules.specs.declared.Said.{Said}
 use Rattle.rules.specs.Entries.{Lent, lent, Call, to-request, to-convert, to-release, to-cancel, to-purge, to-break, to-poll, call-entry}
-use Rattle.answers.specs.Answers.{never}
 use Rattle.play_print.specs.declared.LineAnswer.{LineAnswer}
 use Rattle.play_print.specs.declared.LineAnswer.the-variants.{Answer, AnswerAndLock, Refusal, Unknown}
 use Rattle.play_commands.specs.Forms.{letter-q, letter-c, letter-r, letter-x, letter-p, letter-d, letter-n, Meaning, request, convert, release, cancel, purge, break, poll, malformed}
-use Rattle.play_calls.specs.declared.SaidNumbers.{SaidNumbers}
 
 -- what is printed, and the tables that are left
 pub record Played : Type 0 where
@@ -18,23 +15,23 @@ pub record Played : Type 0 where
   pub tables : Lent
 
 -- "the letter, then the answer; or the letter, `!`, the refusal". Refusal 0: accepted
-unfoldable pub answered : (letter refusal answer : ℕ) → LineAnswer
-answered letter refusal answer = cond (eqb refusal 0) (Answer letter answer) (Refusal letter refusal)
+unfoldable pub answered : (letter : ℕ) → Said → LineAnswer
+answered letter x = cond (eqb (x .refusal) 0) (Answer letter (x .answer)) (Refusal letter (x .refusal))
 
 -- `q` "prints answer, lock", `n` "prints completion, lock"
-unfoldable pub answered-with-lock : (letter refusal answer lock : ℕ) → LineAnswer
-answered-with-lock letter refusal answer lock = cond (eqb refusal 0) (AnswerAndLock letter answer lock) (Refusal letter refusal)
+unfoldable pub answered-with-lock : (letter : ℕ) → Said → LineAnswer
+answered-with-lock letter x = cond (eqb (x .refusal) 0) (AnswerAndLock letter (x .answer) (x .number)) (Refusal letter (x .refusal))
 
 -- a line whose answer is a number, and one whose answer has a lock with it
 abbrev pub plays : ℕ → Call → Lent → Played
 plays letter c t =
     let o = call-entry c t in
-    record { answer = answered letter (o .said .refusal) (o .said .answer); tables = o .lent-after }
+    record { answer = answered letter (o .said); tables = o .lent-after }
 
 abbrev pub plays-with-lock : ℕ → Call → Lent → Played
 plays-with-lock letter c t =
     let o = call-entry c t in
-    record { answer = answered-with-lock letter (o .said .refusal) (o .said .answer) (o .said .number); tables = o .lent-after }
+    record { answer = answered-with-lock letter (o .said); tables = o .lent-after }
 
 unfoldable pub played : Meaning → Lent → Played
 played (request c m f n) t = plays-with-lock letter-q (to-request c m f n) t
@@ -46,13 +43,6 @@ played break t = plays letter-d to-break t
 played (poll c) t = plays-with-lock letter-n (to-poll c) t
 played malformed t = record { answer = Unknown; tables = t }
 
--- what the code has: a line's answer beside words and slots, and what a call says in numbers
+-- what the code has: a line's answer beside words and slots
 abbrev pub played-with : LineAnswer → List ℕ → List ℕ → Played
 played-with o ws ss = record { answer = o; tables = lent ws ss }
-
-abbrev pub said-of : SaidNumbers → Said
-said-of x = record { refusal = x .refusal; answer = x .answer; number = x .number; extra = 0 }
-
--- x has the numbers n, unless these are of a case that no call may give
-pub record HasNumbers (n : Said) (x : SaidNumbers) : Type 0 where
-  pub is : (n ≡ never → ⊥) → said-of x ≡ n

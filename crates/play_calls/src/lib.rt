@@ -1,124 +1,18 @@
 // Does what a line of lockplay asks: the call is made, and its answer is what is printed.
-use answers::Broken;
-use answers::Cancelled;
-use answers::Converted;
-use answers::Polled;
-use answers::Purged;
-use answers::Released;
-use answers::Requested;
 use play_commands::Command;
 use play_print::LineAnswer;
+use rules::Said;
 ghost use mathlib.Core.Path.{_≡_};
 ghost use mathlib.Core.List.{[]};
 ghost use Prim.Native.Nat.{_≤_};
 ghost use lib.ListN.{length};
-ghost use Rattle.rules.specs.Calls.{accepted};
 ghost use Rattle.rules.specs.Entries.{lent, «to-request», «to-convert», «to-release», «to-cancel», «to-purge», «to-break», «to-poll»};
-ghost use Rattle.answers.specs.Answers.{«refused-with», requested, converted, released, cancelled, purged, broken, polled};
 ghost use Rattle.play_commands.specs.Forms.{«letter-q», «letter-c», «letter-r», «letter-x», «letter-p», «letter-d», «letter-n», meaning, «name-start»};
-ghost use Rattle.play_calls.specs.Plays.{answered, «answered-with-lock», plays, «plays-with-lock», played, «played-with», HasNumbers};
-
-// A call's answer in document 01's numbers, as `answers/Answers` gives them: the refusal, or 0; the answer; the lock, where
-// it gives one.
-struct SaidNumbers {
-    refusal: u32,
-    answer: u32,
-    number: u32,
-}
-
-fn accept(answer: u32, number: u32) -> SaidNumbers
-    ensures { λ x. ⌜ HasNumbers (accepted answer number) x ⌝ }
-{
-    SaidNumbers {
-        refusal: 0,
-        answer,
-        number,
-    }
-}
-
-fn refuse(refusal: u32) -> SaidNumbers
-    ensures { λ x. ⌜ HasNumbers (refused-with refusal) x ⌝ }
-{
-    SaidNumbers {
-        refusal,
-        answer: 0,
-        number: 0,
-    }
-}
-
-fn requested_numbers(r: Requested) -> SaidNumbers
-    ensures { λ x. ⌜ HasNumbers (requested r) x ⌝ }
-{
-    match r {
-        Requested::Granted(k) => accept(1, k),
-        Requested::Waiting(k) => accept(2, k),
-        Requested::Refused(n) => refuse(n),
-    }
-}
-
-fn converted_numbers(r: Converted) -> SaidNumbers
-    ensures { λ x. ⌜ HasNumbers (converted r) x ⌝ }
-{
-    match r {
-        Converted::Granted => accept(1, 0),
-        Converted::Waiting => accept(2, 0),
-        Converted::Refused(n) => refuse(n),
-    }
-}
-
-fn released_numbers(r: Released) -> SaidNumbers
-    ensures { λ x. ⌜ HasNumbers (released r) x ⌝ }
-{
-    match r {
-        Released::Freed => accept(0, 0),
-        Released::Refused(n) => refuse(n),
-    }
-}
-
-fn cancelled_numbers(r: Cancelled) -> SaidNumbers
-    ensures { λ x. ⌜ HasNumbers (cancelled r) x ⌝ }
-{
-    match r {
-        Cancelled::Conversion => accept(1, 0),
-        Cancelled::Request => accept(2, 0),
-        Cancelled::Refused(n) => refuse(n),
-    }
-}
-
-fn purged_numbers(r: Purged) -> SaidNumbers
-    ensures { λ x. ⌜ HasNumbers (purged r) x ⌝ }
-{
-    match r {
-        Purged::Freed(n) => accept(n, 0),
-        Purged::Refused(n) => refuse(n),
-    }
-}
-
-fn broken_numbers(r: Broken) -> SaidNumbers
-    ensures { λ x. ⌜ HasNumbers (broken r) x ⌝ }
-{
-    match r {
-        Broken::Denied(k) => accept(k, 0),
-        Broken::NoDeadlock => accept(0, 0),
-        Broken::Refused(n) => refuse(n),
-    }
-}
-
-fn polled_numbers(r: Polled) -> SaidNumbers
-    ensures { λ x. ⌜ HasNumbers (polled r) x ⌝ }
-{
-    match r {
-        Polled::Granted(k) => accept(1, k),
-        Polled::RequestDenied(k) => accept(2, k),
-        Polled::ConversionDenied(k) => accept(3, k),
-        Polled::NoNotice => accept(0, 0),
-        Polled::Refused(n) => refuse(n),
-    }
-}
+ghost use Rattle.play_calls.specs.Plays.{answered, «answered-with-lock», plays, «plays-with-lock», played, «played-with»};
 
 // What is printed for an answer, after the line's letter: without the lock, and with it.
-fn answered(letter: u8, x: SaidNumbers) -> LineAnswer
-    ensures { λ r. ⌜ r ≡ answered letter (x .refusal) (x .answer) ⌝ }
+fn answered(letter: u8, x: Said) -> LineAnswer
+    ensures { λ r. ⌜ r ≡ answered letter x ⌝ }
 {
     if x.refusal == 0 {
         return LineAnswer::Answer(letter, x.answer);
@@ -126,8 +20,8 @@ fn answered(letter: u8, x: SaidNumbers) -> LineAnswer
     LineAnswer::Refusal(letter, x.refusal)
 }
 
-fn answered_with_lock(letter: u8, x: SaidNumbers) -> LineAnswer
-    ensures { λ r. ⌜ r ≡ answered-with-lock letter (x .refusal) (x .answer) (x .number) ⌝ }
+fn answered_with_lock(letter: u8, x: Said) -> LineAnswer
+    ensures { λ r. ⌜ r ≡ answered-with-lock letter x ⌝ }
 {
     if x.refusal == 0 {
         return LineAnswer::AnswerAndLock(letter, x.answer, x.number);
@@ -147,7 +41,7 @@ fn request_line(
     ensures { λ r. ⌜ played-with r (now (words .exit)) (now (slots .exit)) ≡ plays-with-lock letter-q (to-request client mode flags (now (name .entry))) (lent (now (words .entry)) (now (slots .entry))) ⌝ }
 {
     let r = entry_locks::request(words, slots, client, mode, flags, name);
-    answered_with_lock(b'q', requested_numbers(r))
+    answered_with_lock(b'q', r.said())
 }
 
 fn convert_line(
@@ -161,7 +55,7 @@ fn convert_line(
     ensures { λ r. ⌜ played-with r (now (words .exit)) (now (slots .exit)) ≡ plays letter-c (to-convert client lock mode flags []) (lent (now (words .entry)) (now (slots .entry))) ⌝ }
 {
     let r = entry_locks::convert(words, slots, client, lock, mode, flags, b"");
-    answered(b'c', converted_numbers(r))
+    answered(b'c', r.said())
 }
 
 fn release_line(
@@ -174,35 +68,35 @@ fn release_line(
     ensures { λ r. ⌜ played-with r (now (words .exit)) (now (slots .exit)) ≡ plays letter-r (to-release client lock flags []) (lent (now (words .entry)) (now (slots .entry))) ⌝ }
 {
     let r = entry_locks::release(words, slots, client, lock, flags, b"");
-    answered(b'r', released_numbers(r))
+    answered(b'r', r.said())
 }
 
 fn cancel_line(words: &mut [u32], slots: &[u8], client: u32, lock: u32) -> LineAnswer
     ensures { λ r. ⌜ played-with r (now (words .exit)) (now (slots .entry)) ≡ plays letter-x (to-cancel client lock) (lent (now (words .entry)) (now (slots .entry))) ⌝ }
 {
     let r = entry_recovery::cancel(words, slots, client, lock);
-    answered(b'x', cancelled_numbers(r))
+    answered(b'x', r.said())
 }
 
 fn purge_line(words: &mut [u32], slots: &mut [u8], client: u32) -> LineAnswer
     ensures { λ r. ⌜ played-with r (now (words .exit)) (now (slots .exit)) ≡ plays letter-p (to-purge client) (lent (now (words .entry)) (now (slots .entry))) ⌝ }
 {
     let r = entry_recovery::purge(words, slots, client);
-    answered(b'p', purged_numbers(r))
+    answered(b'p', r.said())
 }
 
 fn break_line(words: &mut [u32], slots: &[u8]) -> LineAnswer
     ensures { λ r. ⌜ played-with r (now (words .exit)) (now (slots .entry)) ≡ plays letter-d to-break (lent (now (words .entry)) (now (slots .entry))) ⌝ }
 {
     let r = entry_recovery::break_deadlock(words, slots);
-    answered(b'd', broken_numbers(r))
+    answered(b'd', r.said())
 }
 
 fn poll_line(words: &mut [u32], slots: &[u8], client: u32) -> LineAnswer
     ensures { λ r. ⌜ played-with r (now (words .exit)) (now (slots .entry)) ≡ plays-with-lock letter-n (to-poll client) (lent (now (words .entry)) (now (slots .entry))) ⌝ }
 {
     let r = entry_recovery::poll(words, slots, client);
-    answered_with_lock(b'n', polled_numbers(r))
+    answered_with_lock(b'n', r.said())
 }
 
 // Does what a line asks. The name of a request is the rest of the line from its place on.

@@ -9,7 +9,7 @@ use borrow.Author.Needs.{needs}
 use lib.Dec.{eqb}
 use lib.ListN.{length, getD, drop}
 use Rattle.play_numbers.specs.Fields.{spaced, until, parted}
-use Rattle.play_commands.specs.Forms.{break, malformed, numbers-then, Says, as-request, as-convert, as-release, as-cancel, as-purge, as-break, as-poll, of-letter, of-fields, meant}
+use Rattle.play_commands.specs.Forms.{break, malformed, numbers-then, Says, as-request, as-convert, as-release, as-cancel, as-purge, as-break, as-poll, of-letter, of-fields, meant, line-width}
 use Rattle.play_commands.specs.declared.Command.{Command}
 use Rattle.play_commands.specs.declared.Command.the-variants.{Break, Malformed}
 use Rattle.play_numbers.proofs.Basics.{by-cases, cond-same}
@@ -97,14 +97,14 @@ a-space b y zs e =
     (λ t. rw (t, e))
 
 module _ (l : List ℕ) where
-  pub too-long : 256 < length l → Says l Malformed (meant l)
+  pub too-long : line-width < length l → Says l Malformed (meant l)
   unfolding meant
-  too-long h = rw (lt-ltb 256 (length l) h) (none l)
+  too-long h = rw (lt-ltb line-width (length l) h) (none l)
 
-  module _ (h : length l ≤ 256) where
+  module _ (h : length l ≤ line-width) where
     short : meant l ≡ of-fields (parted 4 l)
     unfolding meant
-    short = rw (le-ltb 256 (length l) h)
+    short = rw (le-ltb line-width (length l) h)
 
     pub no-byte : length l < 1 → Says l Malformed (meant l)
     unfolding of-fields parted

@@ -101,8 +101,11 @@ unfoldable pub of-fields : List (List ℕ) → Meaning
 of-fields fs = cond (eqb (length (field fs 0)) 1) (of-letter (getD (field fs 0) 0 0) (drop 1 fs)) malformed
 
 -- "or `?` for another form or a line over 256 bytes"
+abbrev pub line-width : ℕ
+line-width = 256
+
 unfoldable pub meant : List ℕ → Meaning
-meant line = cond (ltb 256 (length line)) malformed (of-fields (parted 4 line))
+meant line = cond (ltb line-width (length line)) malformed (of-fields (parted 4 line))
 
 -- what a command of the code says of a line: a request's name is the line from the place start on
 abbrev pub meaning : List ℕ → Command → Meaning

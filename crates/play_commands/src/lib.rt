@@ -126,12 +126,15 @@ fn with_fields(line: &[u8], letter: u8) -> Command
     }
 }
 
+// The bytes of the longest line that asks something.
+pub const LINE_BYTES: usize = 256;
+
 // What a line asks.
 pub fn parse(line: &[u8]) -> Command
     ensures { λ r. ⌜ Says (now (line .entry)) r (meant (now (line .entry))) ⌝ }
 {
     let n = line.len();
-    if 256 < n {
+    if LINE_BYTES < n {
         return Command::Malformed;
     }
     if n < 1 {

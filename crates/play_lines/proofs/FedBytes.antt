@@ -1,5 +1,5 @@
 -- Laws of gathering lines: what one byte does in the code, and that bytes fed one by one give the input's lines.
-use Prim.Native.Nat.{ℕ, suc, _+_, _≤_, _<_}
+use Prim.Native.Nat.{ℕ, suc, _+_, _≤_, _<_, _-_}
 use mathlib.Core.Bool.{Bool, true, false, cond}
 use mathlib.Core.Path.{_≡_, refl, sym, ap, _∙_}
 use mathlib.Core.List.{List, [], _∷_, _++_, map, append-assoc, append-nil}
@@ -10,7 +10,7 @@ use borrow.Author.Needs.{needs}
 use lib.Dec.{eqb, ltb, leb}
 use lib.ListN.{length, take, set, length-append, length-set}
 use lib.Seq.{take-suc-set, length-take-le, take-all, take-append-le}
-use Rattle.play_commands.specs.Forms.{meant, Says}
+use Rattle.play_commands.specs.Forms.{meant, Says, line-width}
 use Rattle.play_lines.specs.InputLines.{byte-in-front, lines, kept-line, meant-kept, longer, keeps, comes, Room, Feeds, line-in, begun, gives}
 use Rattle.play_commands.specs.declared.Command.{Command}
 use Rattle.play_commands.specs.declared.Command.the-variants.{Malformed}
@@ -30,21 +30,21 @@ module _ (xs : List ℕ) (s : Line) (b : ℕ) (h : Room xs s) where
   kept-long = length-take-le (s .len) xs (omega arith)
 
   module _ (e : b ≡ 10 → ⊥) where
-    pub feeds-more : s .len < 256 → Feeds xs s b (set xs (s .len) b) (More (record { len = s .len + 1; over = s .over }))
+    pub feeds-more : s .len < line-width → Feeds xs s b (set xs (s .len) b) (More (record { len = s .len + 1; over = s .over }))
     unfolding comes longer
     feeds-more k =
         let i : s .len < length xs = omega arith in
         let l : length (set xs (s .len) b) ≡ length xs = length-set xs (s .len) b in
         record {
-          right = rw (ne-eqb b 10 e, kept-long, lt-ltb (s .len) 256 k, add-one (s .len), take-suc-set xs (s .len) b i);
+          right = rw (ne-eqb b 10 e, kept-long, lt-ltb (s .len) line-width k, add-one (s .len), take-suc-set xs (s .len) b i);
           room = record { buffer = omega arith; line = omega arith };
           long = l;
         }
 
-    pub feeds-over : 256 ≤ s .len → Feeds xs s b xs (More (record { len = s .len; over = true }))
+    pub feeds-over : line-width ≤ s .len → Feeds xs s b xs (More (record { len = s .len; over = true }))
     unfolding comes longer
     feeds-over k =
-        record { right = rw (ne-eqb b 10 e, kept-long, le-ltb (s .len) 256 k); room = record { buffer = h .buffer; line = h .line }; long = refl }
+        record { right = rw (ne-eqb b 10 e, kept-long, le-ltb (s .len) line-width k); room = record { buffer = h .buffer; line = h .line }; long = refl }
 
 pub begun-len : (s : Line) (xs : List ℕ) → Room xs s → leb 1 (s .len) ≡ begun (keeps xs s)
 begun-len s xs h = rw (length-take-le (s .len) xs (omega arith))
@@ -56,7 +56,7 @@ room-more xs e h = rw e at h
 pub room-whole : (xs : List ℕ) {r : Fed} {s : Line} → r ≡ Whole s → Room xs (line-in r) → Room xs s
 room-whole xs e h = rw e at h
 
-pub room-start : (xs : List ℕ) (s : Line) → 256 ≤ length xs → s .len ≡ 0 → Room xs s
+pub room-start : (xs : List ℕ) (s : Line) → line-width ≤ length xs → s .len ≡ 0 → Room xs s
 room-start xs s h e = record { buffer = h; line = omega arith }
 
 -- the command of a gathered line
@@ -80,28 +80,28 @@ keeps-none xs s e f = λ i. record { bytes = (let q : take (s .len) xs ≡ [] = 
 pub kept-means : (xs : List ℕ) → meant-kept (kept-line xs) ≡ meant xs
 unfolding meant-kept meant
 kept-means xs =
-    by-cases (ltb 256 (length xs))
+    by-cases (ltb line-width (length xs))
     (λ t. rw t)
-    (λ t. let h : length xs ≤ 256 = ltb-false 256 (length xs) t in rw (take-all 256 xs h, t))
+    (λ t. let h : length xs ≤ line-width = ltb-false line-width (length xs) t in rw (take-all line-width xs h, t))
 
 -- one byte more is kept as of the line with one byte more
 pub kept-longer : (xs : List ℕ) (b : ℕ) → longer (kept-line xs) b ≡ kept-line (xs ++ (b ∷ []))
 unfolding longer
 kept-longer xs b =
     let n : length (xs ++ (b ∷ [])) ≡ length xs + 1 = length-append xs (b ∷ []) in
-    by-cases (ltb (length xs) 256)
+    by-cases (ltb (length xs) line-width)
     (λ t.
-    let h : length xs < 256 = ltb-true (length xs) 256 t in
-    let o : ltb 256 (length xs) ≡ false = le-ltb 256 (length xs) (omega arith) in
-    let p : ltb 256 (length xs + 1) ≡ false = le-ltb 256 (length xs + 1) (omega arith) in
-    let q : take 256 xs ≡ xs = take-all 256 xs (omega arith) in
-    let u : take 256 (xs ++ (b ∷ [])) ≡ xs ++ (b ∷ []) = take-all 256 (xs ++ (b ∷ [])) (omega arith) in
+    let h : length xs < line-width = ltb-true (length xs) line-width t in
+    let o : ltb line-width (length xs) ≡ false = le-ltb line-width (length xs) (omega arith) in
+    let p : ltb line-width (length xs + 1) ≡ false = le-ltb line-width (length xs + 1) (omega arith) in
+    let q : take line-width xs ≡ xs = take-all line-width xs (omega arith) in
+    let u : take line-width (xs ++ (b ∷ [])) ≡ xs ++ (b ∷ []) = take-all line-width (xs ++ (b ∷ [])) (omega arith) in
     rw (q, u, n, o, p, t))
     (λ t.
-    let h : 256 ≤ length xs = ltb-false (length xs) 256 t in
-    let m : length (take 256 xs) ≡ 256 = length-take-le 256 xs h in
-    let p : ltb 256 (length xs + 1) ≡ true = lt-ltb 256 (length xs + 1) (omega arith) in
-    let u : take 256 (xs ++ (b ∷ [])) ≡ take 256 xs = take-append-le 256 xs (b ∷ []) h in
+    let h : line-width ≤ length xs = ltb-false (length xs) line-width t in
+    let m : length (take line-width xs) ≡ line-width = length-take-le line-width xs h in
+    let p : ltb line-width (length xs + 1) ≡ true = lt-ltb line-width (length xs + 1) (omega arith) in
+    let u : take line-width (xs ++ (b ∷ [])) ≡ take line-width xs = take-append-le line-width xs (b ∷ []) h in
     rw (u, n, p, m))
 
 -- the lines whose first has xs in front
@@ -123,7 +123,7 @@ front-more xs b (l ∷ ls) = ap (λ m. m ∷ ls) (sym (append-assoc xs (b ∷ []
 
 kept-begun : (xs : List ℕ) → begun (kept-line xs) ≡ leb 1 (length xs)
 kept-begun [] = refl
-kept-begun (x ∷ xs) = le-leb 1 (suc (length (take 255 xs))) (omega arith) ∙ sym (le-leb 1 (suc (length xs)) (omega arith))
+kept-begun (x ∷ xs) = le-leb 1 (suc (length (take (line-width - 1) xs))) (omega arith) ∙ sym (le-leb 1 (suc (length xs)) (omega arith))
 
 map-begun : (t : Bool) (xs : List ℕ) → cond t (kept-line xs ∷ []) [] ≡ map kept-line (cond t (xs ∷ []) [])
 map-begun true xs = refl

@@ -7,6 +7,7 @@ use lib.Dec.{eqb, ltb, leb}
 use lib.ListN.{length, take}
 use Rattle.play_numbers.specs.Characters.{newline}
 use Rattle.play_commands.specs.Forms.{Meaning, malformed, meant}
+pub use Rattle.play_commands.specs.Forms.{line-width}
 use Rattle.play_lines.specs.declared.Line.{Line}
 use Rattle.play_lines.specs.declared.Fed.{Fed}
 use Rattle.play_lines.specs.declared.Fed.the-variants.{More, Whole}
@@ -21,13 +22,13 @@ unfoldable pub lines : List ℕ → List (List ℕ)
 lines [] = []
 lines (b ∷ bs) = let rest = lines bs in cond (eqb b newline) ([] ∷ rest) (byte-in-front b rest)
 
--- what is kept of a line: its first 256 bytes, and whether there are more
+-- what is kept of a line: its first bytes, as many as the longest may have, and whether there are more
 pub record KeptLine : Type 0 where
   pub bytes : List ℕ
   pub over : Bool
 
 abbrev pub kept-line : List ℕ → KeptLine
-kept-line line = record { bytes = take 256 line; over = ltb 256 (length line) }
+kept-line line = record { bytes = take line-width line; over = ltb line-width (length line) }
 
 -- what it means
 unfoldable pub meant-kept : KeptLine → Meaning
@@ -35,7 +36,7 @@ meant-kept k = cond (k .over) malformed (meant (k .bytes))
 
 -- one byte more
 unfoldable pub longer : KeptLine → ℕ → KeptLine
-longer k b = cond (ltb (length (k .bytes)) 256) (record { bytes = k .bytes ++ (b ∷ []); over = k .over }) (record { bytes = k .bytes; over = true })
+longer k b = cond (ltb (length (k .bytes)) line-width) (record { bytes = k .bytes ++ (b ∷ []); over = k .over }) (record { bytes = k .bytes; over = true })
 
 -- what the code's buffer and line keep
 abbrev pub keeps : List ℕ → Line → KeptLine
@@ -58,10 +59,10 @@ abbrev pub line-in : Fed → Line
 line-in (Whole s) = s
 line-in (More s) = s
 
--- the buffer has 256 bytes or more, and the line's bytes are among its first 256
+-- the buffer has room for the longest line, and what is kept of the line is no longer than that
 pub record Room (xs : List ℕ) (s : Line) : Type 0 where
-  pub buffer : 256 ≤ length xs
-  pub line : s .len ≤ 256
+  pub buffer : line-width ≤ length xs
+  pub line : s .len ≤ line-width
 
 -- with the byte b the buffer xs, of the line s, became ys, and r was answered
 pub record Feeds (xs : List ℕ) (s : Line) (b : ℕ) (ys : List ℕ) (r : Fed) : Type 0 where

@@ -1,5 +1,6 @@
 // How the lines of the program lockplay are gathered from the input's bytes, and what a gathered line asks.
 use play_commands::Command;
+use play_commands::LINE_BYTES;
 use play_commands::parse;
 ghost use mathlib.Core.Path.{_≡_};
 ghost use mathlib.Core.Bool.{false};
@@ -9,7 +10,7 @@ ghost use lib.ListN.{take};
 ghost use Rattle.play_commands.specs.Forms.{Says};
 ghost use Rattle.play_lines.specs.InputLines.{keeps, begun, Room, Feeds, «meant-kept»};
 
-// A line that is being gathered: how many of its bytes are in the buffer, and whether it has more than 256.
+// A line that is being gathered: how many of its bytes are in the buffer, and whether it has more than the longest may have.
 pub struct Line {
     pub len: usize,
     pub over: bool,
@@ -31,7 +32,7 @@ pub fn start() -> Line
     }
 }
 
-// One byte of the input: the line's first 256 bytes are in the buffer.
+// One byte of the input: the line's first bytes are in the buffer, as many as the longest may have.
 pub fn feed(buffer: &mut [u8], s: Line, b: u8) -> Fed
     requires { ⌜ Room (now buffer) s ⌝ }
     ensures { λ r. ⌜ Feeds (now (buffer .entry)) s b (now (buffer .exit)) r ⌝ }
@@ -41,7 +42,7 @@ pub fn feed(buffer: &mut [u8], s: Line, b: u8) -> Fed
     if b == 10 {
         return Fed::Whole(s);
     }
-    if len < 256 {
+    if len < LINE_BYTES {
         buffer[len] = b;
         return Fed::More(Line { len: len + 1, over });
     }
@@ -63,7 +64,7 @@ pub fn parse_gathered(buffer: &[u8], s: Line) -> Command
     let len = s.len;
     let over = s.over;
     if over {
-        return Command::Malformed; // a line of over 256 bytes
+        return Command::Malformed; // the line is too long
     }
     parse(&buffer[..len])
 }

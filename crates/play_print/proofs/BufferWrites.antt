@@ -8,7 +8,7 @@ use borrow.Author.Needs.{needs}
 use lib.ListN.{length, take, drop, set, length-append, length-set}
 use lib.Seq.{drop-drop, drop-cons, take-at, drop-at, take-set-le, drop-set-add, set-split, length-take-le}
 use Rattle.play_print.specs.Decimal.{decimal}
-use Rattle.play_print.specs.PrintedLines.{overwritten, one, spaced-number, printed, Wrote}
+use Rattle.play_print.specs.PrintedLines.{overwritten, one, spaced-number, printed, Wrote, number-width}
 use Rattle.play_print.specs.declared.LineAnswer.{LineAnswer}
 use Rattle.play_print.specs.declared.LineAnswer.the-variants.{Answer, AnswerAndLock, Refusal, Unknown}
 use Rattle.play_print.proofs.Digits.{decimal-one, decimal-more, decimal-longer, decimal-short, decimal-some}
@@ -72,7 +72,7 @@ pub record Writes (xs : List ℕ) (at n : ℕ) (out : List ℕ) (m k : ℕ) : Ty
   pub room : k ≤ length xs
   pub left : overwritten at xs (decimal n) ≡ overwritten at out (decimal m)
 
-pub writes-start : (xs : List ℕ) (at n d : ℕ) → at + 10 ≤ length xs → d ≡ length (decimal n) → d ≤ 10 → Writes xs at n xs n (at + d)
+pub writes-start : (xs : List ℕ) (at n d : ℕ) → at + number-width ≤ length xs → d ≡ length (decimal n) → d ≤ number-width → Writes xs at n xs n (at + d)
 writes-start xs at n d h e k = record { long = refl; place = ap (λ i. at + i) e; room = omega arith; left = refl }
 
 module _ (xs : List ℕ) (at n : ℕ) (out : List ℕ) (m k : ℕ) (w : Writes xs at n out m k) where

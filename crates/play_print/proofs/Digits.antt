@@ -10,6 +10,7 @@ use lib.ListN.{length, length-append}
 use Rattle.play_print.specs.Decimal.{digits, decimal}
 use Rattle.play_numbers.specs.Numbers.{value-of-digits}
 use Rattle.play_numbers.proofs.Basics.{by-cases}
+use Rattle.play_print.specs.PrintedLines.{number-width}
 
 -- any bound that is large enough gives the same digits
 digits-enough : (j k n : ℕ) → n < j → n < k → digits j n ≡ digits k n
@@ -56,7 +57,7 @@ decimal-power (suc k) n h =
     omega arith)
 
 -- a number of 32 bits has at most ten digits
-pub decimal-ten : (n : ℕ) → n < 4294967296 → length (decimal n) ≤ 10
+pub decimal-ten : (n : ℕ) → n < 4294967296 → length (decimal n) ≤ number-width
 decimal-ten n h = decimal-power 9 n (let q : n < 10000000000 = omega arith in q)
 
 pub decimal-some : (n : ℕ) → 1 ≤ length (decimal n)

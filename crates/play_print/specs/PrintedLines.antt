@@ -1,5 +1,5 @@
 -- What is printed for a line: "the letter, then the answer; or the letter, `!`, the refusal; or `?`", each line with byte 10 at its end.
-use Prim.Native.Nat.{ℕ, _+_, _≤_}
+use Prim.Native.Nat.{ℕ, _+_, _*_, _≤_}
 use mathlib.Core.Path.{_≡_}
 use mathlib.Core.List.{List, [], _∷_, _++_}
 use lib.ListN.{length, take, drop}
@@ -14,6 +14,16 @@ spaced-number n = space ∷ decimal n
 
 abbrev pub one : ℕ → List ℕ
 one b = b ∷ []
+
+-- the longest of each: a number of 32 bits has ten digits, a field is a space and a number, a line has a letter, two fields and byte 10
+abbrev pub number-width : ℕ
+number-width = 10
+
+abbrev pub field-width : ℕ
+field-width = 1 + number-width
+
+abbrev pub printed-width : ℕ
+printed-width = 1 + 2 * field-width + 1
 
 -- the letter and the answer, for `q` and `n` with the lock after it; the letter, `!` and the refusal; or `?`
 unfoldable pub printed : LineAnswer → List ℕ

@@ -3,7 +3,7 @@ ghost use mathlib.Core.Path.{_≡_};
 ghost use Prim.Native.Nat.{_+_, _%_, _≤_, _<_};
 ghost use lib.ListN.{length};
 ghost use Rattle.play_print.specs.Decimal.{decimal};
-ghost use Rattle.play_print.specs.PrintedLines.{Wrote, one, printed, «spaced-number»};
+ghost use Rattle.play_print.specs.PrintedLines.{Wrote, one, printed, «spaced-number», «number-width», «field-width», «printed-width»};
 
 // What is printed for a line: the line's letter and the answer, for q and n with the lock; the letter and the refusal; or `?`.
 pub enum LineAnswer {
@@ -12,6 +12,14 @@ pub enum LineAnswer {
     Refusal(u8, u32),
     Unknown,
 }
+
+// The longest of each: a number of 32 bits has ten digits, a field is a space and a number, a line has a letter, two fields
+// and byte 10.
+const NUMBER_BYTES: usize = 10;
+
+const FIELD_BYTES: usize = 1 + NUMBER_BYTES;
+
+pub const PRINTED_BYTES: usize = 1 + 2 * FIELD_BYTES + 1;
 
 // Writes one byte at a place of a buffer. This function and those below answer the place after what they wrote.
 fn put_byte(out: &mut [u8], at: usize, b: u8) -> usize
@@ -31,7 +39,7 @@ fn last_digit(n: u32) -> u8
 
 // How many digits a number has.
 fn digit_count(n: u32) -> usize
-    ensures { λ r. ⌜ (r ≡ length (decimal n)) × (r ≤ 10) ⌝ }
+    ensures { λ r. ⌜ (r ≡ length (decimal n)) × (r ≤ number-width) ⌝ }
 {
     let mut m = n;
     let mut k: usize = 1;
@@ -44,8 +52,8 @@ fn digit_count(n: u32) -> usize
 
 // Writes a number, its last digit first.
 fn put_number(out: &mut [u8], at: usize, n: u32) -> usize
-    requires { ⌜ at + 10 ≤ length (now out) ⌝ }
-    ensures { λ r. ⌜ Wrote (now (out .entry)) at (decimal n) (now (out .exit)) r × (r ≤ at + 10) ⌝ }
+    requires { ⌜ at + number-width ≤ length (now out) ⌝ }
+    ensures { λ r. ⌜ Wrote (now (out .entry)) at (decimal n) (now (out .exit)) r × (r ≤ at + number-width) ⌝ }
 {
     let end = at + digit_count(n);
     let mut m = n;
@@ -62,8 +70,8 @@ fn put_number(out: &mut [u8], at: usize, n: u32) -> usize
 
 // A space and a number.
 fn put_field(out: &mut [u8], at: usize, n: u32) -> usize
-    requires { ⌜ at + 11 ≤ length (now out) ⌝ }
-    ensures { λ r. ⌜ Wrote (now (out .entry)) at (spaced-number n) (now (out .exit)) r × (r ≤ at + 11) ⌝ }
+    requires { ⌜ at + field-width ≤ length (now out) ⌝ }
+    ensures { λ r. ⌜ Wrote (now (out .entry)) at (spaced-number n) (now (out .exit)) r × (r ≤ at + field-width) ⌝ }
 {
     let a = put_byte(out, at, b' ');
     put_number(out, a, n)
@@ -71,8 +79,8 @@ fn put_field(out: &mut [u8], at: usize, n: u32) -> usize
 
 // The lines of the four outcomes.
 fn print_answer(out: &mut [u8], at: usize, letter: u8, answer: u32) -> usize
-    requires { ⌜ at + 24 ≤ length (now out) ⌝ }
-    ensures { λ r. ⌜ Wrote (now (out .entry)) at (printed (LineAnswer.Answer letter answer)) (now (out .exit)) r × (r ≤ at + 24) ⌝ }
+    requires { ⌜ at + printed-width ≤ length (now out) ⌝ }
+    ensures { λ r. ⌜ Wrote (now (out .entry)) at (printed (LineAnswer.Answer letter answer)) (now (out .exit)) r × (r ≤ at + printed-width) ⌝ }
 {
     let a = put_byte(out, at, letter);
     let b = put_field(out, a, answer);
@@ -80,8 +88,8 @@ fn print_answer(out: &mut [u8], at: usize, letter: u8, answer: u32) -> usize
 }
 
 fn print_answer_and_lock(out: &mut [u8], at: usize, letter: u8, answer: u32, lock: u32) -> usize
-    requires { ⌜ at + 24 ≤ length (now out) ⌝ }
-    ensures { λ r. ⌜ Wrote (now (out .entry)) at (printed (LineAnswer.AnswerAndLock letter answer lock)) (now (out .exit)) r × (r ≤ at + 24) ⌝ }
+    requires { ⌜ at + printed-width ≤ length (now out) ⌝ }
+    ensures { λ r. ⌜ Wrote (now (out .entry)) at (printed (LineAnswer.AnswerAndLock letter answer lock)) (now (out .exit)) r × (r ≤ at + printed-width) ⌝ }
 {
     let a = put_byte(out, at, letter);
     let b = put_field(out, a, answer);
@@ -90,8 +98,8 @@ fn print_answer_and_lock(out: &mut [u8], at: usize, letter: u8, answer: u32, loc
 }
 
 fn print_refusal(out: &mut [u8], at: usize, letter: u8, refusal: u32) -> usize
-    requires { ⌜ at + 24 ≤ length (now out) ⌝ }
-    ensures { λ r. ⌜ Wrote (now (out .entry)) at (printed (LineAnswer.Refusal letter refusal)) (now (out .exit)) r × (r ≤ at + 24) ⌝ }
+    requires { ⌜ at + printed-width ≤ length (now out) ⌝ }
+    ensures { λ r. ⌜ Wrote (now (out .entry)) at (printed (LineAnswer.Refusal letter refusal)) (now (out .exit)) r × (r ≤ at + printed-width) ⌝ }
 {
     let a = put_byte(out, at, letter);
     let b = put_byte(out, a, b' ');
@@ -101,17 +109,17 @@ fn print_refusal(out: &mut [u8], at: usize, letter: u8, refusal: u32) -> usize
 }
 
 fn print_unknown(out: &mut [u8], at: usize) -> usize
-    requires { ⌜ at + 24 ≤ length (now out) ⌝ }
-    ensures { λ r. ⌜ Wrote (now (out .entry)) at (printed LineAnswer.Unknown) (now (out .exit)) r × (r ≤ at + 24) ⌝ }
+    requires { ⌜ at + printed-width ≤ length (now out) ⌝ }
+    ensures { λ r. ⌜ Wrote (now (out .entry)) at (printed LineAnswer.Unknown) (now (out .exit)) r × (r ≤ at + printed-width) ⌝ }
 {
     let a = put_byte(out, at, b'?');
     put_byte(out, a, 10)
 }
 
-// The line that is printed for an outcome, of at most 24 bytes.
+// The line that is printed for an outcome.
 pub fn print(out: &mut [u8], at: usize, o: LineAnswer) -> usize
-    requires { ⌜ at + 24 ≤ length (now out) ⌝ }
-    ensures { λ r. ⌜ Wrote (now (out .entry)) at (printed o) (now (out .exit)) r × (r ≤ at + 24) ⌝ }
+    requires { ⌜ at + printed-width ≤ length (now out) ⌝ }
+    ensures { λ r. ⌜ Wrote (now (out .entry)) at (printed o) (now (out .exit)) r × (r ≤ at + printed-width) ⌝ }
 {
     match o {
         LineAnswer::Answer(letter, answer) => print_answer(out, at, letter, answer),

@@ -14,7 +14,7 @@ use Rattle.play_lines.specs.declared.Fed.{Fed}
 use Rattle.play_lines.specs.declared.Fed.the-variants.{More, Whole}
 use Rattle.play_print.specs.declared.LineAnswer.{LineAnswer}
 use Rattle.play_lines.specs.InputLines.{kept-line, keeps, meant-kept, comes, came, Room, Feeds, begun}
-use Rattle.play_print.specs.PrintedLines.{printed, Wrote}
+use Rattle.play_print.specs.PrintedLines.{printed, Wrote, printed-width}
 use Rattle.play_lines.proofs.FedBytes.{keeps-none, room-more, room-whole, room-start}
 use Rattle.play_session.specs.declared.Progress.{Progress}
 use Rattle.rules.specs.Entries.{lent}
@@ -34,7 +34,7 @@ module _ (xs out : List ℕ) (p : Progress) where
   pub ready-feeds : Ready xs out p → Room xs (p .line)
   ready-feeds h = h .room
 
-  pub ready-prints : Ready xs out p → p .at + 24 ≤ length out
+  pub ready-prints : Ready xs out p → p .at + printed-width ≤ length out
   ready-prints h = h .space
 
   module _ (b : ℕ) {ys : List ℕ} {r : Fed} (feeds : Feeds xs (p .line) b ys r) where
@@ -53,7 +53,7 @@ module _ (xs out : List ℕ) (p : Progress) where
       whole-room = room-whole ys e (feeds .room)
 
       module _ (ws ss ds es : List ℕ) (o : LineAnswer) (plays : played-with o ds es ≡ played (meant-kept (keeps ys l)) (lent ws ss))
-          (zs : List ℕ) (end : ℕ) (wrote : Wrote out (p .at) (printed o) zs end × (end ≤ p .at + 24))
+          (zs : List ℕ) (end : ℕ) (wrote : Wrote out (p .at) (printed o) zs end × (end ≤ p .at + printed-width))
           (n : Line) (new : (n .len ≡ 0) × (n .over ≡ false)) where
         pub byte-whole : standing ys ds es n (take end zs) ≡ fed (standing xs ws ss (p .line) (take (p .at) out)) b
         unfolding fed taken
@@ -84,8 +84,8 @@ pub record Along (words₀ slots₀ buffer₀ out₀ : List ℕ) (s : Line) (chu
   pub same : fed-all (standing buffer words slots (p .line) (take (p .at) out)) (drop i chunk) ≡ fed-all (standing buffer₀ words₀ slots₀ s []) chunk
   pub passed : i ≤ length chunk
   pub room : Room buffer (p .line)
-  pub most : p .at ≤ 24 * i
-  pub space : 24 * length chunk ≤ length out₀
+  pub most : p .at ≤ printed-width * i
+  pub space : printed-width * length chunk ≤ length out₀
   pub out-long : length out ≡ length out₀
   pub words-long : length words ≡ length words₀
   pub slots-long : length slots ≡ length slots₀
@@ -154,7 +154,7 @@ module _ (xs ws ss out : List ℕ) (s : Line) (h : Spacious xs out s 1) (b : Boo
       record { tables = rw f; output = rw f; within = omega arith }
 
   pub ends-last : not b ≡ false → (ds es : List ℕ) (o : LineAnswer) → played-with o ds es ≡ played (meant-kept (keeps xs s)) (lent ws ss)
-      → (zs : List ℕ) (end : ℕ) → Wrote out 0 (printed o) zs end × (end ≤ 0 + 24) → Ends (ended (standing xs ws ss s [])) ds es zs end
+      → (zs : List ℕ) (end : ℕ) → Wrote out 0 (printed o) zs end × (end ≤ 0 + printed-width) → Ends (ended (standing xs ws ss s [])) ds es zs end
   unfolding ended taken
   ends-last e ds es o plays zs end wrote =
       let f : begun (keeps xs s) ≡ true = sym begun-is ∙ not-false b e in

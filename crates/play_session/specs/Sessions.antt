@@ -5,22 +5,35 @@ use mathlib.Core.List.{List, [], _∷_, _++_}
 use Prim.Native.Nat.{ℕ, _+_, _*_, _≤_}
 use lib.ListN.{length, take}
 use Rattle.tables.specs.State.{started}
-use Rattle.tables.specs.Layout.{words, slots}
+use Rattle.tables.specs.Layout.{words, slots, size, slot-width}
 use Rattle.rules.specs.Entries.{Lent, lent}
 use Rattle.play_commands.specs.Forms.{meant}
 use Rattle.play_lines.specs.declared.Line.{Line}
 use Rattle.play_lines.specs.InputLines.{KeptLine, kept-line, keeps, meant-kept, Came, whole, more, comes, begun, Room}
-use Rattle.play_print.specs.PrintedLines.{printed}
+use Rattle.play_print.specs.PrintedLines.{printed, printed-width}
 use Rattle.play_session.specs.declared.Progress.{Progress}
 use Rattle.play_calls.specs.Plays.{played}
 
 -- "R 4, L 8": lockplay's tables as they are started, and the lengths that they need
+abbrev pub played-resources : ℕ
+played-resources = 4
+
+abbrev pub played-locks : ℕ
+played-locks = 8
+
 abbrev pub fresh-tables : Lent
-fresh-tables = record { words = words (started 4 8); slots = slots (started 4 8) }
+fresh-tables = record { words = words (started played-resources played-locks); slots = slots (started played-resources played-locks) }
 
 pub record Lengths (words slots : List ℕ) : Type 0 where
-  pub words-long : length words ≡ 112
-  pub slots-long : length slots ≡ 384
+  pub words-long : length words ≡ size played-resources played-locks
+  pub slots-long : length slots ≡ slot-width * played-resources
+
+-- how many bytes are read at once, and how many their lines can print: each of them may end a line
+abbrev pub chunk-width : ℕ
+chunk-width = 1024
+
+abbrev pub output-width : ℕ
+output-width = printed-width * chunk-width
 
 -- all lines of an input: what is printed for them, line by line
 unfoldable pub printed-for : List (List ℕ) → Lent → List ℕ
@@ -72,17 +85,17 @@ standing buffer words slots s output = record { line = keeps buffer s; tables = 
 -- the buffer has room for the line, and out for what a byte more can print
 pub record Ready (buffer out : List ℕ) (p : Progress) : Type 0 where
   pub room : Room buffer (p .line)
-  pub space : p .at + 24 ≤ length out
+  pub space : p .at + printed-width ≤ length out
 
 -- the same for n bytes more
 pub record Spacious (buffer out : List ℕ) (s : Line) (n : ℕ) : Type 0 where
   pub room : Room buffer s
-  pub space : 24 * n ≤ length out
+  pub space : printed-width * n ≤ length out
 
--- after n bytes: the line is in the buffer, at most 24 bytes have been printed for each, and out is as long as before
+-- after n bytes: the line is in the buffer, at most a line has been printed for each, and out is as long as before
 pub record WroteWithin (buffer before after : List ℕ) (at n : ℕ) (p : Progress) : Type 0 where
   pub room : Room buffer (p .line)
-  pub most : p .at ≤ at + 24 * n
+  pub most : p .at ≤ at + printed-width * n
   pub long : length after ≡ length before
 
 -- at the end of a session: its tables, and what has been printed in the first r bytes of out

@@ -1,5 +1,6 @@
 // What lockplay does with its input: it gathers lines, does what each asks, and prints its answer.
 use play_calls::perform;
+use play_commands::LINE_BYTES;
 use play_lines::Fed;
 use play_lines::Line;
 use play_lines::feed;
@@ -7,14 +8,17 @@ use play_lines::is_begun;
 use play_lines::parse_gathered;
 use play_lines::start;
 use play_print::LineAnswer;
+use play_print::PRINTED_BYTES;
 use play_print::print;
 ghost use mathlib.Core.Path.{_≡_};
 ghost use mathlib.Core.List.{[]};
+ghost use Prim.Native.Nat.{_*_};
 ghost use lib.ListN.{length, take};
-ghost use Rattle.play_lines.specs.InputLines.{keeps, Room, «meant-kept»};
+ghost use Rattle.tables.specs.Layout.{size, «slot-width»};
+ghost use Rattle.play_lines.specs.InputLines.{keeps, Room, «meant-kept», «line-width»};
 ghost use Rattle.rules.specs.Entries.{lent};
 ghost use Rattle.play_calls.specs.Plays.{played, «played-with»};
-ghost use Rattle.play_session.specs.Sessions.{«fresh-tables», Lengths, fed, «fed-all», ended, standing, Ready, Spacious, WroteWithin, Ends};
+ghost use Rattle.play_session.specs.Sessions.{«fresh-tables», Lengths, fed, «fed-all», ended, standing, Ready, Spacious, WroteWithin, Ends, «played-resources», «played-locks»};
 
 // Lockplay's tables: R 4, L 8.
 const RESOURCES: u32 = 4;
@@ -22,29 +26,31 @@ const RESOURCES: u32 = 4;
 const LOCKS: u32 = 8;
 
 pub const WORDS: usize = table_fields::HEADER_WORDS
-    + table_fields::RESOURCE_WORDS * 4
-    + table_fields::LOCK_WORDS * 8;
+    + table_fields::RESOURCE_WORDS * RESOURCES as usize
+    + table_fields::LOCK_WORDS * LOCKS as usize;
 
-pub const SLOTS: usize = table_names::SLOT_BYTES * 4;
+pub const SLOTS: usize = table_names::SLOT_BYTES * RESOURCES as usize;
 
-// So many bytes of a line are kept.
-pub const LINE_BYTES: usize = 256;
+// How many bytes are read at once, and how many their lines can print: each of them may end a line.
+pub const CHUNK_BYTES: usize = 1024;
+
+pub const OUTPUT_BYTES: usize = PRINTED_BYTES * CHUNK_BYTES;
 
 // Room for the tables and for a line.
 pub fn word_space() -> [u32; WORDS]
-    ensures { λ r. ⌜ 112 ≡ length r ⌝ }
+    ensures { λ r. ⌜ size played-resources played-locks ≡ length r ⌝ }
 {
     [0; WORDS]
 }
 
 pub fn slot_space() -> [u8; SLOTS]
-    ensures { λ r. ⌜ 384 ≡ length r ⌝ }
+    ensures { λ r. ⌜ slot-width * played-resources ≡ length r ⌝ }
 {
     [0; SLOTS]
 }
 
 pub fn line_space() -> [u8; LINE_BYTES]
-    ensures { λ r. ⌜ 256 ≡ length r ⌝ }
+    ensures { λ r. ⌜ line-width ≡ length r ⌝ }
 {
     [0; LINE_BYTES]
 }
@@ -100,7 +106,7 @@ pub fn play_byte(
     }
 }
 
-// A chunk of the input: what its lines print goes to the front of out, which has 24 bytes for each byte of the chunk.
+// A chunk of the input: what its lines print goes to the front of out, which has room for a line for each byte of the chunk.
 pub fn play_bytes(
     words: &mut [u32],
     slots: &mut [u8],

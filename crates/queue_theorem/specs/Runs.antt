@@ -3,7 +3,7 @@
 use mathlib.Core.Path.{_≡_}
 use mathlib.Core.List.{List, [], _∷_}
 use Prim.Native.Nat.{ℕ, _+_}
-use Rattle.rules.specs.Calls.{Said}
+use Rattle.rules.specs.declared.Said.{Said}
 use Rattle.rules.specs.Entries.{Lent, outcome, Call, to-request, to-convert, to-release, to-cancel, to-purge, to-break, to-poll, Keeps, start-entry}
 use Rattle.rules.specs.Theorem.{QueuesHold, in-use, requests-accepted, releases-accepted, requests-cancelled, locks-purged, polled-denials}
 use Rattle.answers.specs.declared.Done.{Done}

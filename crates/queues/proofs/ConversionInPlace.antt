@@ -18,12 +18,12 @@ use Rattle.tables.proofs.Counts.{within-le}
 use Rattle.tables.specs.Validity.{used, Granted}
 use Rattle.tables.proofs.Valid.{ok-at, used-within}
 use Rattle.tables.proofs.ChainMembers.{state-within}
-use Rattle.tables.proofs.ReadBack.{lock-read}
 use Rattle.table_fields.specs.Sizes.{Sized}
+use Rattle.table_fields.proofs.StateWords.{locks-is, core-sized, lock-record}
 use Rattle.rules.specs.Calls.{in-place}
 use Rattle.table_chains.specs.Contracts.{Some, Tells, Resourced}
-use Rattle.table_chains.proofs.ChainCells.{locks-is, sized-is}
-use Rattle.queues.proofs.QueueReads.{here-low, here-high, head-null}
+use Rattle.table_chains.proofs.ChainWalks.{here-low, here-high}
+use Rattle.queues.proofs.QueueReads.{head-null}
 use Rattle.queues.specs.Contracts.{GrantedLock}
 
 -- a granted lock stands on a resource that is there
@@ -39,7 +39,7 @@ module _ (k : ℕ) (t : Tables) (p : GrantedLock k t) where
 
 module _ (ws : List ℕ) (k : ℕ) where
   pub held-sized : Some (GrantedLock k) ws → Sized ws
-  held-sized s = sized-is (s .state) ws (s .is) (s .good .core .resources-high) (s .good .core .locks-high)
+  held-sized s = core-sized (s .state) ws (s .is) (s .good .core)
 
   pub held-low : Some (GrantedLock k) ws → 1 ≤ k
   held-low s = range k (s .state) (s .good) .0
@@ -49,7 +49,7 @@ module _ (ws : List ℕ) (k : ℕ) where
 
   module _ (l : Lock) (el : l ≡ read-lock ws k) where
     l-is : (t : Tables) → GrantedLock k t → ws ≡ words t → l ≡ lock t k
-    l-is t p is = el ∙ ap (λ (v : List ℕ). read-lock v k) is ∙ lock-read t k (range k t p .0) (range k t p .1)
+    l-is t p is = el ∙ lock-record t ws is k (range k t p .0) (range k t p .1)
 
     on-it : (t : Tables) → GrantedLock k t → ws ≡ words t → Resourced (l .resource) t
     on-it t p is = subst (λ (o : Lock). Resourced (o .resource) t) (sym (l-is t p is)) (its-resource k t p)

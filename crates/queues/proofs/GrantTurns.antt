@@ -15,15 +15,16 @@ use Rattle.tables.specs.Grants.{fits, convert-grantable, grantable-head}
 use Rattle.tables.proofs.Cases.{clash}
 use Rattle.tables.proofs.Counts.{within-le, count-same}
 use Rattle.tables.proofs.ReadBack.{lock-read, chain-read}
-use Rattle.tables.specs.Validity.{Core, line}
+use Rattle.tables.specs.Validity.{as-free, as-granted, Core, line}
 use Rattle.tables.proofs.Valid.{resources-length}
 use Rattle.tables.proofs.ChainMembers.{blocked-place}
 use Rattle.rules.specs.Queues.{granted-lock, grant-lock, grant-while, sweep, free-lock}
 use Rattle.rules.proofs.SweepLaws.{grant-core, grant-line, sweep-line, sweep-is-line}
+use Rattle.table_fields.proofs.StateWords.{locks-is}
 use Rattle.table_chains.specs.Contracts.{Some, Turns, Tells, Answers, Movable, Moving, Moved, Resourced}
-use Rattle.table_chains.proofs.ChainCells.{locks-is}
+use Rattle.table_chains.proofs.ChainWalks.{here-sized}
 use Rattle.queues.specs.Contracts.{Locked, ready, advance}
-use Rattle.queues.proofs.QueueReads.{threaded, here-sized}
+use Rattle.queues.proofs.QueueReads.{threaded}
 
 -- STATES. The line of r has a head or not
 module _ (r : ℕ) (t : Tables) where
@@ -56,12 +57,12 @@ module _ (r : ℕ) (t : Tables) (c : Core t) where
         in-range = b .2;
         near-old = λ z. b .1;
         near-new = λ z. b .1;
-        ok = record {
+        ok = as-granted refl (record {
           place = record { in-use = b .0 .in-use; client-low = b .0 .client-low; client-high = b .0 .client-high; held-mode = b .0 .asked-mode; asked-mode = omega arith };
           asks = refl;
           notice = omega arith;
           not-denied = omega arith;
-        };
+        });
       }
 
   line-stop : ready r t ≡ false → (qs : List ℕ) → line t r ≡ qs → sweep-line r qs t ≡ t
@@ -257,7 +258,7 @@ pub ruleset sweep-laws = (needs, sweep-starts, sweep-again, sweep-less, sweep-en
 
 -- free_lock
 free-movable : (k : ℕ) (t : Tables) → Locked k t → Movable (lock t k .resource) k no-lock t
-free-movable k t p = record { core = p .core; in-range = p .in-range; near-old = λ z. refl; near-new = λ z. absurd (z refl); ok = refl }
+free-movable k t p = record { core = p .core; in-range = p .in-range; near-old = λ z. refl; near-new = λ z. absurd (z refl); ok = as-free refl }
 
 pub free-moving : (k : ℕ) (a : List ℕ) → Some (Locked k) a → Moving k no-lock a
 free-moving k a s = record { state = s .state; resource = lock (s .state) k .resource; good = free-movable k (s .state) (s .good); is = s .is }

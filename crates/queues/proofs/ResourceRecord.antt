@@ -2,19 +2,19 @@
 use mathlib.Core.Path.{_≡_, refl, sym, _∙_, ap, ap₂}
 use mathlib.Core.Bool.{Bool, true, false, _&&_, not}
 use mathlib.Core.List.{List, [], _∷_, _++_}
-use Prim.Native.Nat.{ℕ, zero, suc, _-_, _*_, _<_, _≤_}
+use Prim.Native.Nat.{ℕ, _-_, _*_, _<_, _≤_}
 use native.Mathlib.Omega.{arith}
 use lib.ListN.{length, replicate, take}
 use lib.Dec.{eqb}
 use borrow.Author.Needs.{needs}
 use borrow.Author.Tests.{not-true, not-false}
-use Rattle.tables.specs.Lists.{nth, put, null, from}
+use Rattle.tables.specs.Lists.{nth, null, from}
 use Rattle.tables.specs.State.{Resource, Tables, name-width, value-width, no-lock, no-resource, lock, resource, Queue, grants, converts, waits, queue-of, shift-front, move-resource}
 use Rattle.tables.specs.Layout.{of-resource, words, flat-map, slot-width, slot, slots, resources-in, word-in, slot-in}
 use Rattle.tables.specs.Grants.{empty}
 use Rattle.tables.proofs.Cases.{by-cases}
 use Rattle.tables.proofs.Blocks.{flat-map-same}
-use Rattle.tables.proofs.Counts.{within-le, length-put}
+use Rattle.tables.proofs.Counts.{within-le, length-put, put-own}
 use Rattle.tables.proofs.Numbered.{nth-put-blind}
 use Rattle.tables.proofs.SlotChanges.{slots-move}
 use Rattle.tables.specs.Validity.{used}
@@ -24,10 +24,11 @@ use Rattle.rules.specs.Calls.{stores, spoils, with-value, leave-value, new-reso
 use Rattle.rules.proofs.ResourceChanges.{empty-chains, SameChains}
 use Rattle.rules.proofs.RequestKeepsSound.{unused-chains}
 use Rattle.table_chains.specs.Contracts.{Some, Turns, Tells, Changes, Resourced, Refilled, ResourceMoved}
+use Rattle.table_chains.proofs.ChainWalks.{here-sized, here-low, here-high}
 use Rattle.table_names.specs.Contracts.{with-slot, blank}
 use Rattle.table_names.proofs.StateNames.{length-is, slot-there, free-slot, put-name, put-value, put-blank}
 use Rattle.queues.specs.Contracts.{SomeTables, Vacant, Takes, Valued}
-use Rattle.queues.proofs.QueueReads.{here-sized, here-low, here-high, head-null}
+use Rattle.queues.proofs.QueueReads.{head-null}
 
 -- SLOTS that a change leaves as they are
 pub slots-same : (r : ℕ) (x : Resource) (t : Tables) → slot x ≡ slot (resource t r) → slots (move-resource r x t) ≡ slots t
@@ -53,12 +54,6 @@ unfolding free-lock
 slots-free k t = slots-move (lock t k .resource) k no-lock t
 
 -- a resource that becomes itself
-put-own : (xs : List Resource) (k : ℕ) → put xs k (nth xs k no-resource) ≡ xs
-put-own xs zero = refl
-put-own [] (suc k) = refl
-put-own (x ∷ xs) (suc zero) = refl
-put-own (x ∷ xs) (suc (suc k)) = ap (λ (ys : List Resource). x ∷ ys) (put-own xs (suc k))
-
 front-own : (b : Bool) (k : ℕ) (xs : List ℕ) → shift-front b b k xs ≡ xs
 unfolding shift-front
 front-own true k xs = refl
@@ -67,7 +62,7 @@ front-own false k xs = refl
 move-own : (r : ℕ) (t : Tables) → move-resource r (resource t r) t ≡ t
 unfolding move-resource resource
 move-own r t = λ i. record {
-  resources = put-own (t .resources) r i;
+  resources = put-own no-resource (t .resources) r i;
   locks = t .locks;
   free-resources = front-own (null (nth (t .resources) r no-resource .name)) r (t .free-resources) i;
   free-locks = t .free-locks;

@@ -8,7 +8,7 @@ use lib.ListN.{length}
 use Rattle.tables.specs.Lists.{within, null}
 use Rattle.tables.specs.State.{Tables, no-lock, lock, resource, move-resource}
 use Rattle.tables.proofs.Cases.{by-cases, clash}
-use Rattle.tables.specs.Validity.{used, Core}
+use Rattle.tables.specs.Validity.{used, as-free, Core}
 use Rattle.tables.proofs.Valid.{absent, locks-length, resources-length, core-move}
 use Rattle.rules.specs.Queues.{sweep, free-lock, settle, find}
 use Rattle.rules.specs.Calls.{leave-value, new-resource}
@@ -22,7 +22,7 @@ use Rattle.queues.specs.Contracts.{Locked, Takes, Valued}
 module _ (k : ℕ) (t : Tables) (p : Locked k t) where
   pub freed-core : Core (free-lock k t)
   unfolding free-lock
-  freed-core = core-move (lock t k .resource) k no-lock t (p .core) (p .in-range) (λ z. refl) (λ z. absurd (z refl)) refl (λ z. clash false z refl)
+  freed-core = core-move (lock t k .resource) k no-lock t (p .core) (p .in-range) (λ z. refl) (λ z. absurd (z refl)) (as-free refl) (λ z. clash false z refl)
 
   pub freed-locked : (j : ℕ) → within (length (t .locks)) j ≡ true → Locked j (free-lock k t)
   freed-locked j w = record { core = freed-core; in-range = unfold free-lock in rw (locks-length (lock t k .resource) k no-lock t) w }

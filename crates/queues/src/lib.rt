@@ -8,17 +8,20 @@ ghost use mathlib.Core.Bool.{true, false};
 ghost use Prim.Native.Nat.{_<_};
 ghost use Rattle.tables.specs.Lists.{first};
 ghost use Rattle.tables.specs.State.{«no-resource», resource, «move-resource»};
+ghost use Rattle.tables.specs.Layout.{onward};
 ghost use Rattle.tables.specs.Grants.{fits, admits, empty};
 ghost use Rattle.tables.specs.Validity.{line};
 ghost use Rattle.rules.specs.Queues.{«granted-lock», sweep, «free-lock», settle};
 ghost use Rattle.rules.specs.Calls.{«in-place», «leave-value», «new-resource»};
 ghost use Rattle.table_chains.specs.Contracts.{Some, Turns, Tells, Answers, Changes, Resourced};
-ghost use Rattle.queues.specs.Holders.{«with-holder», «with-holders», others, «held-in», «locks-from», Joined, HolderChain};
+ghost use Rattle.table_chains.specs.Walking.{At, Walking};
+ghost use Rattle.queues.specs.Holders.{«with-holder», «with-holders», others, «held-in»};
 ghost use Rattle.queues.specs.Contracts.{Locked, GrantedLock, ready, advance, SomeTables, Vacant, Takes, Valued};
 
 // The set with the mode that lock j holds, unless j is k.
 fn with_holder(words: &[u32], set: u32, j: u32, k: u32) -> u32
-    requires { ⌜ Joined (now words) set j ⌝ }
+    requires { ⌜ At (now words) j ⌝ }
+    requires { ⌜ set < 64 ⌝ }
     ensures { λ x. ⌜ x ≡ with-holder (held-in (now (words .entry))) k set j ⌝ }
 {
     if j == k {
@@ -29,8 +32,9 @@ fn with_holder(words: &[u32], set: u32, j: u32, k: u32) -> u32
 
 // The set with the modes that locks other than k hold, from the first on along its chain.
 fn with_holders(words: &[u32], set: u32, first: u32, k: u32) -> u32
-    requires { ⌜ HolderChain (now words) set first ⌝ }
-    ensures { λ x. ⌜ x ≡ with-holders (held-in (now (words .entry))) k set (locks-from (now (words .entry)) first) ⌝ }
+    requires { ⌜ Walking (now words) 0 first ⌝ }
+    requires { ⌜ set < 64 ⌝ }
+    ensures { λ x. ⌜ x ≡ with-holders (held-in (now (words .entry))) k set (onward (now (words .entry)) 0 first) ⌝ }
 {
     let mut held = set;
     let mut j = first;
@@ -105,14 +109,12 @@ fn next_up(words: &[u32], r: u32) -> u32
 fn granted(l: Lock) -> Lock
     ensures { λ m. ⌜ m ≡ granted-lock l ⌝ }
 {
-    Lock {
-        resource: l.resource,
-        client: l.client,
-        state: table_fields::STATE_GRANTED,
-        held: l.asked,
-        asked: 0,
-        completion: 1,
-    }
+    let mut m = l;
+    m.state = table_fields::STATE_GRANTED;
+    m.held = l.asked;
+    m.asked = 0;
+    m.completion = table_fields::COMPLETION_GRANTED;
+    m
 }
 
 // Grants the next lock of r if that is possible. Answers whether it did.
@@ -149,18 +151,7 @@ pub fn free_lock(words: &mut [u32], k: u32)
     requires { ⌜ Some (Locked k) (now words) ⌝ }
     ensures { λ _. ⌜ Turns (Locked k) (free-lock k) (now (words .entry)) (now (words .exit)) ⌝ }
 {
-    table_chains::move_lock(
-        words,
-        k,
-        Lock {
-            resource: 0,
-            client: 0,
-            state: table_fields::STATE_FREE,
-            held: 0,
-            asked: 0,
-            completion: 0,
-        },
-    );
+    table_chains::move_lock(words, k, table_fields::NO_LOCK);
 }
 
 // The resource r, on which no lock stands, becomes free.

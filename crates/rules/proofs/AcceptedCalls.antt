@@ -2,18 +2,16 @@
 use mathlib.Core.Path.{_≡_, refl}
 use mathlib.Core.Bool.{Bool, true, false, _||_, not}
 use mathlib.Core.List.{List, [], _∷_}
-use Prim.Native.Nat.{ℕ, zero, suc, _≤_}
+use Prim.Native.Nat.{ℕ, suc, _≤_}
 use native.Mathlib.Omega.{arith}
 use lib.ListN.{length}
-use lib.Dec.{eqb}
 use borrow.Author.Tests.{leb-true, eqb-true, not-true}
 use Rattle.tables.specs.Lists.{null}
-use Rattle.tables.specs.State.{Tables, lock, granted, blocked-lock}
-use Rattle.tables.specs.Sound.{client-right}
+use Rattle.tables.specs.State.{Tables, name-width, value-width, last-mode}
 use Rattle.tables.proofs.Cases.{clash, parts}
+use Rattle.tables.proofs.Fields.{client-is}
 use Rattle.tables.specs.Validity.{Valid}
-use Rattle.rules.specs.Queues.{find}
-use Rattle.rules.specs.Calls.{unless, stores, name-right, value-right, request-refusal, convert-refusal, release-refusal, cancel-refusal, purge-refusal}
+use Rattle.rules.specs.Calls.{unless, stores, name-right, value-right, request-refusal, convert-refusal, release-refusal, cancel-refusal, purge-refusal, no-queue}
 use Rattle.rules.specs.Accepted.{Requestable, Releasable, Convertible, Cancellable, Purgeable}
 
 -- a test that a refusal of 0 has passed, and what is left after it
@@ -27,35 +25,36 @@ unfolding unless
 next-test true n rest h = h
 next-test false n rest h = absurd (omega arith)
 
-right-value : (f : ℕ) (v : List ℕ) → value-right f v ≡ true → stores f ≡ true → length v ≡ 32
+right-value : (f : ℕ) (v : List ℕ) → value-right f v ≡ true → stores f ≡ true → length v ≡ value-width
 unfolding value-right
-right-value f v h e = eqb-true (length v) 32 (rw e at h)
+right-value f v h e = eqb-true (length v) value-width (rw e at h)
 
-client-is : (c : ℕ) → client-right c ≡ true → (1 ≤ c) × (c ≤ 255)
-unfolding client-right
-client-is c h = (leb-true 1 c (search parts), leb-true c 255 (search parts))
+granted-now : (f : ℕ) (b : Bool) → (not (no-queue f) || b) ≡ true → no-queue f ≡ true → b ≡ true
+granted-now f b h e = rw e at h
 
-name-is : (n : List ℕ) → name-right n ≡ true → (null n ≡ false) × (length n ≤ 64)
+name-is : (n : List ℕ) → name-right n ≡ true → (null n ≡ false) × (length n ≤ name-width)
 unfolding name-right
 name-is [] h = clash false h refl
-name-is (x ∷ xs) h = (refl, leb-true (length (x ∷ xs)) 64 (search parts))
+name-is (x ∷ xs) h = (refl, leb-true (length (x ∷ xs)) name-width (search parts))
 
 module _ (t : Tables) (val : Valid t) where
-  pub request-passed : (c m f : ℕ) (n : List ℕ) → request-refusal c m f n t ≡ 0 → Requestable c m n t
+  pub request-passed : (c m f : ℕ) (n : List ℕ) → request-refusal c m f n t ≡ 0 → Requestable c m f n t
   unfolding request-refusal
   request-passed c m f n h =
       let h3 = next-test _ 2 _ h in
       let h5 = next-test _ 4 _ (next-test _ 3 _ h3) in
       let h6 = next-test _ 5 _ h5 in
+      let h11 = next-test _ 10 _ h6 in
       record {
         valid = val;
         client-low = client-is c (passed _ 2 _ h) .0;
         client-high = client-is c (passed _ 2 _ h) .1;
-        mode = leb-true m 5 (passed _ 3 _ h3);
+        mode = leb-true m last-mode (passed _ 3 _ h3);
         some = name-is n (passed _ 5 _ h5) .0;
         short = name-is n (passed _ 5 _ h5) .1;
         room = passed _ 10 _ h6;
-        lock-left = not-true (null (t .free-locks)) (passed _ 11 _ (next-test _ 10 _ h6));
+        lock-left = not-true (null (t .free-locks)) (passed _ 11 _ h11);
+        unqueued = granted-now f _ (passed _ 12 _ (next-test _ 11 _ h11));
       }
 
   pub convert-passed : (c k m f : ℕ) (v : List ℕ) → convert-refusal c k m f v t ≡ 0 → Convertible k m f v t
@@ -63,11 +62,13 @@ module _ (t : Tables) (val : Valid t) where
   convert-passed c k m f v h =
       let h3 = next-test _ 2 _ h in
       let h5 = next-test _ 4 _ (next-test _ 3 _ h3) in
+      let h9 = next-test _ 8 _ (next-test _ 7 _ (next-test _ 6 _ h5)) in
       record {
         valid = val;
-        is-granted = passed _ 9 _ (next-test _ 8 _ (next-test _ 7 _ (next-test _ 6 _ h5)));
-        mode = leb-true m 5 (passed _ 3 _ h3);
+        is-granted = passed _ 9 _ h9;
+        mode = leb-true m last-mode (passed _ 3 _ h3);
         right = right-value f v (passed _ 6 _ h5);
+        unqueued = granted-now f _ (passed _ 12 _ (next-test _ 9 _ h9));
       }
 
   pub release-passed : (c k f : ℕ) (v : List ℕ) → release-refusal c k f v t ≡ 0 → Releasable k f v t

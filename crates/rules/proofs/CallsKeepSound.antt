@@ -1,5 +1,5 @@
 -- Every call but request and purge keeps a state sound, and what it does to the free locks.
-use mathlib.Core.Path.{_≡_, refl, sym, ap, _∙_, subst}
+use mathlib.Core.Path.{_≡_, refl, sym, ap, _∙_}
 use mathlib.Core.Logic.{_≢_}
 use mathlib.Core.Bool.{Bool, true, false, _&&_, cond}
 use mathlib.Core.List.{List, [], _∷_, _++_}
@@ -12,18 +12,19 @@ use Rattle.modes.specs.Modes.{down}
 use Rattle.modes.proofs.Laws.{compatible-sym, down-use}
 use Rattle.tables.specs.declared.Lock.{Lock}
 use Rattle.tables.specs.Lists.{within, count, remove, all, first-that, null}
-use Rattle.tables.specs.State.{Resource, Tables, no-lock, no-resource, lock, resource, granted, converting, waiting, blocked-lock, holds, noticed, shift, shift-front, relist, move, move-resource, grants, converts, waits, blocked, notices, queue}
+use Rattle.tables.specs.State.{Resource, Tables, no-lock, denied-lock, no-resource, lock, resource, granted, converting, waiting, blocked-lock, holds, noticed, shift, shift-front, relist, move, move-resource, grants, converts, waits, blocked, notices, queue, last-mode, value-width}
 use Rattle.tables.specs.Grants.{holders, fits, convert-grantable, empty}
 use Rattle.tables.proofs.Cases.{by-cases, by-equal, clash, eqb-same, and-left, and-right, or-left, or-right, nor-left, nor-right}
-use Rattle.tables.proofs.Counts.{count-same, count-nil, by-append, first-in}
-use Rattle.tables.specs.Validity.{used, Place, StateOk, LockOk, Core, line, idle, Settled, Valid, Near}
+use Rattle.tables.proofs.Counts.{count-nil, first-in, head-in, null-nil}
+use Rattle.tables.specs.Validity.{used, Place, LockOk, Core, line, idle, Settled, Valid, Near, as-free, as-granted, as-converting, as-denied}
+use Rattle.tables.proofs.StateCases.{StateOk, ok-numbered}
 use Rattle.tables.proofs.Valid.{ok-at, holder-place, used-within, lock-same, lock-other, resource-same, locks-length, resources-length, used-zero, Fits, core-move}
-use Rattle.tables.proofs.ChainMembers.{state-within, on-chain, chain-has, on-converts, on-waits, fits-true, true-fits, settled-other}
+use Rattle.tables.proofs.ChainMembers.{state-within, on-chain, chain-has, fits-true, true-fits, settled-other, line-blocked}
 use Rattle.rules.specs.Queues.{sweep, free-lock, settle}
 use Rattle.rules.specs.Deadlock.{victim}
-use Rattle.rules.specs.Calls.{stores, strong, leave-value, held-at, asking, in-place, convert-change, release-change, restored, cancel-change, denied-lock, deny, deny-victim, break, notice-read, take-notice, poll-notice, poll-change}
+use Rattle.rules.specs.Calls.{stores, strong, leave-value, held-at, asking, in-place, convert-change, release-change, restored, cancel-change, deny, deny-victim, break, notice-read, take-notice, poll-notice, poll-change}
 use Rattle.rules.proofs.SweepLaws.{Swept, free-kept, sweep-swept}
-use Rattle.rules.proofs.ResourceChanges.{null-nil, empty-chains, used-changed, free-empty, Quiet, leave-quiet}
+use Rattle.rules.proofs.ResourceChanges.{empty-chains, used-changed, free-empty, Quiet, leave-quiet}
 
 -- settling: what a call does last on the resource r
 pub record Settles (r : ℕ) (t t′ : Tables) : Type 0 where
@@ -114,20 +115,20 @@ module _ (t : Tables) (c : Core t) (r k : ℕ) (e : lock t k .resource ≡ r) (r
   pub freed-settle : within (length (t .resources)) r ≡ true → After t (settle r (free-lock k t)) (k ∷ t .free-locks)
   freed-settle v =
       rw is-move
-      (then-settle t c r k no-lock rest w (λ z. e) (λ z. absurd (z refl)) refl (λ z. clash false z refl) _ (free-gained r k no-lock t stands refl) v)
+      (then-settle t c r k no-lock rest w (λ z. e) (λ z. absurd (z refl)) (as-free refl) (λ z. clash false z refl) _ (free-gained r k no-lock t stands refl) v)
 
   pub freed-sweep : empty (resource (move r k no-lock t) r) ≡ false → After t (sweep r (free-lock k t)) (k ∷ t .free-locks)
   freed-sweep v =
       rw is-move
-      (then-sweep t c r k no-lock rest w (λ z. e) (λ z. absurd (z refl)) refl (λ z. clash false z refl) _ (free-gained r k no-lock t stands refl) v)
+      (then-sweep t c r k no-lock rest w (λ z. e) (λ z. absurd (z refl)) (as-free refl) (λ z. clash false z refl) _ (free-gained r k no-lock t stands refl) v)
 
   pub freed-stop : Settled (move r k no-lock t) r → After t (free-lock k t) (k ∷ t .free-locks)
   freed-stop v =
       rw is-move
-      (then-stop t c r k no-lock rest w (λ z. e) (λ z. absurd (z refl)) refl (λ z. clash false z refl) _ (free-gained r k no-lock t stands refl) v)
+      (then-stop t c r k no-lock rest w (λ z. e) (λ z. absurd (z refl)) (as-free refl) (λ z. clash false z refl) _ (free-gained r k no-lock t stands refl) v)
 
 -- RELEASE
-pub release-after : (k f : ℕ) (v : List ℕ) (t : Tables) → Valid t → granted (lock t k) ≡ true → (stores f ≡ true → length v ≡ 32) →
+pub release-after : (k f : ℕ) (v : List ℕ) (t : Tables) → Valid t → granted (lock t k) ≡ true → (stores f ≡ true → length v ≡ value-width) →
     After t (release-change k f v t .tables) (k ∷ t .free-locks)
 unfolding release-change
 release-after k f v t val g right =
@@ -184,12 +185,12 @@ waiter-gone t val k m h g c =
 
 restored-ok : (u : ℕ → Bool) (l : Lock) (n : ℕ) → Place u l → n ≤ 3 → n ≢ 2 → LockOk u (restored n l)
 restored-ok u l n p a b =
-    record {
+    as-granted refl (record {
       place = record { in-use = p .in-use; client-low = p .client-low; client-high = p .client-high; held-mode = p .held-mode; asked-mode = omega arith };
       asks = refl;
       notice = a;
       not-denied = b;
-    }
+    })
 
 restored-after : (n : ℕ) → n ≤ 3 → n ≢ 2 → (k : ℕ) (t : Tables) → Valid t → converting (lock t k) ≡ true →
     After t (sweep (lock t k .resource) (move (lock t k .resource) k (restored n (lock t k)) t)) (t .free-locks)
@@ -235,20 +236,13 @@ grows-move t r k m w h j =
     (λ e. rw (e, lock-same r k m t w) h)
     (λ n. rw (lock-other r k m t j n) (λ o e. (o, e, refl)))
 
-line-blocked : (t : Tables) → Core t → (r h : ℕ) → 1 ≤ count h (line t r) → blocked-lock (lock t h) ≡ true
-unfolding line
-line-blocked t c r h m =
-    by-append h (resource t r .convert) (resource t r .wait) m
-    (λ i. or-left _ (waiting (lock t h)) (on-converts t (c .linked) r h i .0))
-    (λ i. or-right (converting (lock t h)) _ (on-waits t (c .linked) r h i .0))
-
 -- the head of the line stays where it is, and is not k
 module _ (t : Tables) (c : Core t) (r k : ℕ) (m : Lock) (c′ : Core (move r k m t)) (w : within (length (t .locks)) k ≡ true) (free-k : blocked-lock (lock t k) ≡ false)
     (grows : Grows t (move r k m t) r) where
   pub head-still : (h : ℕ) (hs hs′ : List ℕ) → line t r ≡ h ∷ hs → line (move r k m t) r ≡ h ∷ hs′ → idle t r (line t r) ≡ true → idle (move r k m t) r (line (move r k m t) r) ≡ true
   unfolding idle convert-grantable
   head-still h hs hs′ e e′ i =
-      let n : h ≢ k = λ q. clash (blocked-lock (lock t k)) (rw q at (line-blocked t c r h (rw (e, count-same) (omega arith)))) free-k in
+      let n : h ≢ k = λ q. clash (blocked-lock (lock t k)) (rw q at (line-blocked t c r h (head-in (line t r) h hs e))) free-k in
       let f : convert-grantable t r h ≡ false = not-true _ (rw e at i) in
       rw e′ (rw (lock-other r k m t h n, fits-less t (move r k m t) c c′ r h (lock t h .asked) grows f))
 
@@ -295,21 +289,21 @@ taken-after : (k : ℕ) (t : Tables) → Valid t → noticed (lock t k) ≡ true
 unfolding take-notice
 taken-after k t val h w =
     by-cases (eqb (lock t k .completion) 2)
-    (λ d. let s = noticed-denied (used t) (lock t k) (lock t k .state) (val .core .lock-ok k) (eqb-true (lock t k .completion) 2 d) in
+    (λ d. let s = noticed-denied (used t) (lock t k) (lock t k .state) (ok-numbered (val .core .lock-ok k)) (eqb-true (lock t k .completion) 2 d) in
     let ok = ok-at (used t) (lock t k) 4 (val .core .lock-ok k) (rw s) in
     rw (d, take-notice) (freed-stop t (val .core) 0 k (ok .nowhere) (λ q i. val .settled q) (rw s) w (nothing-at-zero _)))
     (λ d. rw (d, take-notice) (read d))
   where
     read : eqb (lock t k .completion) 2 ≡ false → After t (move (lock t k .resource) k (notice-read (lock t k)) t) (t .free-locks)
     read d =
-        let s = noticed-granted (used t) (lock t k) (lock t k .state) (val .core .lock-ok k) (eqb-false _ 0 (not-true _ h)) (eqb-false _ 2 d) in
+        let s = noticed-granted (used t) (lock t k) (lock t k .state) (ok-numbered (val .core .lock-ok k)) (eqb-false _ 0 (not-true _ h)) (eqb-false _ 2 d) in
         let r = lock t k .resource in
         let m = notice-read (lock t k) in
         let old = ok-at (used t) (lock t k) 1 (val .core .lock-ok k) (rw s) in
         let p = old .place in
         let g : granted m ≡ true = rw s in
         let b : blocked-lock m ≡ false = rw s in
-        let ok : LockOk (used t) m = subst (StateOk (used t) m) (sym s) (record {
+        let ok : LockOk (used t) m = as-granted s (record {
           place = record { in-use = p .in-use; client-low = p .client-low; client-high = p .client-high; held-mode = p .held-mode; asked-mode = p .asked-mode };
           asks = old .asks;
           notice = omega arith;
@@ -345,7 +339,7 @@ deny-after k t val b =
     let m = denied-lock (lock t k) in
     rw (h, deny)
     (then-sweep t (val .core) (lock t k .resource) k m (λ q i. val .settled q) (state-within t k 2 s) (λ z. refl) (λ z. absurd (z refl))
-    (record { client-low = p .client-low; client-high = p .client-high; nowhere = refl; holds = refl; asks = refl; notice = refl })
+    (as-denied refl (record { client-low = p .client-low; client-high = p .client-high; nowhere = refl; holds = refl; asks = refl; notice = refl }))
     (λ z. clash false z refl) _ (free-kept (lock t k .resource) k m t (rw s) refl) (waiter-gone t val k m a refl refl)))
 
 pub break-after : (t : Tables) → Valid t → After t (break t .tables) (t .free-locks)
@@ -365,7 +359,7 @@ convert-fits k m t c g h =
     (compatible-sym (lock t k .held) (lock t j .held) ∙ c .agree j k n o (or-left _ _ g) e))
     (λ d. fits-true t (c .linked) (lock t k .resource) k m (and-right (null (resource t (lock t k .resource) .convert)) _ (rw d at h)))
 
-in-place-after : (k m : ℕ) (b : Bool) (f : ℕ) (v : List ℕ) (t : Tables) → Valid t → granted (lock t k) ≡ true → m ≤ 5 → (stores f ≡ true → length v ≡ 32) → in-place k m t ≡ true →
+in-place-after : (k m : ℕ) (b : Bool) (f : ℕ) (v : List ℕ) (t : Tables) → Valid t → granted (lock t k) ≡ true → m ≤ last-mode → (stores f ≡ true → length v ≡ value-width) → in-place k m t ≡ true →
     After t (sweep (lock t k .resource) (move (lock t k .resource) k (held-at m (lock t k)) (leave-value b f v (lock t k .resource) t))) (t .free-locks)
 in-place-after k m b f v t val g low right h =
     let r = lock t k .resource in
@@ -376,18 +370,18 @@ in-place-after k m b f v t val g low right h =
     let s = eqb-true (lock t k .state) 1 g in
     let w : within (length (t0 .locks)) k ≡ true = rw (q .locks-are) (state-within t k 0 s) in
     let near : Near r (lock t0 k) = λ z. rw (q .lock-is k) in
-    let ok : LockOk (used t0) l = record {
+    let ok : LockOk (used t0) l = as-granted refl (record {
       place = record { in-use = rw (q .used-is r) (p .in-use); client-low = p .client-low; client-high = p .client-high; held-mode = low; asked-mode = omega arith };
       asks = refl;
       notice = omega arith;
       not-denied = omega arith;
-    } in
+    }) in
     let fit : holds l ≡ true → Fits t0 r k m = λ z j n. rw (q .lock-is j) (convert-fits k m t (val .core) g h j n) in
     quiet-after t t0 _ (t0 .free-locks) (t .free-locks) q (q .free-is)
     (then-sweep t0 (q .core) r k l (λ s n. q .settled s (val .settled s)) w near (λ z. refl) ok fit _ (free-kept r k l t0 (rw (q .lock-is k, s)) refl)
     (granted-full t0 r k l (core-move r k l t0 (q .core) w near (λ z. refl) ok fit) w refl refl))
 
-queue-after : (k m : ℕ) (t : Tables) → Valid t → granted (lock t k) ≡ true → m ≤ 5 → in-place k m t ≡ false →
+queue-after : (k m : ℕ) (t : Tables) → Valid t → granted (lock t k) ≡ true → m ≤ last-mode → in-place k m t ≡ false →
     After t (move (lock t k .resource) k (asking m (lock t k)) t) (t .free-locks)
 unfolding in-place
 queue-after k m t val g low h =
@@ -416,10 +410,10 @@ queue-after k m t val g low h =
     p = ok-at (used t) (lock t k) 1 (c .lock-ok k) g .place
 
     ok : LockOk (used t) l
-    ok = record {
+    ok = as-converting refl (record {
       place = record { in-use = p .in-use; client-low = p .client-low; client-high = p .client-high; held-mode = p .held-mode; asked-mode = low };
       notice = refl;
-    }
+    })
 
     fit : holds l ≡ true → Fits t r k (lock t k .held)
     fit z j i q e = c .agree j k i q (or-left _ _ g) e
@@ -441,7 +435,7 @@ queue-after k m t val g low h =
         head-still t c r k l c1 w (rw s) grows x (xs ++ resource t r .wait) ((xs ++ (k ∷ [])) ++ resource t r .wait)
         (unfold line in rw e) (joins ∙ rw e) (val .settled r .still)
 
-pub convert-after : (k m f : ℕ) (v : List ℕ) (t : Tables) → Valid t → granted (lock t k) ≡ true → m ≤ 5 → (stores f ≡ true → length v ≡ 32) →
+pub convert-after : (k m f : ℕ) (v : List ℕ) (t : Tables) → Valid t → granted (lock t k) ≡ true → m ≤ last-mode → (stores f ≡ true → length v ≡ value-width) →
     After t (convert-change k m f v t .tables) (t .free-locks)
 unfolding convert-change
 convert-after k m f v t val g low right =

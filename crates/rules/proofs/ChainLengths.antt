@@ -2,41 +2,23 @@
 use mathlib.Core.Path.{_≡_, refl, ap, _∙_}
 use mathlib.Core.Bool.{Bool, true, false, _||_, not, cond}
 use mathlib.Core.List.{List, [], _∷_}
-use Prim.Native.Nat.{ℕ, zero, suc, _+_, _≤_}
+use Prim.Native.Nat.{ℕ, _+_, _≤_}
 use native.Mathlib.Omega.{arith}
 use lib.ListN.{length, length-drop}
 use lib.Dec.{eqb}
-use Rattle.tables.specs.Lists.{within, count, remove, keep, null, from}
-use Rattle.tables.specs.State.{Tables, lock, granted, converting, blocked-lock, LockChain, chain, belongs, free-locks}
-use Rattle.tables.proofs.Cases.{by-cases, by-equal, clash}
-use Rattle.tables.proofs.Counts.{count-same, count-other, count-remove, count-remove-other, count-step, count-kept, kept-once}
+use Rattle.tables.specs.Lists.{within, count, keep, null, from}
+use Rattle.tables.specs.State.{Tables, lock, granted, converting, blocked-lock, LockChain, chain, belongs, free-locks, last-client, last-mode, name-width, value-width}
+use Rattle.tables.proofs.Cases.{by-cases}
+use Rattle.tables.proofs.Counts.{count-kept, kept-once, null-some}
 use Rattle.tables.specs.Validity.{Core, Valid}
-use Rattle.tables.proofs.ChainMembers.{chain-once}
+use Rattle.tables.proofs.Pigeonhole.{length-from, same-length}
 use Rattle.rules.specs.Queues.{find}
 use Rattle.rules.specs.Calls.{stores, request-change, convert-change, release-change, cancel-change, locks-of, purge-change, break, poll-change}
-use Rattle.rules.proofs.WalkSearch.{length-remove}
 use Rattle.rules.proofs.CallsKeepSound.{After, release-after, cancel-after, poll-after, break-after, convert-after}
 use Rattle.rules.proofs.RequestKeepsSound.{request-after}
 use Rattle.rules.proofs.PurgeKeepsSound.{length-pushed, purge-after}
 
--- pigeonhole: a list without repeats, each of whose members is on another, is no longer
-pub length-le : (xs ys : List ℕ) → ((j : ℕ) → count j xs ≤ 1) → ((j : ℕ) → count j xs ≤ count j ys) → length xs ≤ length ys
-length-le [] ys once h = omega arith
-length-le (x ∷ xs) ys once h =
-    let ih = length-le xs (remove x ys) (λ j. omega (arith, once j, count-step j x xs)) less in
-    omega (arith, ih, length-remove x ys, h x, count-same x xs)
-  where
-    less : (j : ℕ) → count j xs ≤ count j (remove x ys)
-    less j =
-        by-equal j x
-        (λ e. rw (e, count-remove) (omega (arith, count-same x xs, once x)))
-        (λ n. rw (count-remove-other j x ys n) (omega (arith, count-other j x xs n, h j)))
-
-pub length-from : (a n : ℕ) → length (from a n) ≡ n
-length-from a zero = refl
-length-from a (suc n) = ap suc (length-from (suc a) n)
-
-length-keep : (p : ℕ → Bool) (xs : List ℕ) → length (keep p xs) + length (keep (λ j. not (p j)) xs) ≡ length xs
+pub length-keep : (p : ℕ → Bool) (xs : List ℕ) → length (keep p xs) + length (keep (λ j. not (p j)) xs) ≡ length xs
 unfolding keep
 length-keep p [] = refl
 length-keep p (x ∷ xs) = by-cases (p x) (λ h. rw h (omega (arith, length-keep p xs))) (λ h. rw h (omega (arith, length-keep p xs)))
@@ -53,12 +35,7 @@ module _ (t : Tables) (c : Core t) where
 
   pub chain-length : (x : LockChain) → length (chain t x) ≡ length (keep (λ k. belongs x (lock t k)) (from 1 (length (t .locks))))
   chain-length x =
-      let y = keep (λ k. belongs x (lock t k)) (from 1 (length (t .locks))) in
-      omega (
-        arith,
-        length-le (chain t x) y (chain-once t (c .linked) x) (λ j. omega (arith, count-in x j)),
-        length-le y (chain t x) (kept-once (λ k. belongs x (lock t k)) (length (t .locks))) (λ j. omega (arith, count-in x j)),
-      )
+      same-length (chain t x) (keep (λ k. belongs x (lock t k)) (from 1 (length (t .locks)))) (kept-once (λ k. belongs x (lock t k)) (length (t .locks))) (count-in x)
 
   -- every chain of locks has at most L locks
   pub chain-short : (x : LockChain) → length (chain t x) ≤ length (t .locks)
@@ -75,7 +52,7 @@ after-count t t′ fs c a = omega (arith, used-free t c, used-free t′ (a .vali
 
 -- the counting equation of each call
 module _ (t : Tables) (val : Valid t) where
-  pub release-count : (k f : ℕ) (v : List ℕ) → granted (lock t k) ≡ true → (stores f ≡ true → length v ≡ 32) → used-locks (release-change k f v t .tables) + 1 ≡ used-locks t
+  pub release-count : (k f : ℕ) (v : List ℕ) → granted (lock t k) ≡ true → (stores f ≡ true → length v ≡ value-width) → used-locks (release-change k f v t .tables) + 1 ≡ used-locks t
   release-count k f v g right = omega (arith, after-count t _ _ (val .core) (release-after k f v t val g right))
 
   pub cancel-count : (k : ℕ) → blocked-lock (lock t k) ≡ true → used-locks (cancel-change k t .tables) + cond (converting (lock t k)) 0 1 ≡ used-locks t
@@ -83,7 +60,7 @@ module _ (t : Tables) (val : Valid t) where
       let e = after-count t _ _ (val .core) (cancel-after k t val b) in
       by-cases (converting (lock t k)) (λ h. rw h (omega (arith, rw h at e))) (λ h. rw h (omega (arith, rw h at e)))
 
-  pub convert-count : (k m f : ℕ) (v : List ℕ) → granted (lock t k) ≡ true → m ≤ 5 → (stores f ≡ true → length v ≡ 32) → used-locks (convert-change k m f v t .tables) ≡ used-locks t
+  pub convert-count : (k m f : ℕ) (v : List ℕ) → granted (lock t k) ≡ true → m ≤ last-mode → (stores f ≡ true → length v ≡ value-width) → used-locks (convert-change k m f v t .tables) ≡ used-locks t
   convert-count k m f v g low right = omega (arith, after-count t _ _ (val .core) (convert-after k m f v t val g low right))
 
   pub poll-count : (c : ℕ) → used-locks (poll-change c t .tables) + cond (eqb (poll-change c t .said .answer) 2) 1 0 ≡ used-locks t
@@ -98,13 +75,9 @@ module _ (t : Tables) (val : Valid t) where
   unfolding purge-change
   purge-count c low = omega (arith, after-count t _ _ (val .core) (purge-after c t low val), length-pushed (locks-of c t) (t .free-locks))
 
-  pub request-count : (c m : ℕ) (n : List ℕ) → 1 ≤ c → c ≤ 255 → m ≤ 5 → null n ≡ false → length n ≤ 64 →
+  pub request-count : (c m : ℕ) (n : List ℕ) → 1 ≤ c → c ≤ last-client → m ≤ last-mode → null n ≡ false → length n ≤ name-width →
       (not (eqb (find n t) 0) || not (null (t .free-resources))) ≡ true → null (t .free-locks) ≡ false →
       used-locks (request-change c m n t .tables) ≡ used-locks t + 1
   request-count c m n low high mode some short room left =
       let e = after-count t _ _ (val .core) (request-after c m n t val low high mode some short room left) in
-      omega (arith, rw length-drop at e, some-left (t .free-locks) left)
-    where
-      some-left : (ks : List ℕ) → null ks ≡ false → 1 ≤ length ks
-      some-left [] h = clash true refl h
-      some-left (k ∷ ks) h = omega arith
+      omega (arith, rw length-drop at e, null-some (t .free-locks) left)

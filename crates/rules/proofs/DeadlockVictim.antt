@@ -45,7 +45,7 @@ first-is p (x ∷ xs) k h m e =
     (first-is p xs k h (rw (count-other k x xs q) at m)
     (λ j i. e j (rw (ne-eqb k x q, before) (omega (arith, i, count-step j x (before k xs)))))))
 
-count-before : (j k : ℕ) (xs : List ℕ) → count j (before k xs) ≤ count j xs
+pub count-before : (j k : ℕ) (xs : List ℕ) → count j (before k xs) ≤ count j xs
 unfolding before
 count-before j k [] = omega arith
 count-before j k (x ∷ xs) =

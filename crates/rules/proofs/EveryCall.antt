@@ -5,18 +5,18 @@ use mathlib.Core.Bool.{Bool, true, false, _&&_, cond, and-true, and-false}
 use mathlib.Core.List.{List, [], _∷_}
 use Prim.Native.Nat.{ℕ, zero, suc, _+_, _≤_}
 use native.Mathlib.Omega.{arith}
-use lib.ListN.{length, replicate, length-replicate, getD-replicate}
+use lib.ListN.{length, length-replicate}
 use lib.Dec.{eqb, eqb·suc-zero}
-use borrow.Author.Tests.{ltb-true}
-use Rattle.tables.specs.Lists.{nth, within, count, bit, keep, first-that, first, null, from}
-use Rattle.tables.specs.State.{Resource, Tables, no-lock, no-resource, lock, resource, started, converting, LockChain, chain, belongs, grants, converts, waits, free-locks, denied, blocked, notices, queue}
+use Rattle.tables.specs.Lists.{within, count, bit, keep, first-that, first, null, from}
+use Rattle.tables.specs.State.{Resource, Tables, no-lock, no-resource, lock, resource, started, converting, LockChain, chain, belongs, grants, converts, waits, free-locks, denied, blocked, notices, queue, most-resources, most-locks}
 use Rattle.tables.specs.Grants.{admits}
 use Rattle.tables.proofs.Cases.{by-cases, clash}
-use Rattle.tables.proofs.Counts.{nth-out, count-nil, count-from}
-use Rattle.tables.specs.Validity.{used, line, idle, Valid}
+use Rattle.tables.proofs.Counts.{count-nil, count-from}
+use Rattle.tables.proofs.Numbered.{started-lock, started-resource}
+use Rattle.tables.specs.Validity.{used, line, idle, Valid, as-free}
 use Rattle.rules.specs.Queues.{find}
 use Rattle.rules.specs.Deadlock.{victim}
-use Rattle.rules.specs.Calls.{Said, accepted, refused, Step, refused-or, resource-for, with-resource, request-on, request-change, request-refusal, request, in-place, convert-change, convert-refusal, convert, release-change, release-refusal, release, cancel-change, cancel-refusal, cancel, purge-change, purge-refusal, purge, deny-victim, break, poll-notice, poll-change, poll-refusal, poll}
+use Rattle.rules.specs.Calls.{Said, refused, Step, refused-or, resource-for, with-resource, request-on, request-change, request-refusal, request, in-place, convert-change, convert-refusal, convert, release-change, release-refusal, release, cancel-change, cancel-refusal, cancel, purge-change, purge-refusal, purge, deny-victim, break, poll-notice, poll-change, poll-refusal, poll}
 use Rattle.rules.specs.Entries.{Call, step-of, to-request, to-convert, to-release, to-cancel, to-purge, to-break, to-poll}
 use Rattle.rules.specs.Theorem.{requests-accepted, releases-accepted, requests-cancelled, locks-purged, polled-denials}
 use Rattle.rules.proofs.ResourceChanges.{no-value-length}
@@ -27,58 +27,40 @@ use Rattle.rules.proofs.RequestKeepsSound.{request-after}
 use Rattle.rules.proofs.PurgeKeepsSound.{purge-after}
 use Rattle.rules.proofs.ChainLengths.{used-locks, release-count, cancel-count, convert-count, poll-count, break-count, purge-count, request-count}
 
-fresh : {A : Type 0} (d : A) (n k : ℕ) → nth (replicate n d) k d ≡ d
-fresh d n k =
-    by-cases (within (length (replicate n d)) k)
-    (λ w. inside k w)
-    (λ w. nth-out d (replicate n d) k w)
-  where
-    inside : (k : ℕ) → within (length (replicate n d)) k ≡ true → nth (replicate n d) k d ≡ d
-    inside zero w = refl
-    inside (suc k) w = getD-replicate n k d d (rw (length-replicate n d) at (ltb-true k (length (replicate n d)) w))
-
 keep-none : (p : ℕ → Bool) (xs : List ℕ) → ((j : ℕ) → p j ≡ false) → keep p xs ≡ []
 unfolding keep
 keep-none p [] h = refl
 keep-none p (x ∷ xs) h = rw (h x) (keep-none p xs h)
 
 module _ (r l : ℕ) where
-  started-lock : (k : ℕ) → lock (started r l) k ≡ no-lock
-  unfolding lock started
-  started-lock k = fresh no-lock l k
-
-  started-resource : (s : ℕ) → resource (started r l) s ≡ no-resource
-  unfolding resource started
-  started-resource s = fresh no-resource r s
-
   none : (c : LockChain) (k : ℕ) → chain (started r l) c ≡ [] → belongs c no-lock ≡ false → count k (chain (started r l) c) ≡ bit (within (length (started r l .locks)) k && belongs c (lock (started r l) k))
-  none c k e b = rw (started-lock k, b, and-false, e) (count-nil k)
+  none c k e b = rw (started-lock r l k, b, and-false, e) (count-nil k)
 
   started-linked : (c : LockChain) (k : ℕ) → count k (chain (started r l) c) ≡ bit (within (length (started r l .locks)) k && belongs c (lock (started r l) k))
-  started-linked free-locks k = rw (started-lock k, and-true) (unfold started in count-from l k ∙ rw (length-replicate l no-lock))
+  started-linked free-locks k = rw (started-lock r l k, and-true) (unfold started in count-from l k ∙ rw (length-replicate l no-lock))
   started-linked denied k = none denied k (unfold started in refl) refl
   started-linked blocked k = none blocked k (unfold started in refl) refl
   started-linked notices k = none notices k (unfold started in refl) refl
-  started-linked (queue s grants) k = none (queue s grants) k (ap (λ (x : Resource). x .grant) (started-resource s)) refl
-  started-linked (queue s converts) k = none (queue s converts) k (ap (λ (x : Resource). x .convert) (started-resource s)) refl
-  started-linked (queue s waits) k = none (queue s waits) k (ap (λ (x : Resource). x .wait) (started-resource s)) refl
+  started-linked (queue s grants) k = none (queue s grants) k (ap (λ (x : Resource). x .grant) (started-resource r l s)) refl
+  started-linked (queue s converts) k = none (queue s converts) k (ap (λ (x : Resource). x .convert) (started-resource r l s)) refl
+  started-linked (queue s waits) k = none (queue s waits) k (ap (λ (x : Resource). x .wait) (started-resource r l s)) refl
 
   unused : (s : ℕ) → used (started r l) s ≡ false
   unfolding used
-  unused s = rw (started-resource s)
+  unused s = rw (started-resource r l s)
 
   started-idle : (s : ℕ) → idle (started r l) s (line (started r l) s) ≡ true
   unfolding line idle
-  started-idle s = rw (started-resource s)
+  started-idle s = rw (started-resource r l s)
 
   started-spare : (s : ℕ) → count s (started r l .free-resources) ≡ bit (within (length (started r l .resources)) s && null (resource (started r l) s .name))
-  started-spare s = rw (started-resource s, and-true) (unfold started in count-from r s ∙ rw (length-replicate r no-resource))
+  started-spare s = rw (started-resource r l s, and-true) (unfold started in count-from r s ∙ rw (length-replicate r no-resource))
 
   sizes : (length (started r l .locks) ≡ l) × (length (started r l .resources) ≡ r)
   unfolding started
   sizes = (length-replicate l no-lock, length-replicate r no-resource)
 
-  pub started-valid : 1 ≤ r → r ≤ 256 → 1 ≤ l → l ≤ 1024 → Valid (started r l)
+  pub started-valid : 1 ≤ r → r ≤ most-resources → 1 ≤ l → l ≤ most-locks → Valid (started r l)
   started-valid a b c d =
       record {
         core = record {
@@ -88,17 +70,17 @@ module _ (r l : ℕ) where
           locks-high = rw (sizes .0) d;
           linked = started-linked;
           spare = started-spare;
-          lock-ok = λ k. rw (started-lock k) refl;
-          resource-ok = λ s. rw (started-resource s) (record { name-length = omega arith; value-length = no-value-length; flag = omega arith; unused = λ z. refl; unused-value = λ z. refl });
+          lock-ok = λ k. rw (started-lock r l k) (as-free refl);
+          resource-ok = λ s. rw (started-resource r l s) (record { name-length = omega arith; value-length = no-value-length; flag = omega arith; unused = λ z. refl; unused-value = λ z. refl });
           names = λ s s′ n u. clash (used (started r l) s) u (unused s);
-          agree = λ j k n h. clash false (rw (started-lock j) at h) refl;
+          agree = λ j k n h. clash false (rw (started-lock r l j) at h) refl;
         };
         settled = λ s. record { still = started-idle s; peopled = λ u. clash (used (started r l) s) u (unused s) };
       }
 
   pub started-none : used-locks (started r l) ≡ 0
   unfolding used-locks
-  started-none = ap length (keep-none _ (from 1 (length (started r l .locks))) (λ k. rw (started-lock k)))
+  started-none = ap length (keep-none _ (from 1 (length (started r l .locks))) (λ k. rw (started-lock r l k)))
 
 -- what a call adds to the two sides of the sum: requests accepted; releases, requests cancelled, locks purged, polled denials
 abbrev pub gains : Call → Said → ℕ
@@ -153,14 +135,14 @@ refused-kept c t (suc n) s val h =
     }
 
 -- REQUEST
-pub request-accepted : (c m : ℕ) (n : List ℕ) (t : Tables) → request-change c m n t .said .refusal ≡ 0
+request-accepted : (c m : ℕ) (n : List ℕ) (t : Tables) → request-change c m n t .said .refusal ≡ 0
 unfolding request-change
 request-accepted c m n t = on (resource-for (find n t) t) (first (t .free-locks)) (with-resource (find n t) n t)
   where
     on : (r k : ℕ) (t′ : Tables) → request-on r k c m t′ .said .refusal ≡ 0
     on r k t′ = unfold request-on in by-cases (admits t′ r m) (λ h. rw (h, request-on)) (λ h. rw (h, request-on))
 
-requested : (c m f : ℕ) (n : List ℕ) (t : Tables) → Requestable c m n t → Kept (to-request c m f n) t (request-change c m n t)
+requested : (c m f : ℕ) (n : List ℕ) (t : Tables) → Requestable c m f n t → Kept (to-request c m f n) t (request-change c m n t)
 unfolding requests-accepted releases-accepted requests-cancelled locks-purged polled-denials
 requested c m f n t p =
     accepted-kept (to-request c m f n) t (request-change c m n t) _ (request-accepted c m n t)
@@ -168,7 +150,7 @@ requested c m f n t p =
     (rw (request-accepted c m n t) (omega (arith, request-count t (p .valid) c m n (p .client-low) (p .client-high) (p .mode) (p .some) (p .short) (p .room) (p .lock-left))))
 
 -- CONVERT
-pub convert-accepted : (k m f : ℕ) (v : List ℕ) (t : Tables) → convert-change k m f v t .said .refusal ≡ 0
+convert-accepted : (k m f : ℕ) (v : List ℕ) (t : Tables) → convert-change k m f v t .said .refusal ≡ 0
 unfolding convert-change
 convert-accepted k m f v t = by-cases (in-place k m t) (λ h. rw (h, convert-change)) (λ h. rw (h, convert-change))
 
@@ -179,7 +161,7 @@ converted c k m f v t p =
     (convert-after k m f v t (p .valid) (p .is-granted) (p .mode) (p .right)) (omega (arith, convert-count t (p .valid) k m f v (p .is-granted) (p .mode) (p .right)))
 
 -- RELEASE
-pub release-accepted : (k f : ℕ) (v : List ℕ) (t : Tables) → release-change k f v t .said .refusal ≡ 0
+release-accepted : (k f : ℕ) (v : List ℕ) (t : Tables) → release-change k f v t .said .refusal ≡ 0
 unfolding release-change
 release-accepted k f v t = refl
 
@@ -190,7 +172,7 @@ let-go c k f v t p =
     (release-after k f v t (p .valid) (p .is-granted) (p .right)) (rw (release-accepted k f v t) (omega (arith, release-count t (p .valid) k f v (p .is-granted) (p .right))))
 
 -- CANCEL
-pub cancel-accepted : (k : ℕ) (t : Tables) → cancel-change k t .said .refusal ≡ 0
+cancel-accepted : (k : ℕ) (t : Tables) → cancel-change k t .said .refusal ≡ 0
 unfolding cancel-change
 cancel-accepted k t = by-cases (converting (lock t k)) (λ h. rw (h, cancel-change)) (λ h. rw (h, cancel-change))
 
@@ -205,7 +187,7 @@ given-up c k t p =
     (cancel-after k t (p .valid) (p .is-blocked)) (rw (cancel-answer k t) (omega (arith, cancel-count t (p .valid) k (p .is-blocked))))
 
 -- PURGE
-pub purge-accepted : (c : ℕ) (t : Tables) → purge-change c t .said .refusal ≡ 0
+purge-accepted : (c : ℕ) (t : Tables) → purge-change c t .said .refusal ≡ 0
 unfolding purge-change
 purge-accepted c t = refl
 
@@ -216,7 +198,7 @@ cleared c t p =
     (omega (arith, purge-count t (p .valid) c (p .client-low)))
 
 -- BREAK
-pub break-accepted : (t : Tables) → break t .said .refusal ≡ 0
+break-accepted : (t : Tables) → break t .said .refusal ≡ 0
 unfolding break
 break-accepted t = go (victim t)
   where
@@ -229,7 +211,7 @@ unfolding requests-accepted releases-accepted requests-cancelled locks-purged po
 broken t val = accepted-kept to-break t (break t) _ (break-accepted t) (break-after t val) (omega (arith, break-count t val))
 
 -- POLL
-pub poll-accepted : (c : ℕ) (t : Tables) → poll-change c t .said .refusal ≡ 0
+poll-accepted : (c : ℕ) (t : Tables) → poll-change c t .said .refusal ≡ 0
 unfolding poll-change
 poll-accepted c t = go (first-that (λ k. eqb (lock t k .client) c) (t .notices))
   where

@@ -7,7 +7,9 @@ pub mod PurgeKeepsSound
 pub mod ChainLengths
 pub mod AcceptedCalls
 pub mod EveryCall
+pub mod SmallNumbers
 pub mod DeadlockVictim
 pub mod QueueProperties
 pub mod QueueTheorem
 pub mod BenchTable
+pub mod TheoremExamples

@@ -14,7 +14,8 @@ use Rattle.tables.specs.State.{Tables, no-lock, lock, resource, move, grants, c
 use Rattle.tables.specs.Grants.{holders}
 use Rattle.tables.proofs.Cases.{by-cases, by-equal, clash, eqb-same}
 use Rattle.tables.proofs.Counts.{count-same, count-other, count-append, count-nil, count-step, any-intro, kept-in, kept-once, kept-out}
-use Rattle.tables.specs.Validity.{used, StateOk, Core, line, idle, Settled, Valid}
+use Rattle.tables.specs.Validity.{used, as-free, Core, line, idle, Settled, Valid}
+use Rattle.tables.proofs.StateCases.{StateOk, ok-numbered}
 use Rattle.tables.proofs.Valid.{ok-at, absent, absent-lock, lock-other, locks-length, resources-length, core-move}
 use Rattle.tables.proofs.ChainMembers.{chain-has, settled-other}
 use Rattle.rules.specs.Queues.{free-lock, settle}
@@ -32,7 +33,7 @@ unfolding pushed
 length-pushed [] fs = omega arith
 length-pushed (k ∷ ks) fs = omega (arith, length-pushed ks (k ∷ fs))
 
-strong-used : (u : ℕ → Bool) (l : Lock) (s : ℕ) → StateOk u l s → strong (l .held) ≡ true → u (l .resource) ≡ true
+pub strong-used : (u : ℕ → Bool) (l : Lock) (s : ℕ) → StateOk u l s → strong (l .held) ≡ true → u (l .resource) ≡ true
 unfolding strong
 strong-used u l zero ok h = absurd (omega (arith, ap (λ (x : Lock). x .held) ok, leb-true 4 (l .held) h))
 strong-used u l (suc zero) ok h = ok .place .in-use
@@ -41,7 +42,7 @@ strong-used u l (suc (suc (suc zero))) ok h = ok .place .in-use
 strong-used u l (suc (suc (suc (suc zero)))) ok h = absurd (omega (arith, ok .holds, leb-true 4 (l .held) h))
 strong-used u l (suc (suc (suc (suc (suc n))))) ok h = absurd ok
 
-spoils-only : stores 2 ≡ false
+pub spoils-only : stores 2 ≡ false
 unfolding stores
 spoils-only = refl
 
@@ -63,12 +64,12 @@ unfolding purge-lock
 purged k t c s w =
     let r = lock t k .resource in
     let b = strong (lock t k .held) in
-    let q = leave-quiet b 2 [] r t (λ z. clash (stores 2) z spoils-only) (λ z. strong-used (used t) (lock t k) (lock t k .state) (c .lock-ok k) z) c in
+    let q = leave-quiet b 2 [] r t (λ z. clash (stores 2) z spoils-only) (λ z. strong-used (used t) (lock t k) (lock t k .state) (ok-numbered (c .lock-ok k)) z) c in
     let t0 = leave-value b 2 [] r t in
     let e : lock t0 k .resource ≡ r = rw (q .lock-is k) in
     let w0 : within (length (t0 .locks)) k ≡ true = rw (q .locks-are) w in
     rw (freeing t0 r k e) (record {
-      core = core-move r k no-lock t0 (q .core) w0 (λ z. e) (λ z. absurd (z refl)) refl (λ z. clash false z refl);
+      core = core-move r k no-lock t0 (q .core) w0 (λ z. e) (λ z. absurd (z refl)) (as-free refl) (λ z. clash false z refl);
       others = λ s n h. settled-other t0 (q .core) r k no-lock (λ z. e) s n (q .settled s h);
       lock-is = λ j n. lock-other r k no-lock t0 j n ∙ q .lock-is j;
       free-is = free-gained r k no-lock t0 (rw (q .lock-is k) s) refl ∙ ap (λ (l : List ℕ). k ∷ l) (q .free-is);
@@ -126,7 +127,7 @@ absent-settled t s w = record { still = rw (absent t s w); peopled = λ u. clash
 -- a lock that stands on a resource makes its client stand there
 stands : (c : ℕ) (t : Tables) → Core t → (k : ℕ) → within (length (t .locks)) k ≡ true → eqb (lock t k .client) c ≡ true → lock t k .resource ≢ 0 → stands-on c t (lock t k .resource) ≡ true
 unfolding stands-on holders
-stands c t co k w h n = go (lock t k .state) refl (co .lock-ok k)
+stands c t co k w h n = go (lock t k .state) refl (ok-numbered (co .lock-ok k))
   where
     r : ℕ
     r = lock t k .resource

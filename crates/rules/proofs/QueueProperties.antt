@@ -7,11 +7,10 @@ use Prim.Native.Nat.{ℕ, zero, suc, _+_, _≤_, _<_}
 use native.Mathlib.Omega.{arith}
 use lib.ListN.{length}
 use lib.Dec.{eqb, ltb}
-use borrow.Author.Tests.{eqb-true, eq-eqb, ne-eqb, ltb-true, ltb-false, lt-ltb, le-ltb, not-true}
+use borrow.Author.Tests.{eq-eqb, ne-eqb, ltb-true, ltb-false, lt-ltb, le-ltb, not-true}
 use Rattle.modes.specs.Modes.{compatible}
-use Rattle.tables.specs.declared.Lock.{Lock}
 use Rattle.tables.specs.Lists.{within, count, bit, any, first, from}
-use Rattle.tables.specs.State.{Tables, lock, resource, granted, converting, waiting, holds, Queue, queue-of, grants, converts, waits, LockChain, free-locks, denied, blocked, notices, queue, of-locks, chain, belongs}
+use Rattle.tables.specs.State.{Tables, lock, resource, holds, Queue, queue-of, grants, converts, waits, LockChain, free-locks, denied, blocked, notices, queue, of-locks, chain, belongs}
 use Rattle.tables.specs.Layout.{of-resource, queue-head, resources-in, locks-in, word-in, link-in, read-chain, read-lock, words, slots}
 use Rattle.tables.specs.Grants.{fits, convert-grantable}
 use Rattle.tables.specs.Sound.{ends, chain-ends, chains-end, sound}
@@ -20,20 +19,12 @@ use Rattle.tables.proofs.Counts.{within-le, le-within, count-same, count-from, 
 use Rattle.tables.specs.Threads.{Present}
 use Rattle.tables.proofs.Written.{valid-readable, valid-sound}
 use Rattle.tables.proofs.ReadBack.{resources-word, locks-word, word-read, chain-read, lock-read}
-use Rattle.tables.specs.Validity.{used, StateOk, Valid, line, idle}
+use Rattle.tables.specs.Validity.{used, Valid, line, idle}
+use Rattle.tables.proofs.StateCases.{StateOk, ok-numbered}
 use Rattle.tables.proofs.Valid.{used-within}
-use Rattle.tables.proofs.ChainMembers.{true-fits, state-within, on-chain}
+use Rattle.tables.proofs.ChainMembers.{true-fits, on-chain, holder-within, on-queue, three-queues}
 use Rattle.tables.proofs.Links.{next-here}
-use Rattle.rules.specs.Theorem.{IsLock, IsResource, IsChain, queue-count, home-count, kept-out, convert-head, wait-head, in-use, QueuesHold}
-
--- a lock stands on one chain of one resource at most
-three : (l : Lock) (e : Bool) → bit (granted l && e) + bit (converting l && e) + bit (waiting l && e) ≡ bit ((granted l || (converting l || waiting l)) && e)
-three l e =
-    by-cases (granted l)
-    (λ g. rw (eqb-true (l .state) 1 g) (omega arith))
-    (λ g. by-cases (converting l)
-    (λ c. rw (eqb-true (l .state) 2 c) (omega arith))
-    (λ c. rw (g, c) (omega arith)))
+use Rattle.rules.specs.Theorem.{IsLock, IsResource, IsChain, queue-count, home-count, kept-out, convert-head, wait-head, conversion-waits, in-use, QueuesHold}
 
 -- res is one of 1..r + 1 exactly if it is one of 1..r, or r + 1
 bits : (q : Bool) (r res : ℕ) → bit (q && within r res) + bit (q && eqb res (suc r)) ≡ bit (q && within (suc r) res)
@@ -50,9 +41,6 @@ bits true r (suc k) =
 within-none : (s : ℕ) → within 0 s ≡ false
 within-none zero = refl
 within-none (suc s) = le-ltb s 0 (omega arith)
-
-unfoldable on-queue : Lock → Bool
-on-queue l = granted l || (converting l || waiting l)
 
 module _ (t : Tables) (val : Valid t) where
   ok : sound (words t) (slots t) ≡ true
@@ -102,14 +90,14 @@ module _ (t : Tables) (val : Valid t) where
           counted (queue (suc r) converts) m,
           counted (queue (suc r) waits) m,
           queues-counted r (omega arith),
-          three (lock t k) (eqb (lock t k .resource) (suc r)),
+          three-queues (lock t k) (eqb (lock t k .resource) (suc r)),
         )
         (bits (on-queue (lock t k)) r (lock t k .resource))
 
     -- by its state
     one-chain : bit (eqb (lock t k .state) 0) + bit (eqb (lock t k .state) 4) + bit (on-queue (lock t k) && within (length (t .resources)) (lock t k .resource)) ≡ 1
     unfolding on-queue
-    one-chain = go (lock t k .state) refl (val .core .lock-ok k)
+    one-chain = go (lock t k .state) refl (ok-numbered (val .core .lock-ok k))
       where
         go : (s : ℕ) → lock t k .state ≡ s → StateOk (used t) (lock t k) s
             → bit (eqb s 0) + bit (eqb s 4) + bit ((eqb s 1 || (eqb s 2 || eqb s 3)) && within (length (t .resources)) (lock t k .resource)) ≡ 1
@@ -152,12 +140,6 @@ module _ (t : Tables) (val : Valid t) where
   is-lock : (k : ℕ) → within (length (t .locks)) k ≡ true → IsLock (words t) k
   is-lock k w = let p = within-le (length (t .locks)) k w in record { low = p .0; high = omega (arith, locks-word t) }
 
-  holder-within : (j : ℕ) → holds (lock t j) ≡ true → within (length (t .locks)) j ≡ true
-  holder-within j h =
-      by-cases (granted (lock t j))
-      (λ g. state-within t j 0 (eqb-true (lock t j .state) 1 g))
-      (λ g. state-within t j 1 (eqb-true (lock t j .state) 2 (rw g at h)))
-
   kept : (r k i m : ℕ) → ((j : ℕ) → j ≢ k → within (length (t .locks)) j ≡ true → j ≢ i) → fits t r k m ≡ false → kept-out (words t) r i m ≡ true
   unfolding kept-out
   kept r k i m away f =
@@ -170,7 +152,7 @@ module _ (t : Tables) (val : Valid t) where
       goes : (j : ℕ) → j ≢ k → holds (lock t j) ≡ true → lock t j .resource ≡ r → kept-out (words t) r i m ≡ false → compatible (lock t j .held) m ≡ true
       goes j n h e z =
           by-cases (compatible (lock t j .held) m) (λ y. y)
-          (λ c. let w = holder-within j h in
+          (λ c. let w = holder-within t j h in
           let barred : bars j ≡ true = rw (lock-is j (is-lock j w), ne-eqb j i (away j n w), h, eq-eqb (lock t j .resource) r e, c) in
           clash (any bars (from 1 (locks-in (words t))))
           (any-intro bars (from 1 (locks-in (words t))) j (rw (locks-word t, count-from (length (t .locks)) j, w) (omega arith)) barred) z)
@@ -194,15 +176,16 @@ module _ (t : Tables) (val : Valid t) where
           let w = on-chain t (val .core .linked) (queue r converts) k (rw (e, count-same) (omega arith)) .0 in
           rw (lock-is k (is-lock k w)) (kept r k k (lock t k .asked) (λ j m v. m) (line-head r k (ks ++ resource t r .wait) (rw e)))
 
-  wait-barred : (r : ℕ) → IsResource (words t) r → wait-head (words t) r ≢ 0 → convert-head (words t) r ≡ 0 → kept-out (words t) r 0 (read-lock (words t) (wait-head (words t) r) .asked) ≡ true
+  wait-barred : (r : ℕ) → IsResource (words t) r → wait-head (words t) r ≢ 0 → (conversion-waits (words t) r || kept-out (words t) r 0 (read-lock (words t) (wait-head (words t) r) .asked)) ≡ true
   unfolding line
   wait-barred r i = rw (head-word r i waits, head-word r i converts) (go (resource t r .wait) (resource t r .convert) refl refl)
     where
-      go : (ks js : List ℕ) → resource t r .wait ≡ ks → resource t r .convert ≡ js → first ks ≢ 0 → first js ≡ 0 → kept-out (words t) r 0 (read-lock (words t) (first ks) .asked) ≡ true
-      go [] js e f n z = absurd (n refl)
-      go (k ∷ ks) (j ∷ js) e f n z =
-          absurd (omega (arith, within-le (length (t .locks)) j (on-chain t (val .core .linked) (queue r converts) j (rw (f, count-same) (omega arith)) .0)))
-      go (k ∷ ks) [] e f n z =
+      go : (ks js : List ℕ) → resource t r .wait ≡ ks → resource t r .convert ≡ js → first ks ≢ 0 → (not (eqb (first js) 0) || kept-out (words t) r 0 (read-lock (words t) (first ks) .asked)) ≡ true
+      go [] js e f n = absurd (n refl)
+      go (k ∷ ks) (j ∷ js) e f n =
+          let p = within-le (length (t .locks)) j (on-chain t (val .core .linked) (queue r converts) j (rw (f, count-same) (omega arith)) .0) in
+          rw (ne-eqb j 0 (omega arith))
+      go (k ∷ ks) [] e f n =
           let w = on-chain t (val .core .linked) (queue r waits) k (rw (e, count-same) (omega arith)) .0 in
           rw (lock-is k (is-lock k w))
           (kept r k 0 (lock t k .asked) (λ j m v q. let p = within-le (length (t .locks)) j v in omega arith) (line-head r k ks (rw (f, e))))

@@ -8,11 +8,11 @@ use native.Mathlib.Omega.{arith}
 use lib.ListN.{length}
 use lib.Dec.{eqb}
 use borrow.Author.Tests.{leb-true}
-use Rattle.tables.specs.Lists.{within, count, keep, from}
-use Rattle.tables.specs.State.{Tables, lock, started}
+use Rattle.tables.specs.Lists.{count, from}
+use Rattle.tables.specs.State.{Tables, lock, started, most-resources, most-locks}
 use Rattle.tables.specs.Layout.{read-lock, words, slots}
 use Rattle.tables.proofs.Cases.{parts}
-use Rattle.tables.proofs.Counts.{within-le, count-same, count-step, count-from, bit-one}
+use Rattle.tables.proofs.Counts.{from-in, keep-cong}
 use Rattle.tables.proofs.ReadBack.{locks-word, lock-read, tables-read}
 use Rattle.tables.specs.Validity.{Valid}
 use Rattle.tables.proofs.Written.{valid-readable, valid-sound}
@@ -26,12 +26,6 @@ use Rattle.rules.proofs.QueueProperties.{queues-hold}
 unfoldable pub play : List Call → Tables → Tables
 play [] t = t
 play (c ∷ cs) t = play cs (step-of c t .tables)
-
-pub keep-cong : (p q : ℕ → Bool) (xs : List ℕ) → ((j : ℕ) → 1 ≤ count j xs → p j ≡ q j) → keep p xs ≡ keep q xs
-unfolding keep
-keep-cong p q [] h = refl
-keep-cong p q (x ∷ xs) h =
-    rw (h x (rw count-same (omega arith)), keep-cong p q xs (λ j m. h j (omega (arith, count-step j x xs))))
 
 -- an entry on the written form of a valid state gives what the rule says of the state
 pub outcome-is : (c : Call) (t : Tables) → Valid t → call-entry c (lent-of t) ≡ written (step-of c t)
@@ -84,7 +78,7 @@ in-use-is t =
   where
     same-state : (k : ℕ) → 1 ≤ count k (from 1 (length (t .locks))) → not (eqb (read-lock (words t) k .state) 0) ≡ not (eqb (lock t k .state) 0)
     same-state k m =
-        let w = within-le (length (t .locks)) k (bit-one (within (length (t .locks)) k) (rw (count-from (length (t .locks)) k) at m)) in
+        let w = from-in (length (t .locks)) k m in
         rw (lock-read t k (w .0) (w .1))
 
 demand : (cs : List Call) (t : Tables) → Valid t → used-locks t ≡ 0 → Demand cs (lent-of t)
@@ -102,7 +96,7 @@ from-start P r l h t = go (start-accepts (t .words) (t .slots) r l) refl
     go : (b : Bool) → start-accepts (t .words) (t .slots) r l ≡ b → start-if b t r l .said .refusal ≡ 0 → P (start-if b t r l .lent-after)
     go false e z = absurd (omega arith)
     go true e z =
-        h (started-valid r l (leb-true 1 r (search parts depth 20)) (leb-true r 256 (search parts depth 20)) (leb-true 1 l (search parts depth 20)) (leb-true l 1024 (search parts depth 20)))
+        h (started-valid r l (leb-true 1 r (search parts depth 20)) (leb-true r most-resources (search parts depth 20)) (leb-true 1 l (search parts depth 20)) (leb-true l most-locks (search parts depth 20)))
 
 pub queue-theorem : QueueTheorem
 queue-theorem t r l accepted cs = from-start (Demand cs) r l (λ val. demand cs (started r l) val (started-none r l)) t accepted

@@ -10,11 +10,11 @@ use lib.Dec.{eqb, leb}
 use borrow.Author.Tests.{leb-true, leb-false, not-true}
 use Rattle.tables.specs.declared.Lock.{Lock}
 use Rattle.tables.specs.Lists.{within, count, remove, first, null, from, same}
-use Rattle.tables.specs.State.{Resource, Tables, no-lock, lock, resource, holds, LockChain, chain, shift, relist, move, move-resource, grants, converts, waits, free-locks, queue}
+use Rattle.tables.specs.State.{Resource, Tables, no-lock, lock, resource, holds, LockChain, chain, shift, relist, move, move-resource, grants, converts, waits, free-locks, queue, last-client, last-mode, name-width}
 use Rattle.tables.specs.Grants.{fits, admits}
 use Rattle.tables.proofs.Cases.{by-cases, clash, eqb-same, and-right, and-intro}
 use Rattle.tables.proofs.Counts.{count-same, remove-head, count-from, nil-of-counts, same-eq, same-refl, first-passes, first-none}
-use Rattle.tables.specs.Validity.{used, LockOk, Core, line, idle, Settled, Valid, Near}
+use Rattle.tables.specs.Validity.{used, LockOk, as-granted, as-waiting, Core, line, idle, Settled, Valid, Near}
 use Rattle.tables.proofs.Valid.{ok-at, absent, used-within, lock-same, resource-same, locks-length, Fits, core-move}
 use Rattle.tables.proofs.ChainMembers.{and-bit, on-chain, chain-has, chain-once, on-grants, on-converts, on-waits, fits-true, wait-fits}
 use Rattle.rules.specs.Queues.{find}
@@ -28,7 +28,7 @@ front-nil (x ∷ xs) ys e = absurd (omega (arith, ap length e))
 
 -- a free lock enters on a resource in use
 module _ (t : Tables) (co : Core t) (r k c m : ℕ) (ks : List ℕ) (rest : (s : ℕ) → s ≢ r → Settled t s) (u : used t r ≡ true) (i : idle t r (line t r) ≡ true)
-    (frees : t .free-locks ≡ k ∷ ks) (low : 1 ≤ c) (high : c ≤ 255) (mode : m ≤ 5) where
+    (frees : t .free-locks ≡ k ∷ ks) (low : 1 ≤ c) (high : c ≤ last-client) (mode : m ≤ last-mode) where
   mem : 1 ≤ count k (chain t free-locks)
   mem = rw (frees, count-same) (omega arith)
 
@@ -57,12 +57,12 @@ module _ (t : Tables) (co : Core t) (r k c m : ℕ) (ks : List ℕ) (rest : (s :
   unfolding admits
   enter-granted h =
       let l = holding r c m in
-      let ok : LockOk (used t) l = record {
+      let ok : LockOk (used t) l = as-granted refl (record {
         place = record { in-use = u; client-low = low; client-high = high; held-mode = mode; asked-mode = omega arith };
         asks = refl;
         notice = omega arith;
         not-denied = omega arith;
-      } in
+      }) in
       let fit : holds l ≡ true → Fits t r k m = λ z. fits-true t (co .linked) r k m (sym alone ∙ and-right (null (resource t r .convert)) _ h) in
       let c1 = core-move r k l t co w near (λ z. refl) ok fit in
       then-stop t co r k l rest w near (λ z. refl) ok fit ks (takes l refl)
@@ -84,11 +84,11 @@ module _ (t : Tables) (co : Core t) (r k c m : ℕ) (ks : List ℕ) (rest : (s :
       l = queued r c m
 
       ok : LockOk (used t) l
-      ok = record {
+      ok = as-waiting refl (record {
         place = record { in-use = u; client-low = low; client-high = high; held-mode = omega arith; asked-mode = mode };
         notice = refl;
         holds = refl;
-      }
+      })
 
       fit : holds l ≡ true → Fits t r k 0
       fit z = clash false z refl
@@ -137,7 +137,7 @@ first-member [] h = clash true refl h
 first-member (x ∷ xs) h = rw count-same (omega arith)
 
 -- an accepted request takes the first free lock
-module _ (c m : ℕ) (n : List ℕ) (t : Tables) (val : Valid t) (low : 1 ≤ c) (high : c ≤ 255) (mode : m ≤ 5) (some : null n ≡ false) (short : length n ≤ 64) where
+module _ (c m : ℕ) (n : List ℕ) (t : Tables) (val : Valid t) (low : 1 ≤ c) (high : c ≤ last-client) (mode : m ≤ last-mode) (some : null n ≡ false) (short : length n ≤ name-width) where
   on-old : (r k : ℕ) (ks : List ℕ) → find n t ≡ suc r → t .free-locks ≡ k ∷ ks → After t (request-on (suc r) k c m t .tables) ks
   unfolding request-on
   on-old r k ks e frees =

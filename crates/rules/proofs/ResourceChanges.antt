@@ -9,19 +9,16 @@ use lib.ListN.{length}
 use borrow.Author.Tests.{not-true}
 use Rattle.tables.specs.declared.Lock.{Lock}
 use Rattle.tables.specs.Lists.{within, count, bit, null}
-use Rattle.tables.specs.State.{Resource, Tables, no-value, no-resource, lock, resource, LockChain, chain, belongs, move-resource, grants, converts, waits, free-locks, denied, blocked, notices, queue}
+use Rattle.tables.specs.State.{Resource, Tables, no-value, no-resource, lock, resource, LockChain, chain, belongs, move-resource, grants, converts, waits, free-locks, denied, blocked, notices, queue, value-width}
 use Rattle.tables.specs.Grants.{holders, fits, convert-grantable, empty}
 use Rattle.tables.proofs.Cases.{by-cases, by-equal, clash, eqb-same, and-left, and-right}
-use Rattle.tables.proofs.Counts.{length-put, nth-put-same, nth-put-other, count-front, count-front-other, count-nil}
-use Rattle.tables.specs.Validity.{used, StateOk, ResourceOk, Core, line, idle, Settled}
+use Rattle.tables.proofs.Counts.{length-put, nth-put-same, nth-put-other, count-front, count-front-other, count-nil, null-nil}
+use Rattle.tables.specs.Validity.{used, ResourceOk, Core, line, idle, Settled}
+use Rattle.tables.proofs.StateCases.{StateOk, ok-numbered}
 use Rattle.tables.proofs.Valid.{used-within, ok-map}
 use Rattle.tables.proofs.ChainMembers.{state-within, chain-has}
 use Rattle.rules.specs.Calls.{stores, spoils, with-value, leave-value}
 use Rattle.rules.proofs.SweepLaws.{Swept}
-
-pub null-nil : (xs : List ℕ) → null xs ≡ true → xs ≡ []
-null-nil [] h = refl
-null-nil (x ∷ xs) h = clash true refl (sym h)
 
 pub empty-chains : (x : Resource) → empty x ≡ true → (x .grant ≡ []) × (x .convert ≡ []) × (x .wait ≡ [])
 unfolding empty
@@ -30,7 +27,7 @@ empty-chains x h =
 
 -- nobody stands on an empty resource
 pub nobody : (t : Tables) → Core t → (r : ℕ) → empty (resource t r) ≡ true → within (length (t .resources)) r ≡ true → (j : ℕ) → lock t j .resource ≢ r
-nobody t c r h w j e = go (lock t j .state) refl (c .lock-ok j)
+nobody t c r h w j e = go (lock t j .state) refl (ok-numbered (c .lock-ok j))
   where
     none : (x : LockChain) (n : ℕ) → lock t j .state ≡ suc n → belongs x (lock t j) ≡ true → chain t x ≡ [] → ⊥
     none x n s b z = omega (arith, chain-has t (c .linked) x j (state-within t j n s) b, ap (count j) z, count-nil j)
@@ -166,7 +163,7 @@ module _ (r : ℕ) (x : Resource) (t : Tables) (w : within (length (t .resources
   pub settled-kept : s ≢ r → Settled t s → Settled (move-resource r x t) s
   settled-kept n h = record { still = rw idle-kept (h .still); peopled = rw (used-unchanged r x t s n, unchanged r x t s n) (h .peopled) }
 
-pub no-value-length : length no-value ≡ 32
+pub no-value-length : length no-value ≡ value-width
 unfolding no-value
 no-value-length = refl
 
@@ -198,7 +195,7 @@ module _ (f : ℕ) (v : List ℕ) (x : Resource) where
   unfolding with-value
   value-name = refl
 
-  value-ok : (stores f ≡ true → length v ≡ 32) → null (x .name) ≡ false → ResourceOk x → ResourceOk (with-value f v x)
+  value-ok : (stores f ≡ true → length v ≡ value-width) → null (x .name) ≡ false → ResourceOk x → ResourceOk (with-value f v x)
   unfolding with-value
   value-ok h n ok =
       record {
@@ -219,7 +216,7 @@ pub record Quiet (t t′ : Tables) : Type 0 where
   pub locks-are : length (t′ .locks) ≡ length (t .locks)
   pub resources-are : length (t′ .resources) ≡ length (t .resources)
 
-value-quiet : (f : ℕ) (v : List ℕ) (r : ℕ) (t : Tables) → (stores f ≡ true → length v ≡ 32) → used t r ≡ true → Core t → Quiet t (move-resource r (with-value f v (resource t r)) t)
+value-quiet : (f : ℕ) (v : List ℕ) (r : ℕ) (t : Tables) → (stores f ≡ true → length v ≡ value-width) → used t r ≡ true → Core t → Quiet t (move-resource r (with-value f v (resource t r)) t)
 unfolding move-resource
 value-quiet f v r t right u c =
     let w = used-within t r u in
@@ -238,7 +235,7 @@ value-quiet f v r t right u c =
       resources-are = resources-kept r x t;
     }
 
-pub leave-quiet : (b : Bool) (f : ℕ) (v : List ℕ) (r : ℕ) (t : Tables) → (stores f ≡ true → length v ≡ 32) → (b ≡ true → used t r ≡ true) → Core t → Quiet t (leave-value b f v r t)
+pub leave-quiet : (b : Bool) (f : ℕ) (v : List ℕ) (r : ℕ) (t : Tables) → (stores f ≡ true → length v ≡ value-width) → (b ≡ true → used t r ≡ true) → Core t → Quiet t (leave-value b f v r t)
 unfolding leave-value
 leave-quiet false f v r t right u c =
     record { core = c; settled = λ s h. h; lock-is = λ k. refl; used-is = λ s. refl; free-is = refl; locks-are = refl; resources-are = refl }

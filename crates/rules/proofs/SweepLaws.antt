@@ -12,8 +12,8 @@ use Rattle.tables.specs.Lists.{put, count, remove, null}
 use Rattle.tables.specs.State.{Tables, lock, resource, converting, waiting, shift, shift-front, relist, move, converts, waits, queue}
 use Rattle.tables.specs.Grants.{convert-grantable, wait-grantable, empty}
 use Rattle.tables.proofs.Cases.{by-cases, eqb-same}
-use Rattle.tables.proofs.Counts.{count-same, count-append, remove-absent, remove-head, remove-append, shift-off}
-use Rattle.tables.specs.Validity.{Core, line, idle, Settled, Near}
+use Rattle.tables.proofs.Counts.{count-append, remove-absent, remove-head, remove-append, shift-off, head-in, head-once}
+use Rattle.tables.specs.Validity.{Core, line, idle, Settled, Near, as-granted}
 use Rattle.tables.proofs.Valid.{used-within, resource-same, locks-length, resources-length, core-move}
 use Rattle.tables.proofs.ChainMembers.{fits-true, blocked-place, settled-other, line-once, not-granted, wait-behind, wait-head}
 use Rattle.rules.specs.Queues.{granted-lock, grant-lock, grant-while, grant-converts, grant-waits, sweep}
@@ -24,12 +24,12 @@ module _ (t : Tables) (c : Core t) where
   grant-core r k m g =
       let b = blocked-place t c r k m in
       core-move r k (granted-lock (lock t k)) t c (b .2) (λ z. b .1) (λ z. b .1)
-      (record {
+      (as-granted refl (record {
         place = record { in-use = b .0 .in-use; client-low = b .0 .client-low; client-high = b .0 .client-high; held-mode = b .0 .asked-mode; asked-mode = omega arith };
         asks = refl;
         notice = omega arith;
         not-denied = omega arith;
-      })
+      }))
       (λ z. rw (b .1) (fits-true t (c .linked) r k (lock t k .asked) g))
 
   -- a blocked lock is granted: it leaves its chain
@@ -52,15 +52,12 @@ module _ (t : Tables) (c : Core t) where
 
   -- the head of the line is granted: the rest is the line
   module _ (r k : ℕ) (ks : List ℕ) where
-    head-in : line t r ≡ k ∷ ks → 1 ≤ count k (line t r)
-    head-in e = rw (e, count-same) (omega arith)
-
-    once : line t r ≡ k ∷ ks → count k ks ≡ 0
-    once e = omega (arith, rw (e, count-same) at (line-once t c r k))
+    pub once : line t r ≡ k ∷ ks → count k ks ≡ 0
+    once e = head-once (line t r) k ks e (line-once t c r k)
 
     pub grant-line : line t r ≡ k ∷ ks → line (grant-lock r k t) r ≡ ks
     unfolding line
-    grant-line e = rw (grant-converts-left r k (head-in e), grant-waits-left r k (head-in e), ← remove-append, e) (remove-head k ks (once e))
+    grant-line e = rw (grant-converts-left r k (head-in (line t r) k ks e), grant-waits-left r k (head-in (line t r) k ks e), ← remove-append, e) (remove-head k ks (once e))
 
 -- what sweeping does
 pub record Swept (r : ℕ) (t t′ : Tables) : Type 0 where
@@ -107,7 +104,7 @@ unfolding grant-while grant-lock
 swept r [] t c e =
     record { core = c; still = rw e (unfold idle in refl); others = λ s n h. h; peopled = λ h. h; free-same = refl; locks-same = refl; resources-same = refl }
 swept r (k ∷ ks) t c e =
-    let m : 1 ≤ count k (line t r) = rw (e, count-same) (omega arith) in
+    let m = head-in (line t r) k ks e in
     let l : Lock = granted-lock (lock t k) in
     by-cases (convert-grantable t r k)
     (λ g. rw (g, grant-while) (step-swept r k l t _ c (λ z. blocked-place t c r k m .1) (λ z. grant-full t c r k m) (free-kept r k l t (not-granted t c r k m .1) (unfold granted-lock in refl)) (swept r ks (grant-lock r k t) (grant-core t c r k m g) (grant-line t c r k ks e))))
@@ -119,9 +116,9 @@ waits-line : (r : ℕ) (ws : List ℕ) (t : Tables) → Core t → resource t r 
 unfolding grant-while
 waits-line r [] t c e f = refl
 waits-line r (k ∷ ks) t c e f =
-    let i : 1 ≤ count k (resource t r .wait) = rw (f, count-same) (omega arith) in
+    let i = head-in (resource t r .wait) k ks f in
     let whole : line t r ≡ k ∷ ks = unfold line in rw (e, f) in
-    let m = head-in t c r k ks whole in
+    let m = head-in (line t r) k ks whole in
     by-cases (convert-grantable t r k)
     (λ g. rw (wait-head t c r k e i, g, grant-while)
     (waits-line r ks (grant-lock r k t) (grant-core t c r k m g)
@@ -140,7 +137,7 @@ unfolding grant-waits grant-while
 loops-line r [] ws t c e f = rw f (waits-line r ws t c e f)
 loops-line r (k ∷ ks) ws t c e f =
     let whole : line t r ≡ k ∷ (ks ++ ws) = unfold line in rw (e, f) in
-    let m = head-in t c r k (ks ++ ws) whole in
+    let m = head-in (line t r) k (ks ++ ws) whole in
     let z : count k ks + count k ws ≡ 0 = sym (count-append k ks ws) ∙ once t c r k (ks ++ ws) whole in
     by-cases (convert-grantable t r k)
     (λ g. rw (g, grant-while)

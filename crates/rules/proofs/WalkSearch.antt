@@ -1,15 +1,15 @@
 -- The bounded search finds exactly the walks, of whatever length: as many steps as there are nodes are enough.
 use mathlib.Core.Path.{_≡_, refl}
-use mathlib.Core.Logic.{_⊎_, inl, inr, ⊎-elim, _↔_}
+use mathlib.Core.Logic.{_⊎_, inl, inr, ⊎-elim}
 use mathlib.Core.Bool.{Bool, true, false}
-use mathlib.Core.List.{List, [], _∷_}
+use mathlib.Core.List.{List}
 use Prim.Native.Nat.{ℕ, zero, suc, _+_, _≤_}
 use native.Mathlib.Omega.{arith}
 use lib.ListN.{length}
-use lib.Dec.{eqb}
 use Rattle.tables.specs.Lists.{any, count, remove}
 use Rattle.tables.proofs.Cases.{by-cases, by-equal, clash, or-left, or-right}
-use Rattle.tables.proofs.Counts.{count-same, count-step, count-remove, count-remove-other, any-intro}
+use Rattle.tables.proofs.Counts.{count-remove, count-remove-other, any-intro, any-has}
+use Rattle.tables.proofs.Pigeonhole.{length-remove}
 use Rattle.rules.specs.Walks.{reaches, Walk, step, through, SearchComplete}
 
 -- the search looks no further where the first test fails
@@ -27,21 +27,6 @@ gate-left false x h = h
 gate-right : (t x : Bool) → gate t x ≡ true → x ≡ true
 gate-right true x h = h
 gate-right false x h = clash false h refl
-
--- a test that holds of some member holds of one
-pub any-has : (p : ℕ → Bool) (xs : List ℕ) → any p xs ≡ true → (j : ℕ) × (1 ≤ count j xs) × (p j ≡ true)
-unfolding any
-any-has p [] h = clash false h refl
-any-has p (x ∷ xs) h =
-    by-cases (p x)
-    (λ t. (x, omega (arith, count-same x xs), t))
-    (λ f. let w = any-has p xs (rw f at h) in (w .0, omega (arith, w .1, count-step (w .0) x xs), w .2))
-
-pub length-remove : (k : ℕ) (xs : List ℕ) → length xs ≡ count k xs + length (remove k xs)
-unfolding count remove
-length-remove k [] = omega arith
-length-remove k (x ∷ xs) =
-    by-cases (eqb k x) (λ h. rw h (omega (arith, length-remove k xs))) (λ h. rw h (omega (arith, length-remove k xs)))
 
 pub count-remove-le : (j k : ℕ) (xs : List ℕ) → count j (remove k xs) ≤ count j xs
 count-remove-le j k xs =

@@ -111,13 +111,13 @@ null-beside-exclusive = says (requests-a 1 EX) 1 1 ∷ says (requests-a 2 NL) 1 
 
 -- M: one client, EX then EX on one name: break answers 2
 abbrev pub own-deadlock : List BenchLine
-own-deadlock = says (requests-a 1 EX) 1 1 ∷ says (requests-a 1 EX) 2 2 ∷ says to-break 2 0 ∷ says (to-poll 1) 2 2 ∷ []
+own-deadlock = says (requests-a 1 EX) 1 1 ∷ says (requests-a 1 EX) 2 2 ∷ says to-break 2 2 ∷ says (to-poll 1) 2 2 ∷ []
 
 -- M: 1 holds A, 2 holds B (EX), 1 requests B, 2 requests A: break answers 3, then 0
 abbrev pub crossed-deadlock : List BenchLine
 crossed-deadlock =
     says (requests-a 1 EX) 1 1 ∷ says (requests-b 2 EX) 1 2 ∷ says (requests-b 1 EX) 2 3 ∷ says (requests-a 2 EX) 2 4
-    ∷ says to-break 3 0 ∷ says (to-poll 1) 2 3 ∷ says to-break 0 0 ∷ []
+    ∷ says to-break 3 3 ∷ says (to-poll 1) 2 3 ∷ says to-break 0 0 ∷ []
 
 -- M (guide 2.3.9): PW held; three NL convert to EX, PW, CR; CR, PR, CR wait. Lock 1 to CR: nothing moves. Release 1: lock 2 has EX.
 -- Lock 2 to NL: 3, 4, 5 granted; 6, 7 wait. Release 4, 5: nothing. Release 3: 6 and 7 granted.
@@ -166,7 +166,7 @@ releases-sweep =
 abbrev pub behind-the-cycle : List BenchLine
 behind-the-cycle =
     says (requests-a 1 EX) 1 1 ∷ says (requests-b 2 EX) 1 2 ∷ says (requests-c 1 EX) 1 3 ∷ says (requests-c 3 EX) 2 4
-    ∷ says (requests-b 1 EX) 2 5 ∷ says (requests-a 2 EX) 2 6 ∷ says to-break 5 0 ∷ says (to-poll 1) 2 5 ∷ says to-break 0 0 ∷ []
+    ∷ says (requests-b 1 EX) 2 5 ∷ says (requests-a 2 EX) 2 6 ∷ says to-break 5 5 ∷ says (to-poll 1) 2 5 ∷ says to-break 0 0 ∷ []
 
 -- a purge counts locks, and not the resources where they stood
 abbrev pub purge-counts-locks : List BenchLine

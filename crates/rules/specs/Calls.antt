@@ -7,20 +7,15 @@ use lib.Dec.{eqb, leb, ltb}
 use Rattle.modes.specs.Modes.{down}
 use Rattle.tables.specs.Lists.{within, any, keep, first, first-that, null, from}
 use Rattle.tables.specs.declared.Lock.{Lock}
-use Rattle.tables.specs.State.{Resource, Tables, name-width, value-width, no-value, lock, resource, granted, converting, blocked-lock, unread, move, move-resource, state-free, state-granted, state-converting, state-waiting, state-denied, completion-none, completion-denied, completion-conversion-denied}
+use Rattle.tables.specs.State.{Resource, Tables, name-width, value-width, no-value, new-lock, denied-lock, changed-lock, lock, resource, granted, converting, blocked-lock, unread, move, move-resource, state-free, state-granted, state-converting, state-waiting, completion-none, completion-denied, completion-conversion-denied, last-mode}
 use Rattle.tables.specs.Grants.{holders, fits, admits}
 use Rattle.tables.specs.Sound.{client-right}
 use Rattle.rules.specs.Queues.{sweep, free-lock, settle, find}
 use Rattle.rules.specs.Deadlock.{victim}
+pub use Rattle.rules.specs.declared.Said.{Said}
 
 -- WHAT A CALL SAYS: a refusal, or 0 where it is accepted; its answer; a lock's number, or a further count; and room for one number more. What it
--- doesn't say is zero.
-pub record Said : Type 0 where
-  pub refusal : ℕ
-  pub answer : ℕ
-  pub number : ℕ
-  pub extra : ℕ
-
+-- doesn't say is zero. The record is the code's struct, `Said`.
 abbrev pub accepted : ℕ → ℕ → Said
 accepted a k = record { refusal = 0; answer = a; number = k; extra = 0 }
 
@@ -108,10 +103,10 @@ with-resource zero n t = move-resource (first (t .free-resources)) (new-resource
 with-resource (suc r) n t = t
 
 abbrev pub holding : ℕ → ℕ → ℕ → Lock
-holding r c m = record { resource = r; client = c; state = state-granted; held = m; asked = 0; completion = completion-none }
+holding r c m = new-lock r c state-granted m 0
 
 abbrev pub queued : ℕ → ℕ → ℕ → Lock
-queued r c m = record { resource = r; client = c; state = state-waiting; held = 0; asked = m; completion = completion-none }
+queued r c m = new-lock r c state-waiting 0 m
 
 -- the lock k is granted (answer 1) if the convert chain is empty and the mode is compatible with every held mode; else it waits (2)
 unfoldable pub request-on : ℕ → ℕ → ℕ → ℕ → Tables → Step
@@ -128,7 +123,7 @@ at-once (suc r) m t = admits t (suc r) m
 
 unfoldable pub request-refusal : ℕ → ℕ → ℕ → List ℕ → Tables → ℕ
 request-refusal c m f n t =
-    unless (client-right c) 3 (unless (leb m 5) 4 (unless (request-flags f) 5 (unless (name-right n) 6
+    unless (client-right c) 3 (unless (leb m last-mode) 4 (unless (request-flags f) 5 (unless (name-right n) 6
     (unless (not (eqb (find n t) 0) || not (null (t .free-resources))) 11 (unless (not (null (t .free-locks))) 12
     (unless (not (no-queue f) || at-once (find n t) m t) 13 0))))))
 
@@ -137,10 +132,10 @@ request c m f n t = refused-or (request-refusal c m f n t) (request-change c m n
 
 -- CONVERT
 abbrev pub held-at : ℕ → Lock → Lock
-held-at m l = record { resource = l .resource; client = l .client; state = state-granted; held = m; asked = 0; completion = completion-none }
+held-at m l = changed-lock state-granted m 0 completion-none l
 
 abbrev pub asking : ℕ → Lock → Lock
-asking m l = record { resource = l .resource; client = l .client; state = state-converting; held = l .held; asked = m; completion = completion-none }
+asking m l = changed-lock state-converting (l .held) m completion-none l
 
 -- "Down: in place. Else, if the convert chain is empty and the mode is compatible with every other held mode, in place."
 unfoldable pub in-place : ℕ → ℕ → Tables → Bool
@@ -157,7 +152,7 @@ convert-change k m f v t =
 
 unfoldable pub convert-refusal : ℕ → ℕ → ℕ → ℕ → List ℕ → Tables → ℕ
 convert-refusal c k m f v t =
-    unless (client-right c) 3 (unless (leb m 5) 4 (unless (convert-flags f) 5 (unless (value-right f v) 7 (unless (own c k t) 8
+    unless (client-right c) 3 (unless (leb m last-mode) 4 (unless (convert-flags f) 5 (unless (value-right f v) 7 (unless (own c k t) 8
     (unless (not (unread (lock t k))) 9 (unless (granted (lock t k)) 10 (unless (not (no-queue f) || in-place k m t) 13 0)))))))
 
 unfoldable pub convert : ℕ → ℕ → ℕ → ℕ → List ℕ → Tables → Step
@@ -179,7 +174,7 @@ release c k f v t = refused-or (release-refusal c k f v t) (release-change k f v
 
 -- CANCEL. Back on the grant chain at the mode it held, with a completion.
 abbrev pub restored : ℕ → Lock → Lock
-restored e l = record { resource = l .resource; client = l .client; state = state-granted; held = l .held; asked = 0; completion = e }
+restored e l = changed-lock state-granted (l .held) 0 e l
 
 unfoldable pub cancel-change : ℕ → Tables → Step
 cancel-change k t =
@@ -228,9 +223,6 @@ unfoldable pub purge : ℕ → Tables → Step
 purge c t = refused-or (purge-refusal c) (purge-change c t) t
 
 -- BREAK
-abbrev pub denied-lock : Lock → Lock
-denied-lock l = record { resource = 0; client = l .client; state = state-denied; held = 0; asked = 0; completion = completion-denied }
-
 -- "Denied waiting: to the denied chain, completion 2. Denied converting: back to the grant chain, completion 3."
 unfoldable pub deny : ℕ → Tables → Tables
 deny k t =
@@ -240,16 +232,17 @@ deny k t =
       | false ↦ sweep r (move r k (denied-lock (lock t k)) t)
     ]
 
+-- the denied lock is the answer, and stands as a lock's number too, as in any other answer
 unfoldable pub deny-victim : ℕ → Tables → Step
 deny-victim zero t = accepted-step 0 0 t
-deny-victim (suc k) t = accepted-step (suc k) 0 (deny (suc k) t)
+deny-victim (suc k) t = accepted-step (suc k) (suc k) (deny (suc k) t)
 
 unfoldable pub break : Tables → Step
 break t = deny-victim (victim t) t
 
 -- POLL
 abbrev pub notice-read : Lock → Lock
-notice-read l = record { resource = l .resource; client = l .client; state = l .state; held = l .held; asked = l .asked; completion = completion-none }
+notice-read l = changed-lock (l .state) (l .held) (l .asked) completion-none l
 
 -- "Completion 2 frees the lock."
 unfoldable pub take-notice : ℕ → Tables → Tables

@@ -6,7 +6,7 @@ use Prim.Native.Nat.{ℕ, zero, suc, _*_}
 use lib.ListN.{length}
 use lib.Dec.{eqb, leb}
 use Rattle.tables.specs.declared.LockEntry.{LockEntry}
-use Rattle.tables.specs.State.{Tables, no-value, lock, resource, started, holds}
+use Rattle.tables.specs.State.{Tables, no-value, lock, resource, started, holds, most-resources, most-locks}
 use Rattle.tables.specs.Layout.{size, slot-width, words, slots, read}
 use Rattle.tables.specs.Grants.{holders}
 use Rattle.tables.specs.Sound.{client-right, sound}
@@ -106,7 +106,7 @@ Keeps c t x u = outcome x u ≡ call-entry c t
 -- START. Its tables may hold anything before; 2 where R, L or a length is wrong.
 unfoldable pub start-accepts : List ℕ → List ℕ → ℕ → ℕ → Bool
 start-accepts ws ss r l =
-    leb 1 r && leb r 256 && leb 1 l && leb l 1024 && eqb (length ws) (size r l) && eqb (length ss) (slot-width * r)
+    leb 1 r && leb r most-resources && leb 1 l && leb l most-locks && eqb (length ws) (size r l) && eqb (length ss) (slot-width * r)
 
 unfoldable pub start-if : Bool → Lent → ℕ → ℕ → Outcome
 start-if false t r l = outcome (refused 2) t

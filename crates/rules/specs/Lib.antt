@@ -4,6 +4,7 @@ pub mod Deadlock
 pub mod Calls
 pub mod Entries
 pub mod Images
+pub mod Numbers
 pub mod Theorem
 pub mod Bench
 pub mod Accepted

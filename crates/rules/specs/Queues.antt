@@ -5,13 +5,13 @@ use Prim.Native.Nat.{ℕ}
 use lib.ListN.{length}
 use Rattle.tables.specs.Lists.{first-that, from, same}
 use Rattle.tables.specs.declared.Lock.{Lock}
-use Rattle.tables.specs.State.{Tables, no-lock, no-resource, lock, resource, move, move-resource, state-granted, completion-granted}
+use Rattle.tables.specs.State.{Tables, no-lock, changed-lock, no-resource, lock, resource, move, move-resource, state-granted, completion-granted}
 use Rattle.tables.specs.Grants.{convert-grantable, wait-grantable, empty}
 
 -- "A lock granted so goes to the end of the grant chain, held = asked, asked 0, completion 1, off the blocked chain, to the end of the
 -- notice chain": `move` does so to the lock that becomes this.
 unfoldable pub granted-lock : Lock → Lock
-granted-lock l = record { resource = l .resource; client = l .client; state = state-granted; held = l .asked; asked = 0; completion = completion-granted }
+granted-lock l = changed-lock state-granted (l .asked) 0 completion-granted l
 
 unfoldable pub grant-lock : ℕ → ℕ → Tables → Tables
 grant-lock r k t = move r k (granted-lock (lock t k)) t

@@ -1,7 +1,7 @@
 -- The queue theorem (document 01's demand 3): what holds of the words and slots after every list of the seven calls from fresh tables.
 use mathlib.Core.Path.{_≡_}
 use mathlib.Core.Logic.{_≢_}
-use mathlib.Core.Bool.{Bool, true, _&&_, not, cond}
+use mathlib.Core.Bool.{Bool, true, _&&_, _||_, not, cond}
 use mathlib.Core.List.{List, [], _∷_}
 use Prim.Native.Nat.{ℕ, zero, suc, _+_, _≤_}
 use lib.ListN.{length}
@@ -93,6 +93,9 @@ convert-head ws r = word-in ws (of-resource r 2)
 abbrev pub wait-head : List ℕ → ℕ → ℕ
 wait-head ws r = word-in ws (of-resource r 3)
 
+abbrev pub conversion-waits : List ℕ → ℕ → Bool
+conversion-waits ws r = not (eqb (convert-head ws r) 0)
+
 pub record QueuesHold (ws ss : List ℕ) : Type 0 where
   pub sound-tables : sound ws ss ≡ true
   -- (a) any two different locks that hold modes on one resource hold compatible ones
@@ -104,7 +107,7 @@ pub record QueuesHold (ws ss : List ℕ) : Type 0 where
   pub chains-end : (c : LockChain) → IsChain ws c → ends (link-in ws (of-locks c)) (locks-in ws) (link-in ws (of-locks c) 0) ≡ true
   -- (d) no head waits that the rules would grant: a convert head is kept out by another lock's mode, a wait head by a conversion or such a mode
   pub convert-heads : (r : ℕ) → IsResource ws r → convert-head ws r ≢ 0 → kept-out ws r (convert-head ws r) (read-lock ws (convert-head ws r) .asked) ≡ true
-  pub wait-heads : (r : ℕ) → IsResource ws r → wait-head ws r ≢ 0 → convert-head ws r ≡ 0 → kept-out ws r 0 (read-lock ws (wait-head ws r) .asked) ≡ true
+  pub wait-heads : (r : ℕ) → IsResource ws r → wait-head ws r ≢ 0 → (conversion-waits ws r || kept-out ws r 0 (read-lock ws (wait-head ws r) .asked)) ≡ true
 
 -- DEMAND 3, one statement about a list of calls on the tables t
 pub record Demand (cs : List Call) (t : Lent) : Type 0 where

@@ -9,7 +9,7 @@ use borrow.Author.Needs.{needs}
 use lib.ListN.{length, getD, set, take, drop, length-append, drop-of-length-le}
 use lib.Seq.{drop-cons, drop-drop, drop-length, set-at, sets-eq, take-suc, take-all, take-at, drop-append-add, length-take-le}
 use Rattle.tables.specs.Lists.{from}
-use Rattle.tables.proofs.Blocks.{length-map-from}
+use Rattle.tables.proofs.Blocks.{length-map-from, getD-map-from}
 use Rattle.rules.specs.Images.{word-bytes, word-from}
 use Rattle.table_bytes.specs.Bytes.{encoded, decoded, with-word}
 
@@ -69,6 +69,11 @@ from-last f a (suc n) = ap (λ (xs : List ℕ). f a ∷ xs) (from-last f (suc a)
 pub length-decoded : (bs : List ℕ) (n : ℕ) → length (decoded bs n) ≡ n
 unfolding decoded
 length-decoded bs n = length-map-from (λ i. word-from bs (4 * i)) 0 n
+
+-- a word, where it stands
+pub decoded-at : (bs : List ℕ) (n i : ℕ) → i < n → getD (decoded bs n) i 0 ≡ word-from bs (4 * i)
+unfolding decoded
+decoded-at bs n i h = getD-map-from (λ j. word-from bs (4 * j)) 0 0 n i h ∙ ap (λ (j : ℕ). word-from bs (4 * j)) (zero-add i)
 
 decoded-more : (bs : List ℕ) (n : ℕ) → decoded bs (n + 1) ≡ decoded bs n ++ word-from bs (4 * n) ∷ []
 unfolding decoded

@@ -4,9 +4,9 @@ use mathlib.Core.Logic.{_≢_}
 use mathlib.Core.List.{List}
 use Prim.Native.Nat.{ℕ, _+_, _*_, _-_, _<_, _≤_}
 use native.Mathlib.Omega.{arith}
-use lib.ListN.{getD, length}
-use Rattle.tables.specs.State.{Tables, free-locks, denied, blocked, notices, queue, Chain, free-resources, of-locks, chain-of}
-use Rattle.tables.specs.Layout.{Address, place, size, head, link, cell, words, resources-in, locks-in, most}
+use lib.ListN.{length}
+use Rattle.tables.specs.State.{Tables, free-locks, denied, blocked, notices, queue, Chain, free-resources, of-locks, chain-of, most-resources, most-locks}
+use Rattle.tables.specs.Layout.{Address, place, head, link, cell, words, resources-in, locks-in, most}
 use Rattle.tables.specs.Threads.{Absent}
 use Rattle.tables.proofs.Links.{each-on}
 use Rattle.tables.specs.Threads.{Within}
@@ -16,10 +16,11 @@ use Rattle.tables.specs.Threads.{Stands, Threaded}
 use Rattle.tables.proofs.WordChanges.{length-words}
 use Rattle.tables.specs.Stores.{Safe}
 use Rattle.tables.proofs.ChainWalk.{walk-safe}
-use Rattle.tables.proofs.ReadBack.{resources-word, locks-word, chain-most}
+use Rattle.tables.proofs.ReadBack.{resources-word, chain-most}
 use Rattle.tables.specs.Stores.{cell-place}
 use Rattle.tables.proofs.WordSteps.{cells-are}
 use Rattle.table_fields.specs.Sizes.{Sized, Kept}
+use Rattle.table_fields.proofs.StateWords.{resources-is, locks-is}
 use Rattle.table_chains.specs.declared.Cells.{Cells}
 use Rattle.table_chains.specs.Cells.{cell-of, cells-at, lock-cells, Walks, Leaves, Pushes}
 use Rattle.table_chains.proofs.CellWalks.{cell-positive}
@@ -76,23 +77,9 @@ module _ (c : Chain) (ws : List ℕ) (cs : Cells) (e : cs ≡ cells-at c ws) whe
 
 -- the words of a state
 module _ (t : Tables) (ws : List ℕ) (is : ws ≡ words t) where
-  pub resources-is : resources-in ws ≡ length (t .resources)
-  resources-is = ap (λ (x : List ℕ). getD x 0 0) is ∙ resources-word t
-
-  pub locks-is : locks-in ws ≡ length (t .locks)
-  locks-is = ap (λ (x : List ℕ). getD x 1 0) is ∙ locks-word t
-
-  pub sized-is : length (t .resources) ≤ 256 → length (t .locks) ≤ 1024 → Sized ws
-  sized-is p q =
-      record {
-        long = ap length is ∙ length-words t ∙ ap₂ size (sym resources-is) (sym locks-is);
-        few-resources = omega (arith, resources-is);
-        few-locks = omega (arith, locks-is);
-      }
-
   -- an address of the state, by what the words say
   pub within-words : (a : Address) → In t a → Within (resources-in ws) (locks-in ws) a
-  within-words a h = rw (resources-is, locks-is) h
+  within-words a h = rw (resources-is t ws is, locks-is t ws is) h
 
   inside : (a : Address) → In t a → place (resources-in ws) a < length ws
   inside a h = rw (is, length-words t) (rw (resources-word t) (place-size (length (t .resources)) (length (t .locks)) a h))
@@ -100,8 +87,8 @@ module _ (t : Tables) (ws : List ℕ) (is : ws ≡ words t) where
   module _ (c : Chain) (h : Threaded t c) (cs : Cells) (e : cs ≡ cells-at c ws) (sized : Sized ws) where
     walk-at : (k : ℕ) → (k ≢ 0 → Absent k (chain-of c t) → ⊥) → Safe ws (cell-of cs) k (cs .most) (cs .head)
     walk-at k o =
-        let bound : length (chain-of c t) ≤ cs .most = omega (arith, chain-most t c h, most-now c ws cs e ∙ ap₂ (λ (r l : ℕ). most r l c) resources-is locks-is) in
-        let cells : cell-of cs ≡ cell-place (length (t .resources)) c = cells-now c ws cs e ∙ ap (λ (r : ℕ). cell-place r c) resources-is in
+        let bound : length (chain-of c t) ≤ cs .most = omega (arith, chain-most t c h, most-now c ws cs e ∙ ap₂ (λ (r l : ℕ). most r l c) (resources-is t ws is) (locks-is t ws is)) in
+        let cells : cell-of cs ≡ cell-place (length (t .resources)) c = cells-now c ws cs e ∙ ap (λ (r : ℕ). cell-place r c) (resources-is t ws is) in
         subst (λ (x : List ℕ). Safe x (cell-of cs) k (cs .most) (cs .head)) (sym is)
         (subst (λ (f : ℕ → ℕ). Safe (words t) f k (cs .most) (f 0)) (sym cells) (walk-safe t c h k (cs .most) bound o))
 

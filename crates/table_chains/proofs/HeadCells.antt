@@ -11,12 +11,12 @@ use Rattle.table_chains.specs.declared.Cells.{Cells}
 use Rattle.table_chains.specs.Cells.{cells-at, lock-cells, Housed}
 
 pub lock-cells-are : (ws : List ℕ) (hd f x n y : ℕ) → x ≡ header-width + resource-width * resources-in ws + lock-width * (1 - 1) → n ≡ locks-in ws → (y ≡ n) × (y < 2 ^ 32)
-    → record { head = hd; first = x + f; width = 9; most = y } ≡ lock-cells hd f ws
+    → record { head = hd; first = x + f; width = lock-width; most = y } ≡ lock-cells hd f ws
 unfolding lock-cells
 lock-cells-are ws hd f x n y ex en ey = rw (ex, ey .0, en)
 
 pub resource-cells-are : (ws : List ℕ) (x n y : ℕ) → x ≡ header-width + resource-width * (1 - 1) → n ≡ resources-in ws → (y ≡ n) × (y < 2 ^ 32)
-    → record { head = 2; first = x + 0; width = 8; most = y } ≡ cells-at free-resources ws
+    → record { head = 2; first = x + 0; width = resource-width; most = y } ≡ cells-at free-resources ws
 unfolding cells-at
 resource-cells-are ws x n y ex en ey = rw (ex, ey .0, en)
 

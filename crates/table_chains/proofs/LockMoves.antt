@@ -25,10 +25,11 @@ use Rattle.tables.proofs.MoveSteps.{unblock, notify, sane-own, lifted-words, se
 use Rattle.tables.proofs.Wholeness.{present-home, core-whole}
 use Rattle.tables.proofs.MovedWords.{move-is-steps}
 use Rattle.table_fields.specs.Sizes.{Sized, Kept}
+use Rattle.table_fields.proofs.StateWords.{resources-is, locks-is, core-sized}
 use Rattle.table_chains.specs.declared.Cells.{Cells}
 use Rattle.table_chains.specs.Cells.{cell-of, cells-at, lock-cells, side-cells, Leaves, Shifts, Arrives, Housed}
 use Rattle.table_chains.specs.Contracts.{Movable, Moving, Moved, Sided, Homing}
-use Rattle.table_chains.proofs.ChainCells.{kept-trans, blocked-cells, notice-cells, by-cells, resources-is, locks-is, sized-is, within-words, chain-joins, chain-leaves, chain-pushes}
+use Rattle.table_chains.proofs.ChainCells.{kept-trans, blocked-cells, notice-cells, by-cells, within-words, chain-joins, chain-leaves, chain-pushes}
 
 -- SIDES. The words after the first of the two chains, at any state
 module _ (k : ℕ) (o m : Lock) (a : List ℕ) (t : Tables) (whole : Whole (length (t .resources)) (length (t .locks)) t) (low : 1 ≤ k) (high : k ≤ length (t .locks))
@@ -173,7 +174,7 @@ module _ (r k : ℕ) (m : Lock) (t : Tables) (p : Movable r k m t) where
 
 module _ (k : ℕ) (m : Lock) (a : List ℕ) (s : Moving k m a) where
   pub moving-sized : Sized a
-  moving-sized = sized-is (s .state) a (s .is) (s .good .core .resources-high) (s .good .core .locks-high)
+  moving-sized = core-sized (s .state) a (s .is) (s .good .core)
 
   pub moving-low : 1 ≤ k
   moving-low = move-low (s .resource) k m (s .state) (s .good)

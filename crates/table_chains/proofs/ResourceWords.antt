@@ -22,10 +22,11 @@ use Rattle.tables.proofs.ResourceMoved.{set-resource-cells, relinked, relinked-
 use Rattle.table_fields.specs.Sizes.{Sized, Kept}
 use Rattle.table_fields.specs.declared.ResourceFields.{ResourceFields}
 use Rattle.table_fields.specs.Records.{read-fields, with-fields}
+use Rattle.table_fields.proofs.StateWords.{resources-is, core-sized}
 use Rattle.table_chains.specs.declared.Cells.{Cells}
 use Rattle.table_chains.specs.Cells.{cell-of, cells-at, Fronts}
 use Rattle.table_chains.specs.Contracts.{Some, Resourced, Refilled, ResourceMoved}
-use Rattle.table_chains.proofs.ChainCells.{kept-trans, by-cells, resources-is, sized-is, chain-leaves, chain-pushes}
+use Rattle.table_chains.proofs.ChainCells.{kept-trans, by-cells, chain-leaves, chain-pushes}
 
 null-length : (xs : List ℕ) → eqb (length xs) 0 ≡ null xs
 null-length [] = refl
@@ -48,7 +49,7 @@ module _ (r : ℕ) (t : Tables) (p : Resourced r t) where
 
 module _ (r : ℕ) (a : List ℕ) (s : Some (Resourced r) a) where
   pub resource-sized : Sized a
-  resource-sized = sized-is (s .state) a (s .is) (s .good .core .resources-high) (s .good .core .locks-high)
+  resource-sized = core-sized (s .state) a (s .is) (s .good .core)
 
   pub resource-first : 1 ≤ r
   resource-first = resource-low r (s .state) (s .good)

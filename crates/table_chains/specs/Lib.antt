@@ -1,2 +1,4 @@
 pub mod Cells
 pub mod Contracts
+pub mod Walking
+pub mod Marks

@@ -3,7 +3,7 @@
 use tables::Lock;
 ghost use mathlib.Core.Path.{_≡_};
 ghost use Prim.Native.Nat.{_+_, _*_, _-_, _<_, _≤_, _^_};
-ghost use Rattle.tables.specs.State.{«blocked-lock», noticed};
+ghost use Rattle.tables.specs.State.{«new-lock», «blocked-lock», noticed};
 ghost use Rattle.tables.specs.Layout.{«header-width», «resource-width», «lock-width», «of-header», «of-resource», «of-lock»};
 ghost use Rattle.tables.specs.Layout.{«resources-in», «locks-in», «word-in», «read-lock»};
 ghost use Rattle.tables.specs.Stores.{«set-cells»};
@@ -14,6 +14,11 @@ ghost use Rattle.table_fields.specs.Records.{«read-fields», «with-fie
 pub const MOST_RESOURCES: usize = 256;
 
 pub const MOST_LOCKS: usize = 1024;
+
+// Places for what is kept of each record, at its number; 0 is no record's.
+pub const RESOURCE_PLACES: usize = MOST_RESOURCES + 1;
+
+pub const LOCK_PLACES: usize = MOST_LOCKS + 1;
 
 // Rows.
 pub const HEADER_WORDS: usize = 8;
@@ -101,6 +106,16 @@ pub const COMPLETION_CONVERSION_DENIED: u32 = 3;
 pub const LAST_CLIENT: u32 = 255;
 
 pub const LAST_MODE: u32 = 5;
+
+// A free lock keeps nothing.
+pub const NO_LOCK: Lock = Lock {
+    resource: 0,
+    client: 0,
+    state: STATE_FREE,
+    held: 0,
+    asked: 0,
+    completion: COMPLETION_NONE,
+};
 
 // A resource's record beside its links: how many bytes its name has, and whether its value is valid.
 pub struct ResourceFields {
@@ -229,6 +244,19 @@ pub fn put_resource(words: &mut [u32], r: u32, x: ResourceFields)
     let start = resource_start(words, r);
     words[start + RESOURCE_NAME_LENGTH] = x.bytes;
     words[start + RESOURCE_VALID] = x.valid;
+}
+
+// A new lock, of the client on the resource.
+pub fn new_lock(resource: u32, client: u32, state: u32, held: u32, asked: u32) -> Lock
+    ensures { λ l. ⌜ l ≡ new-lock resource client state held asked ⌝ }
+{
+    let mut l = NO_LOCK;
+    l.resource = resource;
+    l.client = client;
+    l.state = state;
+    l.held = held;
+    l.asked = asked;
+    l
 }
 
 // What a lock's record says of it.

@@ -7,6 +7,7 @@ use native.Mathlib.Omega.{arith}
 use native.Mathlib.Numerals.{add-one}
 use borrow.Author.Needs.{needs}
 use Rattle.tables.specs.Lists.{first-that, from}
+use Rattle.tables.proofs.Counts.{first-here, first-later}
 
 -- the numbers from a up to b
 unfoldable pub upto : ℕ → ℕ → List ℕ
@@ -27,22 +28,14 @@ unfolding upto
 from-first n = let q : n + 1 - 1 ≡ n = omega arith in rw q
 
 -- `while a <= b { if p(a) { return a; } a += 1; } 0`
-first-yes : (p : ℕ → Bool) (j : ℕ) (js : List ℕ) → p j ≡ true → first-that p (j ∷ js) ≡ j
-unfolding first-that
-first-yes p j js e = rw (e, first-that)
-
-first-no : (p : ℕ → Bool) (j : ℕ) (js : List ℕ) → p j ≡ false → first-that p (j ∷ js) ≡ first-that p js
-unfolding first-that
-first-no p j js e = rw (e, first-that)
-
-pub first-here : (p : ℕ → Bool) {a b whole : ℕ} {r : Bool} → whole ≡ first-that p (upto a b) → a ≤ b → r ≡ p a → r ≡ true → a ≡ whole
-first-here p {a} {b} i h e t = sym (i ∙ ap (first-that p) (upto-more h) ∙ first-yes p a (upto (a + 1) b) (sym e ∙ t))
+pub first-found : (p : ℕ → Bool) {a b whole : ℕ} {r : Bool} → whole ≡ first-that p (upto a b) → a ≤ b → r ≡ p a → r ≡ true → a ≡ whole
+first-found p {a} {b} i h e t = sym (i ∙ ap (first-that p) (upto-more h) ∙ first-here p a (upto (a + 1) b) (sym e ∙ t))
 
 pub first-next : (p : ℕ → Bool) {a b whole : ℕ} {r : Bool} → whole ≡ first-that p (upto a b) → a ≤ b → r ≡ p a → r ≡ false → whole ≡ first-that p (upto (a + 1) b)
-first-next p {a} {b} i h e t = i ∙ ap (first-that p) (upto-more h) ∙ first-no p a (upto (a + 1) b) (sym e ∙ t)
+first-next p {a} {b} i h e t = i ∙ ap (first-that p) (upto-more h) ∙ first-later p a (upto (a + 1) b) (sym e ∙ t)
 
 pub first-end : (p : ℕ → Bool) {a b whole : ℕ} → whole ≡ first-that p (upto a b) → b < a → 0 ≡ whole
 unfolding first-that
 first-end p i h = sym (i ∙ rw (upto-none h))
 
-pub ruleset first-loop = (needs, first-here, first-next, first-end)
+pub ruleset first-loop = (needs, first-found, first-next, first-end)

@@ -1,36 +1,28 @@
 -- Names and slots of the written form of a state: what is found, and what the stores leave.
 use mathlib.Core.Path.{_≡_, refl, sym, ap, ap₂, _∙_}
-use mathlib.Core.Bool.{Bool, true, false}
-use mathlib.Core.List.{List, [], _∷_, _++_, append-assoc}
-use Prim.Native.Nat.{ℕ, zero, suc, _+_, _-_, _*_, _≤_, _<_}
+use mathlib.Core.Bool.{true}
+use mathlib.Core.List.{List, [], _++_, append-assoc}
+use Prim.Native.Nat.{ℕ, _+_, _-_, _*_, _≤_}
 use native.Mathlib.Omega.{arith}
 use lib.ListN.{length, take, drop, replicate, length-append, length-replicate}
 use lib.Seq.{take-at}
 use Rattle.tables.specs.Lists.{first-that, from, same, null}
 use Rattle.tables.specs.State.{Resource, Tables, name-width, no-resource, resource, move-resource}
-use Rattle.tables.specs.Layout.{of-resource, slot-width, words, slot, slots, word-in, slot-in, read-resource}
-use Rattle.tables.proofs.Cases.{by-cases, clash}
+use Rattle.tables.specs.Layout.{of-resource, slot-width, words, slot, slots, word-in, slot-in, read-resource, read}
 use Rattle.tables.proofs.Blocks.{length-blocks}
-use Rattle.tables.proofs.WordChanges.{length-words}
-use Rattle.tables.proofs.ReadBack.{resources-word, locks-word, resource-read, slot-read, slot-length, word-read}
+use Rattle.tables.proofs.ReadBack.{resources-word, resource-read, slot-read, slot-length, word-read, tables-read}
 use Rattle.tables.proofs.ThreadedChains.{core-readable}
 use Rattle.tables.proofs.ResourceMoved.{resource-moved-slots}
+use Rattle.tables.proofs.Counts.{first-cong, from-in, null-nil}
+use Rattle.tables.proofs.Written.{valid-readable, for-sound}
 use Rattle.tables.specs.Validity.{Core}
+use Rattle.tables.specs.Sound.{sound}
 use Rattle.rules.specs.Queues.{find}
 use Rattle.rules.specs.Calls.{new-resource}
-use Rattle.table_fields.specs.Sizes.{Sized}
 use Rattle.table_names.specs.Names.{name-in, find-in}
 use Rattle.table_names.specs.Contracts.{Slotted, Named, with-slot, blank}
 use Rattle.table_names.proofs.SlotStores.{blank-slot}
-
--- tests that agree on a run find the same in it
-first-same : (p q : ℕ → Bool) (n a : ℕ) → ((k : ℕ) → a ≤ k → k < a + n → p k ≡ q k) → first-that p (from a n) ≡ first-that q (from a n)
-unfolding first-that
-first-same p q zero a h = refl
-first-same p q (suc n) a h =
-    by-cases (q a)
-    (λ e. let f : p a ≡ true = h a (omega arith) (omega arith) ∙ e in rw (e, f, first-that))
-    (λ e. let f : p a ≡ false = h a (omega arith) (omega arith) ∙ e in rw (e, f, first-that) (first-same p q n (suc a) (λ k u v. h k (omega arith) (omega arith))))
+use Rattle.table_fields.proofs.StateWords.{core-sized}
 
 -- a slot is its resource's name and value
 slot-by : (x y : Resource) → x .name ≡ y .name → x .value ≡ y .value → slot x ≡ slot y
@@ -48,19 +40,11 @@ value-in-slot x y v h e f =
 
 module _ (t : Tables) (core : Core t) where
   -- what names and slots stand on
-  pub core-sized : Sized (words t)
-  core-sized =
-      let r = resources-word t in
-      let l = locks-word t in
-      let m = core .resources-high in
-      let n = core .locks-high in
-      record { long = rw (r, l) (length-words t); few-resources = rw r m; few-locks = rw l n }
-
   pub core-slotted : Slotted (words t) (slots t)
   unfolding slots
   core-slotted =
       record {
-        sized = core-sized;
+        sized = core-sized t (words t) refl core;
         long = rw (resources-word t) (length-blocks slot-width (λ r. slot (resource t r)) (λ r. slot-length (resource t r) (core .resource-ok r .name-length) (core .resource-ok r .value-length)) 1 (length (t .resources)));
       }
 
@@ -83,7 +67,7 @@ module _ (t : Tables) (core : Core t) where
   core-named =
       record {
         slotted = core-slotted;
-        lengths = record { sized = core-sized; short = λ r p q. rw (length-is r p (rw (resources-word t) at q)) (core .resource-ok r .name-length) };
+        lengths = record { sized = core-sized t (words t) refl core; short = λ r p q. rw (length-is r p (rw (resources-word t) at q)) (core .resource-ok r .name-length) };
       }
 
   -- a name is found where the state has it
@@ -91,8 +75,8 @@ module _ (t : Tables) (core : Core t) where
   unfolding find-in find
   find-is n =
       ap (λ (m : ℕ). first-that (λ r. same (name-in (words t) (slots t) r) n) (from 1 m)) (resources-word t)
-      ∙ first-same (λ r. same (name-in (words t) (slots t) r) n) (λ r. same (resource t r .name) n) (length (t .resources)) 1
-      (λ r p q. ap (λ (xs : List ℕ). same xs n) (name-is r p (omega arith)))
+      ∙ first-cong (λ r. same (name-in (words t) (slots t) r) n) (λ r. same (resource t r .name) n) (from 1 (length (t .resources)))
+      (λ r m. let i = from-in (length (t .resources)) r m in ap (λ (xs : List ℕ). same xs n) (name-is r (i .0) (i .1)))
 
   -- what the stores leave is the written form of the state that has the new resource
   module _ (r : ℕ) (low : 1 ≤ r) (high : r ≤ length (t .resources)) where
@@ -103,10 +87,6 @@ module _ (t : Tables) (core : Core t) where
     pub free-slot : null (resource t r .name) ≡ true → slot-in (slots t) r ≡ blank
     free-slot h = slot-is r low high ∙ slot-named (null-nil (resource t r .name) h) ∙ sym blank-slot
       where
-        null-nil : (xs : List ℕ) → null xs ≡ true → xs ≡ []
-        null-nil [] e = refl
-        null-nil (x ∷ xs) e = clash false e refl
-
         slot-named : resource t r .name ≡ [] → slot (resource t r) ≡ slot no-resource
         slot-named e = slot-by (resource t r) no-resource e (core .resource-ok r .unused-value e)
 
@@ -127,3 +107,10 @@ module _ (t : Tables) (core : Core t) where
     -- a freed resource
     pub put-blank : with-slot r blank (slots t) ≡ slots (move-resource r no-resource t)
     put-blank = ap (λ (xs : List ℕ). with-slot r xs (slots t)) blank-slot ∙ put-slot no-resource
+
+-- so of sound words and slots
+pub sound-named : (ws ss : List ℕ) → sound ws ss ≡ true → Named ws ss
+sound-named = for-sound Named (λ t v. core-named t (v .core))
+
+pub sound-find : (n ws ss : List ℕ) → sound ws ss ≡ true → find-in ws ss n ≡ find n (read ws ss)
+sound-find n = for-sound (λ ws ss. find-in ws ss n ≡ find n (read ws ss)) (λ t v. find-is t (v .core) n ∙ ap (find n) (sym (tables-read t (valid-readable t v))))

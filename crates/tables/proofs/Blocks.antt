@@ -5,22 +5,23 @@ use mathlib.Core.List.{List, [], _∷_, _++_, map, append-assoc}
 use Prim.Native.Nat.{ℕ, zero, suc, _+_, _*_, _<_, _≤_}
 use native.Mathlib.Omega.{arith}
 use native.Mathlib.Nat.{mul-zero, mul-suc, add-comm, zero-add, add-zero}
-use lib.ListN.{getD, length, take, drop, List·getD-append, length-append}
+use lib.ListN.{getD, length, take, drop, List·getD-append, length-append, length-map}
 use lib.Seq.{getD-append-add, drop-append-add, take-append-add, drop-append-seam}
 use Rattle.tables.specs.Lists.{from}
 use Rattle.tables.specs.Layout.{flat-map, row, rows}
+use Rattle.tables.proofs.Pigeonhole.{length-from}
 
 pub getD-second : (xs ys : List ℕ) (i n : ℕ) → i ≡ length xs + n → getD (xs ++ ys) i 0 ≡ getD ys n 0
 getD-second xs ys i n e = rw (e, getD-append-add)
 
-pub length-map-from : (g : ℕ → ℕ) (a n : ℕ) → length (map g (from a n)) ≡ n
-length-map-from g a zero = refl
-length-map-from g a (suc n) = ap suc (length-map-from g (suc a) n)
+module _ {A : Type 0} (g : ℕ → A) where
+  pub length-map-from : (a n : ℕ) → length (map g (from a n)) ≡ n
+  length-map-from a n = length-map (from a n) g ∙ length-from a n
 
-pub getD-map-from : (g : ℕ → ℕ) (a n i : ℕ) → i < n → getD (map g (from a n)) i 0 ≡ g (a + i)
-getD-map-from g a zero i p = absurd (omega arith)
-getD-map-from g a (suc n) zero p = rw add-zero
-getD-map-from g a (suc n) (suc i) p = getD-map-from g (suc a) n i (omega arith) ∙ ap g (omega arith)
+  pub getD-map-from : (d : A) (a n i : ℕ) → i < n → getD (map g (from a n)) i d ≡ g (a + i)
+  getD-map-from d a zero i p = absurd (omega arith)
+  getD-map-from d a (suc n) zero p = rw add-zero
+  getD-map-from d a (suc n) (suc i) p = getD-map-from d (suc a) n i (omega arith) ∙ ap g (omega arith)
 
 pub flat-map-same : (f g : ℕ → List ℕ) (a n : ℕ) → ((k : ℕ) → a ≤ k → g k ≡ f k) → flat-map g (from a n) ≡ flat-map f (from a n)
 flat-map-same f g a zero h = refl
@@ -31,7 +32,7 @@ module _ (w : ℕ) where
   length-row g = length-map-from g 0 w
 
   pub getD-row : (g : ℕ → ℕ) (i : ℕ) → i < w → getD (row w g) i 0 ≡ g i
-  getD-row g i p = getD-map-from g 0 w i p ∙ ap g (zero-add i)
+  getD-row g i p = getD-map-from g 0 0 w i p ∙ ap g (zero-add i)
 
   pub length-blocks : (f : ℕ → List ℕ) → ((i : ℕ) → length (f i) ≡ w) → (a n : ℕ) → length (flat-map f (from a n)) ≡ w * n
   length-blocks f h a zero = sym (mul-zero w)

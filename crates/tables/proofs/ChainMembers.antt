@@ -1,28 +1,50 @@
 -- What stands on the chains of a valid state, and what a move leaves alone on other resources.
 use mathlib.Core.Path.{_≡_, refl, sym, ap, _∙_}
 use mathlib.Core.Logic.{_≢_}
-use mathlib.Core.Bool.{Bool, true, false, _&&_, not, and-true}
+use mathlib.Core.Bool.{Bool, true, false, _&&_, _||_, not, and-true}
 use mathlib.Core.List.{List, [], _∷_, _++_}
-use Prim.Native.Nat.{ℕ, suc, _≤_}
+use Prim.Native.Nat.{ℕ, suc, _+_, _≤_}
 use native.Mathlib.Omega.{arith}
 use lib.ListN.{length}
 use lib.Dec.{eqb, leb}
 use borrow.Author.Tests.{eqb-true, eq-eqb, ne-eqb, leb-true, leb-false}
 use Rattle.modes.specs.Modes.{compatible}
 use Rattle.tables.specs.Lists.{within, count, bit, all}
-use Rattle.tables.specs.State.{Lock, Tables, lock, resource, granted, converting, waiting, holds, grants, converts, waits, LockChain, queue, chain, belongs, move}
+use Rattle.tables.specs.State.{Lock, Tables, lock, resource, granted, converting, waiting, blocked-lock, holds, grants, converts, waits, LockChain, queue, chain, belongs, move}
 use Rattle.tables.specs.Grants.{holders, fits, convert-grantable, admits, wait-grantable, grantable-head, no-grantable-head}
 use Rattle.tables.proofs.Cases.{by-cases, by-equal, clash, eqb-same, and-left, and-right, or-left, or-right}
-use Rattle.tables.proofs.Counts.{count-same, count-append, all-at, all-intro, all-cong, by-append}
+use Rattle.tables.proofs.Counts.{count-same, count-append, all-at, all-intro, all-cong, by-append, bit-le, within-le}
 use Rattle.tables.specs.Validity.{used, Place, Linked, Core, line, idle, Settled, Near}
 use Rattle.tables.proofs.Valid.{ok-at, Fits, absent-lock, used-zero, lock-other, resource-other, used-move}
 
 pub state-within : (t : Tables) (j n : ℕ) → lock t j .state ≡ suc n → within (length (t .locks)) j ≡ true
 state-within t j n h = by-cases (within (length (t .locks)) j) (λ w. w) (λ w. absurd (omega (arith, ap (λ (l : Lock). l .state) (absent-lock t j w))))
 
-bit-le : (b : Bool) → bit b ≤ 1
-bit-le true = omega arith
-bit-le false = omega arith
+-- a lock that holds a mode, or is blocked, is one of the locks
+pub holder-within : (t : Tables) (j : ℕ) → holds (lock t j) ≡ true → within (length (t .locks)) j ≡ true
+holder-within t j h =
+    by-cases (granted (lock t j))
+    (λ g. state-within t j 0 (eqb-true (lock t j .state) 1 g))
+    (λ g. state-within t j 1 (eqb-true (lock t j .state) 2 (rw g at h)))
+
+pub blocked-within : (t : Tables) (j : ℕ) → blocked-lock (lock t j) ≡ true → within (length (t .locks)) j ≡ true
+blocked-within t j h =
+    by-cases (converting (lock t j))
+    (λ c. state-within t j 1 (eqb-true (lock t j .state) 2 c))
+    (λ c. state-within t j 2 (eqb-true (lock t j .state) 3 (rw c at h)))
+
+-- a lock of a queue stands on one of the three
+unfoldable pub on-queue : Lock → Bool
+on-queue l = granted l || (converting l || waiting l)
+
+pub three-queues : (l : Lock) (e : Bool) → bit (granted l && e) + bit (converting l && e) + bit (waiting l && e) ≡ bit (on-queue l && e)
+unfolding on-queue
+three-queues l e =
+    by-cases (granted l)
+    (λ g. rw (eqb-true (l .state) 1 g) (omega arith))
+    (λ g. by-cases (converting l)
+    (λ c. rw (eqb-true (l .state) 2 c) (omega arith))
+    (λ c. rw (g, c) (omega arith)))
 
 pub and-bit : (a b : Bool) → 1 ≤ bit (a && b) → (a ≡ true) × (b ≡ true)
 and-bit true true h = (refl, refl)
@@ -71,6 +93,9 @@ module _ (t : Tables) (linked : Linked t) where
       by-append j (resource t r .grant) (resource t r .convert) m
       (λ h. (or-left (granted (lock t j)) (converting (lock t j)) (on-grants r j h .0), on-grants r j h .1))
       (λ h. (or-right (granted (lock t j)) (converting (lock t j)) (on-converts r j h .0), on-converts r j h .1))
+
+  pub holder-range : (r j : ℕ) → 1 ≤ count j (holders t r) → (1 ≤ j) × (j ≤ length (t .locks))
+  holder-range r j m = within-le (length (t .locks)) j (holder-within t j (in-holder r j m .0))
 
   pub fits-true : (r k m : ℕ) → fits t r k m ≡ true → Fits t r k m
   unfolding fits
@@ -152,6 +177,13 @@ module _ (t : Tables) (c : Core t) where
       by-append k (resource t r .convert) (resource t r .wait) m
       (λ h. (rw (eqb-true (lock t k .state) 2 (on-converts t (c .linked) r k h .0)), rw (eqb-true (lock t k .state) 2 (on-converts t (c .linked) r k h .0))))
       (λ h. (rw (eqb-true (lock t k .state) 3 (on-waits t (c .linked) r k h .0)), rw (eqb-true (lock t k .state) 3 (on-waits t (c .linked) r k h .0))))
+
+  pub line-blocked : (r k : ℕ) → 1 ≤ count k (line t r) → blocked-lock (lock t k) ≡ true
+  unfolding line
+  line-blocked r k m =
+      by-append k (resource t r .convert) (resource t r .wait) m
+      (λ h. or-left _ (waiting (lock t k)) (on-converts t (c .linked) r k h .0))
+      (λ h. or-right (converting (lock t k)) _ (on-waits t (c .linked) r k h .0))
 
 -- the wait head's test in the paper's words: a lock that holds nothing there is compared with every held mode
 pub fits-all : (t : Tables) → Linked t → (r k m : ℕ) → holds (lock t k) ≡ false → fits t r k m ≡ all (λ j. compatible (lock t j .held) m) (holders t r)

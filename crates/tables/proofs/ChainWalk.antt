@@ -1,13 +1,11 @@
 -- Following a chain through the words.
 use mathlib.Core.Path.{_≡_, refl, sym, _∙_, ap}
 use mathlib.Core.Logic.{_≢_}
-use mathlib.Core.Bool.{true, false}
 use mathlib.Core.List.{List, [], _∷_}
-use Prim.Native.Nat.{ℕ, zero, suc, _+_, _*_, _<_, _≤_}
+use Prim.Native.Nat.{ℕ, zero, suc, _<_, _≤_}
 use native.Mathlib.Omega.{arith}
 use native.Mathlib.Decide.{ℕ-discrete}
 use lib.ListN.{getD, length}
-use lib.Dec.{eqb}
 use borrow.Author.Tests.{eq-eqb, ne-eqb}
 use Rattle.tables.specs.Lists.{next}
 use Rattle.tables.specs.State.{Tables, Chain, chain-of}
@@ -74,15 +72,16 @@ follow-leads f (suc n) y [] h a p = rw h
 follow-leads f (suc n) y (zero ∷ xs) h a p = absurd (a .0 refl)
 follow-leads f (suc n) y (suc x ∷ xs) h a p = rw (h .0) (ap (λ (ys : List ℕ). suc x ∷ ys) (follow-leads f n (suc x) xs (h .1) (a .1) (omega arith)))
 
+module _ (t : Tables) (c : Chain) where
+  pub cell-word : (j : ℕ) → LinkedAt t c j → getD (words t) (spot t (cell c j)) 0 ≡ next j (0 ∷ chain-of c t)
+  cell-word j l = read-word t (cell c j) (l .inside) ∙ ap (word-value t) (l .says)
+
 module _ (t : Tables) (c : Chain) (h : Threaded t c) where
   pub words-lead : Leads (λ j. getD (words t) (spot t (cell c j)) 0) 0 (chain-of c t)
   words-lead =
       leads-same (λ j. next j (0 ∷ chain-of c t)) _ 0 (chain-of c t)
-      (cell-word 0 (linked-head t c (h .present)), each-map (Stands t c) _ (λ j s. cell-word j (s .1)) (chain-of c t) (h .members))
+      (cell-word t c 0 (linked-head t c (h .present)), each-map (Stands t c) _ (λ j s. cell-word t c j (s .1)) (chain-of c t) (h .members))
       (next-leads 0 (chain-of c t) (no-zero t c h, h .distinct))
-    where
-      cell-word : (j : ℕ) → LinkedAt t c j → getD (words t) (spot t (cell c j)) 0 ≡ next j (0 ∷ chain-of c t)
-      cell-word j l = read-word t (cell c j) (l .inside) ∙ ap (word-value t) (l .says)
 
   -- the walk from the head stays inside the words
   pub walk-safe : (k n : ℕ) → length (chain-of c t) ≤ n → (k ≢ 0 → Absent k (chain-of c t) → ⊥) → Safe (words t) (λ j. spot t (cell c j)) k n (spot t (cell c 0))

@@ -9,13 +9,13 @@ use lib.ListN.{length, take, drop}
 use lib.Seq.{length-take-le}
 use lib.Dec.{eqb}
 use borrow.Author.Tests.{eqb-true, eq-eqb, ne-eqb, leb-true}
-use Rattle.tables.specs.Lists.{within, count, bit, all, from, next, same}
-use Rattle.tables.specs.State.{Resource, Tables, name-width, lock, resource, grants, converts, waits, LockChain, free-locks, denied, blocked, notices, queue, Chain, free-resources, of-locks, chain, chain-of, belongs}
+use Rattle.tables.specs.Lists.{count, bit, all, from, next, same}
+use Rattle.tables.specs.State.{Resource, Tables, name-width, lock, resource, grants, converts, waits, LockChain, free-locks, denied, blocked, notices, queue, Chain, free-resources, of-locks, chain, chain-of, belongs, most-resources, most-locks}
 use Rattle.tables.specs.Layout.{of-header, of-resource, of-lock, size, head, slot-width, resources-in, locks-in, word-in, most, link-in, read-chain, slot-in, read-resource, read}
 use Rattle.tables.specs.Sound.{sizes-right, zeros-right, resource-index, lock-index, indices-right, chain-ends, chains-end, all-zero, free-resource-right, name-unique, used-resource-right, resource-right, stands-right, home-right, fields-right, lock-right, linked-right, holders-compatible, state-right, sound}
 use Rattle.tables.specs.Grants.{no-grantable-head}
 use Rattle.tables.proofs.Cases.{by-cases, by-equal, clash, and-left, and-right, or-left, or-right, parts}
-use Rattle.tables.proofs.Counts.{within-le, le-within, count-from, all-at, all-intro, bit-one, same-eq, same-refl}
+use Rattle.tables.proofs.Counts.{le-within, count-from, all-at, all-intro, same-eq, same-refl, from-in}
 use Rattle.tables.specs.Threads.{Absent, Distinct, Each}
 use Rattle.tables.specs.Threads.{Within}
 use Rattle.tables.proofs.FollowedChains.{Runs, ends-runs, runs-distinct, runs-no-zero, runs-within, runs-next}
@@ -27,7 +27,7 @@ each-at p n h k a b = all-at p (from 1 n) h k (rw (count-from n k, le-within n k
 
 pub each-intro : (p : ℕ → Bool) (n : ℕ) → ((k : ℕ) → 1 ≤ k → k ≤ n → p k ≡ true) → all p (from 1 n) ≡ true
 each-intro p n h =
-    all-intro p (from 1 n) (λ k m. let w = within-le n k (bit-one (within n k) (rw (count-from n k) at m)) in h k (w .0) (w .1))
+    all-intro p (from 1 n) (λ k m. let w = from-in n k m in h k (w .0) (w .1))
 
 -- "a name .. that no other has"
 pub differ-names : (t : Tables) (r : ℕ) → ((s : ℕ) → 1 ≤ s → s ≤ length (t .resources) → s ≢ r → resource t s .name ≢ resource t r .name) → name-unique t r ≡ true
@@ -105,17 +105,17 @@ module _ (ws ss : List ℕ) (h : sound ws ss ≡ true) where
   unfolding sizes-right
   resources-low = let z = sizes in leb-true 1 (resources-in ws) (search parts depth 20)
 
-  pub resources-high : resources-in ws ≤ 256
+  pub resources-high : resources-in ws ≤ most-resources
   unfolding sizes-right
-  resources-high = let z = sizes in leb-true (resources-in ws) 256 (search parts depth 20)
+  resources-high = let z = sizes in leb-true (resources-in ws) most-resources (search parts depth 20)
 
   pub locks-low : 1 ≤ locks-in ws
   unfolding sizes-right
   locks-low = let z = sizes in leb-true 1 (locks-in ws) (search parts depth 20)
 
-  pub locks-high : locks-in ws ≤ 1024
+  pub locks-high : locks-in ws ≤ most-locks
   unfolding sizes-right
-  locks-high = let z = sizes in leb-true (locks-in ws) 1024 (search parts depth 20)
+  locks-high = let z = sizes in leb-true (locks-in ws) most-locks (search parts depth 20)
 
   pub words-sized : length ws ≡ size (resources-in ws) (locks-in ws)
   unfolding sizes-right

@@ -5,11 +5,11 @@ use mathlib.Core.Bool.{Bool, true, false, cond}
 use mathlib.Core.List.{List, [], _∷_, _++_}
 use Prim.Native.Nat.{ℕ, zero, suc, _+_, _≤_, _<_}
 use native.Mathlib.Omega.{arith}
-use lib.ListN.{length, length-set, List·getD-eq-default}
-use lib.Seq.{getD-set-same, getD-set-other}
+use lib.ListN.{length, getD, replicate, length-set, List·getD-eq-default}
+use lib.Seq.{getD-set-same, getD-set-other, set-getD}
 use lib.Dec.{eqb, leb}
 use borrow.Author.Tests.{eqb-true, eq-eqb, ne-eqb, leb-true, leb-false, ltb-true, ltb-false, lt-ltb}
-use Rattle.tables.specs.Lists.{nth, put, within, count, bit, remove, all, any, keep, first-that, from, same}
+use Rattle.tables.specs.Lists.{nth, put, within, count, bit, remove, all, any, keep, first-that, from, null, same}
 use Rattle.tables.specs.State.{shift, shift-front}
 use Rattle.tables.proofs.Cases.{by-cases, by-equal, clash, eqb-same, and-left, and-right, and-intro, or-left, or-right}
 
@@ -39,6 +39,21 @@ module _ {A : Type 0} (d : A) where
   nth-out xs zero h = refl
   nth-out xs (suc k) h = List·getD-eq-default xs d (ltb-false k (length xs) h)
 
+  -- a record that is put where it stands
+  pub put-own : (xs : List A) (k : ℕ) → put xs k (nth xs k d) ≡ xs
+  put-own xs zero = refl
+  put-own xs (suc k) = set-getD xs k d
+
+  -- a list of one record over and over, of which each place has it
+  pub getD-same : (n k : ℕ) → getD (replicate n d) k d ≡ d
+  getD-same zero k = refl
+  getD-same (suc n) zero = refl
+  getD-same (suc n) (suc k) = getD-same n k
+
+  pub nth-same : (n k : ℕ) → nth (replicate n d) k d ≡ d
+  nth-same n zero = refl
+  nth-same n (suc k) = getD-same n k
+
 pub count-same : (k : ℕ) (xs : List ℕ) → count k (k ∷ xs) ≡ suc (count k xs)
 unfolding count
 count-same k xs = rw (eqb-same k)
@@ -46,6 +61,17 @@ count-same k xs = rw (eqb-same k)
 pub count-other : (j k : ℕ) (xs : List ℕ) → j ≢ k → count j (k ∷ xs) ≡ count j xs
 unfolding count
 count-other j k xs h = rw (ne-eqb j k h)
+
+pub count-cons : (j k : ℕ) (xs : List ℕ) → count j (k ∷ xs) ≡ bit (eqb j k) + count j xs
+unfolding count
+count-cons j k xs = by-cases (eqb j k) (λ h. rw h (omega arith)) (λ h. rw h (omega arith))
+
+-- the first of a list is on it, and not behind itself where nothing stands twice
+pub head-in : (xs : List ℕ) (k : ℕ) (ks : List ℕ) → xs ≡ k ∷ ks → 1 ≤ count k xs
+head-in xs k ks e = rw (e, count-same) (omega arith)
+
+pub head-once : (xs : List ℕ) (k : ℕ) (ks : List ℕ) → xs ≡ k ∷ ks → count k xs ≤ 1 → count k ks ≡ 0
+head-once xs k ks e h = omega (arith, rw (e, count-same) at h)
 
 pub count-append : (k : ℕ) (xs ys : List ℕ) → count k (xs ++ ys) ≡ count k xs + count k ys
 unfolding count
@@ -144,6 +170,10 @@ unfolding shift
 shift-off true k xs h = refl
 shift-off false k xs h = sym (remove-absent k xs h)
 
+pub bit-le : (b : Bool) → bit b ≤ 1
+bit-le true = omega arith
+bit-le false = omega arith
+
 pub bit-one : (b : Bool) → 1 ≤ bit b → b ≡ true
 bit-one true h = refl
 bit-one false h = absurd (omega arith)
@@ -186,6 +216,21 @@ count-from n s =
     outside zero h = from-below 1 n 0 (omega arith)
     outside (suc s) h = from-above 1 n (suc s) (omega (arith, ltb-false s n h))
 
+pub from-in : (n s : ℕ) → 1 ≤ count s (from 1 n) → (1 ≤ s) × (s ≤ n)
+from-in n s m = within-le n s (bit-one (within n s) (rw (count-from n s) at m))
+
+pub null-nil : (xs : List ℕ) → null xs ≡ true → xs ≡ []
+null-nil [] h = refl
+null-nil (x ∷ xs) h = clash true refl (sym h)
+
+pub null-length : (xs : List ℕ) → null xs ≡ eqb (length xs) 0
+null-length [] = refl
+null-length (x ∷ xs) = sym (ne-eqb (suc (length xs)) 0 (omega arith))
+
+pub null-some : (xs : List ℕ) → null xs ≡ false → 1 ≤ length xs
+null-some [] h = clash true refl h
+null-some (x ∷ xs) h = omega arith
+
 pub nil-of-counts : (xs : List ℕ) → ((j : ℕ) → count j xs ≡ 0) → xs ≡ []
 nil-of-counts [] h = refl
 nil-of-counts (x ∷ xs) h = absurd (omega (arith, count-same x xs, h x))
@@ -214,6 +259,21 @@ count-keep p s (x ∷ xs) =
     (λ n. rw (count-other s x xs n) (by-cases (p x)
     (λ h. rw (h, count-other s x (keep p xs) n) (count-keep p s xs))
     (λ h. rw h (count-keep p s xs))))
+
+pub keep-cong : (p q : ℕ → Bool) (xs : List ℕ) → ((j : ℕ) → 1 ≤ count j xs → p j ≡ q j) → keep p xs ≡ keep q xs
+unfolding keep
+keep-cong p q [] h = refl
+keep-cong p q (x ∷ xs) h =
+    rw (h x (rw count-same (omega arith)), keep-cong p q xs (λ j m. h j (omega (arith, count-step j x xs))))
+
+-- a test that holds of some member holds of one
+pub any-has : (p : ℕ → Bool) (xs : List ℕ) → any p xs ≡ true → (j : ℕ) × (1 ≤ count j xs) × (p j ≡ true)
+unfolding any
+any-has p [] h = clash false h refl
+any-has p (x ∷ xs) h =
+    by-cases (p x)
+    (λ t. (x, omega (arith, count-same x xs), t))
+    (λ f. let w = any-has p xs (rw f at h) in (w .0, omega (arith, w .1, count-step (w .0) x xs), w .2))
 
 pub any-intro : (p : ℕ → Bool) (xs : List ℕ) (j : ℕ) → 1 ≤ count j xs → p j ≡ true → any p xs ≡ true
 unfolding any
@@ -263,3 +323,21 @@ first-none p (x ∷ xs) e z j m =
     (λ h. by-equal j x
     (λ d. rw d h)
     (λ d. first-none p xs (rw (h, first-that) at e) (omega (arith, count-step 0 x xs)) j (rw (count-other j x xs d) at m)))
+
+-- the first of a list: it passes, or the search goes on behind it; two tests that agree on the list find the same
+module _ (p : ℕ → Bool) (j : ℕ) (js : List ℕ) where
+  pub first-here : p j ≡ true → first-that p (j ∷ js) ≡ j
+  unfolding first-that
+  first-here h = rw (h, first-that)
+
+  pub first-later : p j ≡ false → first-that p (j ∷ js) ≡ first-that p js
+  unfolding first-that
+  first-later h = rw (h, first-that)
+
+pub first-cong : (p q : ℕ → Bool) (xs : List ℕ) → ((j : ℕ) → 1 ≤ count j xs → p j ≡ q j) → first-that p xs ≡ first-that q xs
+first-cong p q [] h = unfold first-that in refl
+first-cong p q (x ∷ xs) h =
+    let e : p x ≡ q x = h x (rw count-same (omega arith)) in
+    by-cases (q x)
+    (λ y. first-here p x xs (e ∙ y) ∙ sym (first-here q x xs y))
+    (λ y. first-later p x xs (e ∙ y) ∙ first-cong p q xs (λ j m. h j (omega (arith, count-step j x xs))) ∙ sym (first-later q x xs y))

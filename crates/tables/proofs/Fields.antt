@@ -6,20 +6,21 @@ use Prim.Native.Nat.{ℕ, zero, suc, _≤_}
 use native.Mathlib.Omega.{arith}
 use lib.Dec.{eqb}
 use borrow.Author.Tests.{eqb-true, eq-eqb, ne-eqb, leb-true, le-leb}
-use Rattle.tables.specs.State.{Lock, Tables}
+use Rattle.tables.specs.State.{Lock, Tables, last-client, last-mode}
 use Rattle.tables.specs.Sound.{client-right, modes-right, on-resource, fields-right}
 use Rattle.tables.proofs.Cases.{by-equal, clash, and-intro, or-left, or-right, parts}
-use Rattle.tables.specs.Validity.{used, Place, StateOk}
+use Rattle.tables.specs.Validity.{used, Place}
+use Rattle.tables.proofs.StateCases.{StateOk}
 
 on-used : (t : Tables) (l : Lock) → on-resource t l ≡ used t (l .resource)
 unfolding on-resource used
 on-used t l = refl
 
-client-is : (c : ℕ) → client-right c ≡ true → (1 ≤ c) × (c ≤ 255)
+pub client-is : (c : ℕ) → client-right c ≡ true → (1 ≤ c) × (c ≤ last-client)
 unfolding client-right
-client-is c h = (leb-true 1 c (search parts), leb-true c 255 (search parts))
+client-is c h = (leb-true 1 c (search parts), leb-true c last-client (search parts))
 
-is-client : (c : ℕ) → 1 ≤ c → c ≤ 255 → client-right c ≡ true
+is-client : (c : ℕ) → 1 ≤ c → c ≤ last-client → client-right c ≡ true
 unfolding client-right
 is-client c p q = search (and-intro, le-leb)
 
@@ -30,8 +31,8 @@ place-is t l r c m =
       in-use = rw (on-used t l) at r;
       client-low = client-is (l .client) c .0;
       client-high = client-is (l .client) c .1;
-      held-mode = leb-true (l .held) 5 (search parts);
-      asked-mode = leb-true (l .asked) 5 (search parts);
+      held-mode = leb-true (l .held) last-mode (search parts);
+      asked-mode = leb-true (l .asked) last-mode (search parts);
     }
 
 module _ (t : Tables) (l : Lock) (p : Place (used t) l) where

@@ -3,10 +3,12 @@ use mathlib.Core.Path.{_≡_, refl, sym, _∙_, ap}
 use mathlib.Core.Logic.{_≢_}
 use mathlib.Core.Bool.{true, false}
 use mathlib.Core.List.{List, [], _∷_}
-use Prim.Native.Nat.{ℕ, zero, suc, _<_, _≤_}
+use Prim.Native.Nat.{ℕ, zero, suc, _-_, _<_, _≤_}
 use native.Mathlib.Omega.{arith}
 use lib.ListN.{length}
-use Rattle.tables.specs.Lists.{count, next}
+use lib.Dec.{eqb}
+use borrow.Author.Tests.{ne-eqb}
+use Rattle.tables.specs.Lists.{count, null, next}
 use Rattle.tables.specs.Layout.{follow}
 use Rattle.tables.specs.Sound.{ends}
 use Rattle.tables.proofs.Cases.{by-equal, clash}
@@ -19,10 +21,82 @@ abbrev pub Runs : (ℕ → ℕ) → ℕ → List ℕ → Type 0
 Runs f a [] = a ≡ 0
 Runs f a (x ∷ xs) = (a ≡ x) × (x ≢ 0) × Runs f (f x) xs
 
-ends-zero : (f : ℕ → ℕ) (n : ℕ) → ends f n 0 ≡ true
-unfolding ends
-ends-zero f zero = refl
-ends-zero f (suc n) = refl
+-- THE END, and a step where n steps may be taken
+module _ (f : ℕ → ℕ) where
+  pub ends-zero : (n : ℕ) → ends f n 0 ≡ true
+  unfolding ends
+  ends-zero zero = refl
+  ends-zero (suc n) = refl
+
+  pub follow-zero : (n : ℕ) → follow f n 0 ≡ []
+  unfolding follow
+  follow-zero zero = refl
+  follow-zero (suc n) = refl
+
+  pub ends-step : (n k : ℕ) → 1 ≤ n → ends f n (suc k) ≡ ends f (n - 1) (f (suc k))
+  unfolding ends
+  ends-step zero k h = absurd (omega arith)
+  ends-step (suc n) k h = let e : suc n - 1 ≡ n = omega arith in rw e
+
+  pub follow-step : (n k : ℕ) → 1 ≤ n → follow f n (suc k) ≡ suc k ∷ follow f (n - 1) (f (suc k))
+  unfolding follow
+  follow-step zero k h = absurd (omega arith)
+  follow-step (suc n) k h = let e : suc n - 1 ≡ n = omega arith in rw e
+
+  -- A TURN of a chain that ends: one step more than it takes changes nothing
+  more-ends : (n k : ℕ) → ends f n k ≡ true → ends f (suc n) k ≡ true
+  unfolding ends
+  more-ends zero zero h = refl
+  more-ends zero (suc k) h = clash false h refl
+  more-ends (suc n) zero h = refl
+  more-ends (suc n) (suc k) h = more-ends n (f (suc k)) h
+
+  more-follow : (n k : ℕ) → ends f n k ≡ true → follow f (suc n) k ≡ follow f n k
+  unfolding ends follow
+  more-follow zero zero h = refl
+  more-follow zero (suc k) h = clash false h refl
+  more-follow (suc n) zero h = refl
+  more-follow (suc n) (suc k) h = ap (λ (xs : List ℕ). suc k ∷ xs) (more-follow n (f (suc k)) h)
+
+  pub ends-turn : (n k : ℕ) → k ≢ 0 → ends f n k ≡ true → ends f n (f k) ≡ true
+  unfolding ends
+  ends-turn n zero m h = absurd (m refl)
+  ends-turn zero (suc k) m h = clash false h refl
+  ends-turn (suc n) (suc k) m h = more-ends n (f (suc k)) h
+
+  pub follow-turn : (n k : ℕ) → k ≢ 0 → ends f n k ≡ true → follow f n k ≡ k ∷ follow f n (f k)
+  unfolding ends follow
+  follow-turn n zero m h = absurd (m refl)
+  follow-turn zero (suc k) m h = clash false h refl
+  follow-turn (suc n) (suc k) m h = ap (λ (xs : List ℕ). suc k ∷ xs) (sym (more-follow n (f (suc k)) h))
+
+  -- it has at most as many numbers as steps, and none exactly if its first is 0
+  pub follow-short : (n k : ℕ) → length (follow f n k) ≤ n
+  unfolding follow
+  follow-short zero k = omega arith
+  follow-short (suc n) zero = omega arith
+  follow-short (suc n) (suc k) = omega (arith, follow-short n (f (suc k)))
+
+  pub follow-null : (n k : ℕ) → 1 ≤ n → null (follow f n k) ≡ eqb k 0
+  unfolding follow
+  follow-null zero k h = absurd (omega arith)
+  follow-null (suc n) zero h = refl
+  follow-null (suc n) (suc k) h = sym (ne-eqb (suc k) 0 (omega arith))
+
+-- it goes by the links of records alone
+module _ (f g : ℕ → ℕ) (same : (k : ℕ) → f (suc k) ≡ g (suc k)) where
+  pub ends-agree : (n k : ℕ) → ends f n k ≡ ends g n k
+  unfolding ends
+  ends-agree zero zero = refl
+  ends-agree zero (suc k) = refl
+  ends-agree (suc n) zero = refl
+  ends-agree (suc n) (suc k) = rw (same k) (ends-agree n (g (suc k)))
+
+  pub follow-agree : (n k : ℕ) → follow f n k ≡ follow g n k
+  unfolding follow
+  follow-agree zero k = refl
+  follow-agree (suc n) zero = refl
+  follow-agree (suc n) (suc k) = rw (same k) (ap (λ (xs : List ℕ). suc k ∷ xs) (follow-agree n (g (suc k))))
 
 -- what is followed, if it ends; and it ends
 pub ends-runs : (f : ℕ → ℕ) (n a : ℕ) → ends f n a ≡ true → Runs f a (follow f n a)

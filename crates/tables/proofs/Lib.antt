@@ -1,5 +1,6 @@
 pub mod Cases
 pub mod Counts
+pub mod Pigeonhole
 pub mod Blocks
 pub mod Numbered
 pub mod Links
@@ -13,6 +14,7 @@ pub mod Frame
 pub mod WordSteps
 pub mod HomeChange
 pub mod MoveSteps
+pub mod StateCases
 pub mod Valid
 pub mod ChainMembers
 pub mod ThreadedChains
@@ -26,4 +28,3 @@ pub mod Fields
 pub mod Soundness
 pub mod Written
 pub mod PaperWords
-pub mod Pigeonhole

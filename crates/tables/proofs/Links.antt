@@ -12,6 +12,7 @@ use borrow.Author.Tests.{eq-eqb, ne-eqb}
 use Rattle.tables.specs.Lists.{count, remove, first, next}
 use Rattle.tables.proofs.Cases.{by-equal}
 use Rattle.tables.proofs.Counts.{count-nil, count-same, count-other, count-step, count-remove, count-remove-other, remove-absent}
+use Rattle.tables.proofs.Pigeonhole.{length-remove}
 use Rattle.tables.specs.Threads.{Absent, Distinct, Each}
 
 -- what stands before k, where j stands before the list; what stands last, if k is not on it
@@ -44,6 +45,16 @@ distinct-count k (x ∷ xs) d =
     by-equal k x
     (λ e. rw (e, count-same x xs, absent-count x xs (d .0)) (omega arith))
     (λ n. rw (count-other k x xs n) (distinct-count k xs (d .1)))
+
+-- the first of two lists in a row
+pub first-of : (xs ys : List ℕ) → (first xs ≡ 0 → ⊥) → first (xs ++ ys) ≡ first xs
+first-of [] ys n = absurd (n refl)
+first-of (x ∷ xs) ys n = refl
+
+pub first-after : (xs ys : List ℕ) → count 0 xs ≡ 0 → first xs ≡ 0 → first (xs ++ ys) ≡ first ys
+first-after [] ys z e = refl
+first-after (zero ∷ xs) ys z e = absurd (omega (arith, count-same 0 xs))
+first-after (suc x ∷ xs) ys z e = absurd (omega arith)
 
 -- it is on the list
 pub counted-on : (k : ℕ) (xs : List ℕ) → 1 ≤ count k xs → Absent k xs → ⊥
@@ -188,21 +199,14 @@ each-remove P Q k h (x ∷ xs) e =
       | no n ↦ rw (remove-past k x xs) (h x (omega arith) (e .0), each-remove P Q k h xs (e .1))
     ]
 
-length-remove : (k : ℕ) (xs : List ℕ) → Distinct xs → length xs ≤ suc (length (remove k xs))
-length-remove k [] d = omega arith
-length-remove k (x ∷ xs) d =
-    elim (ℕ-discrete k x) [
-      | yes e ↦ rw (remove-here k x xs, without k xs (rw e (d .0))) (omega arith)
-      | no n ↦ rw (remove-past k x xs) (omega (arith, length-remove k xs (d .1)))
-    ]
-
 pub few : (n : ℕ) (xs : List ℕ) → Distinct xs → Each (λ k. (1 ≤ k) × (k ≤ n)) xs → length xs ≤ n
 few zero [] d e = omega arith
 few zero (x ∷ xs) d e = absurd (omega arith)
 few (suc n) xs d e =
     omega (
       arith,
-      length-remove (suc n) xs d,
+      length-remove (suc n) xs,
+      distinct-count (suc n) xs d,
       few n (remove (suc n) xs) (distinct-remove (suc n) xs d) (each-remove _ (λ k. (1 ≤ k) × (k ≤ n)) (suc n) (λ j m p. (p .0, omega arith)) xs e),
     )
 

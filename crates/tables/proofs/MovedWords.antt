@@ -20,7 +20,8 @@ use Rattle.tables.proofs.Frame.{Homed, homed}
 use Rattle.tables.specs.Stores.{stays}
 use Rattle.tables.specs.Threads.{Whole}
 use Rattle.tables.proofs.MoveSteps.{stays-home, move-steps, move-cells, move-words, sane-move, locks-move, blocked-move, notices-move, move-removes, move-keeps, move-pushes, move-joins, free-resources-move, rest-move}
-use Rattle.tables.specs.Validity.{used, StateOk, LockOk, Core, Near}
+use Rattle.tables.specs.Validity.{used, LockOk, Core, Near}
+use Rattle.tables.proofs.StateCases.{StateOk, ok-numbered}
 use Rattle.tables.proofs.Valid.{enter, ok-at, resources-length, field-move, chain-move}
 use Rattle.tables.proofs.ThreadedChains.{belongs-home}
 use Rattle.tables.proofs.Wholeness.{home-belongs, present-home, stands-count, core-whole}
@@ -66,7 +67,7 @@ enter-end (suc (suc (suc (suc s)))) r b d k xs e f z = rw (home-past (suc (suc (
 -- a lock whose home stays keeps its state and its resource
 home-stays : (u : ℕ → Bool) (l m : Lock) → LockOk u l → LockOk u m → home l ≡ home m → stays l m ≡ true
 unfolding stays
-home-stays u l m old new h = go (l .state) refl old (ap (λ (c : LockChain). belongs c m) h ∙ home-belongs u m new)
+home-stays u l m old new h = go (l .state) refl (ok-numbered old) (ap (λ (c : LockChain). belongs c m) h ∙ home-belongs u m new)
   where
     both : l .state ≡ m .state → l .resource ≡ m .resource → stays l m ≡ true
     both e f = and-intro _ _ (eq-eqb (l .state) (m .state) e) (eq-eqb (l .resource) (m .resource) f)

@@ -5,8 +5,8 @@ use mathlib.Core.List.{List, [], _∷_}
 use Prim.Native.Nat.{ℕ, zero, suc, _≤_}
 use lib.ListN.{length}
 use Rattle.tables.specs.Lists.{nth, put}
-use Rattle.tables.specs.State.{Lock, Resource, Tables, no-lock, no-resource, lock, resource, Queue, queue-of, free-locks, denied, blocked, notices, queue, Chain, free-resources, of-locks, chain-of}
-use Rattle.tables.proofs.Counts.{le-within, length-put, nth-put-same, nth-put-other}
+use Rattle.tables.specs.State.{Lock, Resource, Tables, no-lock, no-resource, lock, resource, started, Queue, queue-of, free-locks, denied, blocked, notices, queue, Chain, free-resources, of-locks, chain-of}
+use Rattle.tables.proofs.Counts.{le-within, length-put, nth-put-same, nth-put-other, nth-same}
 
 module _ {A : Type 0} (d : A) where
   pub nth-put-here : (xs : List A) (k : ℕ) (a : A) → 1 ≤ k → k ≤ length xs → nth (put xs k a) k d ≡ a
@@ -102,6 +102,16 @@ module _ (t : Tables) (r : ℕ) (x : Resource) where
   chains-put-resource kept (of-locks blocked) = refl
   chains-put-resource kept (of-locks notices) = refl
   chains-put-resource kept (of-locks (queue s q)) = resource-put-blind (queue-of q) (kept q) s
+
+-- of started tables every record is free
+module _ (r l : ℕ) where
+  pub started-lock : (k : ℕ) → lock (started r l) k ≡ no-lock
+  unfolding lock started
+  started-lock k = nth-same no-lock l k
+
+  pub started-resource : (s : ℕ) → resource (started r l) s ≡ no-resource
+  unfolding resource started
+  started-resource s = nth-same no-resource r s
 
 -- tables with the same locks
 pub lock-by-locks : (t u : Tables) (k : ℕ) → t .locks ≡ u .locks → lock t k ≡ lock u k

@@ -10,15 +10,16 @@ use lib.Dec.{eqb}
 use borrow.Author.Tests.{eqb-true, eq-eqb, ne-eqb, leb-true, le-leb, not-true}
 use Rattle.tables.specs.Lists.{within, count, bit, from, null}
 use Rattle.tables.specs.State.{Lock, Tables, name-width, no-lock, lock, resource, blocked-lock, noticed, Queue, grants, converts, waits, LockChain, free-locks, denied, blocked, notices, queue, Chain, free-resources, of-locks, chain, home-at, home, belongs}
-use Rattle.tables.specs.Layout.{resource-width, lock-width, of-resource, of-lock, head, resources-in, locks-in, word-in, follow, most, link-in, read-chain, read-lock, slot-in, read}
+use Rattle.tables.specs.Layout.{resource-width, lock-width, of-resource, of-lock, head, resources-in, locks-in, word-in, most, link-in, read-chain, read-lock, slot-in, read}
 use Rattle.tables.specs.Grants.{empty}
 use Rattle.tables.specs.Sound.{indices-right, ends, chain-ends, all-zero, free-resource-right, used-resource-right, resource-right, stands-right, home-right, lock-right, sound}
 use Rattle.tables.proofs.Cases.{by-cases, by-equal, clash, eqb-same, parts}
-use Rattle.tables.proofs.Counts.{within-le, le-within, count-same, count-other, count-nil, count-step, count-from, bit-one}
-use Rattle.tables.specs.Validity.{used, StateOk, LockOk}
+use Rattle.tables.proofs.Counts.{within-le, le-within, count-same, count-other, count-nil, count-step, count-from, from-in}
+use Rattle.tables.specs.Validity.{used}
+use Rattle.tables.proofs.StateCases.{StateOk}
 use Rattle.tables.proofs.Valid.{ok-at, absent, used-within}
 use Rattle.tables.specs.Threads.{Within}
-use Rattle.tables.proofs.FollowedChains.{chain-ends-any}
+use Rattle.tables.proofs.FollowedChains.{follow-null, chain-ends-any}
 use Rattle.tables.proofs.ReadState.{resources-read, locks-read, lock-of, chain-followed}
 use Rattle.tables.proofs.Conditions.{each-at, each-intro, names-differ, differ-names, link-index, locks-low, resource-zeros, by-use, lock-tested, blocked-off, notice-off}
 use Rattle.tables.proofs.Fields.{fields-are}
@@ -45,23 +46,17 @@ pub record UsedResource (ws ss : List ℕ) (r : ℕ) : Type 0 where
   pub not-free : count r (read ws ss .free-resources) ≡ 0
   pub next-zero : word-in ws (of-resource r 0) ≡ 0
   pub name-low : 1 ≤ word-in ws (of-resource r 4)
-  pub name-high : word-in ws (of-resource r 4) ≤ 64
+  pub name-high : word-in ws (of-resource r 4) ≤ name-width
   pub zero-after : all-zero (drop (word-in ws (of-resource r 4)) (take name-width (slot-in ss r))) ≡ true
   pub no-other : (s : ℕ) → 1 ≤ s → s ≤ resources-in ws → s ≢ r → resource (read ws ss) s .name ≢ resource (read ws ss) r .name
   pub flag : word-in ws (of-resource r 5) ≤ 1
   pub has-lock : (k : ℕ) × (1 ≤ count k (resource (read ws ss) r .grant ++ (resource (read ws ss) r .convert ++ resource (read ws ss) r .wait)))
 
 -- a chain is empty exactly if its head is zero
-null-follow : (f : ℕ → ℕ) (n a : ℕ) → 1 ≤ n → null (follow f n a) ≡ eqb a 0
-unfolding follow
-null-follow f zero a p = absurd (omega arith)
-null-follow f (suc n) zero p = sym (eq-eqb 0 0 refl)
-null-follow f (suc n) (suc a) p = sym (ne-eqb (suc a) 0 (omega arith))
-
 module _ (ws ss : List ℕ) (some : 1 ≤ locks-in ws) (r : ℕ) (low : 1 ≤ r) (high : r ≤ resources-in ws) where
   head-null : (q : Queue) → Within (resources-in ws) (locks-in ws) (head (of-locks (queue r q))) → null (chain (read ws ss) (queue r q)) ≡ eqb (link-in ws (of-locks (queue r q)) 0) 0
   unfolding read-chain
-  head-null q i = ap null (chain-followed ws ss (of-locks (queue r q)) i) ∙ null-follow (link-in ws (of-locks (queue r q))) (locks-in ws) (link-in ws (of-locks (queue r q)) 0) some
+  head-null q i = ap null (chain-followed ws ss (of-locks (queue r q)) i) ∙ follow-null (link-in ws (of-locks (queue r q))) (locks-in ws) (link-in ws (of-locks (queue r q)) 0) some
 
   pub heads-zero : empty (resource (read ws ss) r) ≡ (eqb (word-in ws (of-resource r 1)) 0 && eqb (word-in ws (of-resource r 2)) 0 && eqb (word-in ws (of-resource r 3)) 0)
   unfolding empty
@@ -137,7 +132,7 @@ module _ (ws ss : List ℕ) (h : sound ws ss ≡ true) (r : ℕ) (low : 1 ≤ r)
         not-free = eqb-true _ 0 (search parts depth 20);
         next-zero = eqb-true _ 0 (search parts depth 20);
         name-low = e;
-        name-high = leb-true _ 64 (search parts depth 20);
+        name-high = leb-true _ name-width (search parts depth 20);
         zero-after = search parts depth 20;
         no-other = λ s p q. names-differ (read ws ss) r (search parts depth 20) s p (rw (resources-read ws ss) q);
         flag = leb-true _ 1 (search parts depth 20);
@@ -202,9 +197,6 @@ queue-belongs r grants l = refl
 queue-belongs r converts l = refl
 queue-belongs r waits l = refl
 
-listed : (n r : ℕ) → 1 ≤ count r (from 1 n) → (1 ≤ r) × (r ≤ n)
-listed n r m = within-le n r (bit-one (within n r) (rw (count-from n r) at m))
-
 module _ (t : Tables) (k : ℕ) where
   tested-count : (c : LockChain) → stands-right t c k ≡ true → count k (chain t c) ≡ bit (belongs c (lock t k))
   unfolding stands-right
@@ -247,7 +239,7 @@ module _ (t : Tables) (k : ℕ) where
     on-denied = let z = home-h in tested-count denied (search parts depth 20)
 
     on-queue : (r : ℕ) → 1 ≤ count r (from 1 (length (t .resources))) → (q : Queue) → count k (chain t (queue r q)) ≡ bit (belongs (queue r q) (lock t k))
-    on-queue r m = let i = listed (length (t .resources)) r m in home-queues home-h r (i .0) (i .1)
+    on-queue r m = let i = from-in (length (t .resources)) r m in home-queues home-h r (i .0) (i .1)
 
     elsewhere : (r : ℕ) → 1 ≤ count r (from 1 (length (t .resources))) → r ≢ lock t k .resource → on-queues t k r ≡ 0
     elsewhere r m n =
@@ -283,7 +275,7 @@ module _ (t : Tables) (k : ℕ) where
         let z : count k (resource t (lock t k .resource) .wait) ≡ bit (eqb s 3) = on-queue (lock t k .resource) (omega arith) waits ∙ (rw (same-r, and-true, e)) in
         omega (arith, sum-one (on-queues t k) (from 1 (length (t .resources))) (lock t k .resource) one elsewhere)
 
-    lock-ok : LockOk (used t) (lock t k)
+    lock-ok : StateOk (used t) (lock t k) (lock t k .state)
     unfolding lock-right
     lock-ok = fields-are t (lock t k) (lock t k .state) refl (search parts)
 

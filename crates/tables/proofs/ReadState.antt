@@ -1,11 +1,11 @@
 -- The state that is read from words and slots, whatever they hold: its records, its chains, its slots.
 use mathlib.Core.Path.{_≡_, refl, sym, _∙_, ap, ap₂}
 use mathlib.Core.Bool.{true}
-use mathlib.Core.List.{List, [], _∷_, _++_, map, append-assoc}
+use mathlib.Core.List.{List, [], _∷_, _++_, append-assoc}
 use Prim.Native.Nat.{ℕ, zero, suc, _+_, _-_, _*_, _<_, _≤_}
 use native.Mathlib.Omega.{arith}
 use native.Mathlib.Nat.{mul-zero, mul-suc, add-comm, add-zero}
-use lib.ListN.{getD, length, take, drop, replicate, take-append-drop, length-map, length-drop}
+use lib.ListN.{length, take, drop, replicate, take-append-drop, length-drop}
 use lib.Seq.{length-take-le, drop-drop, take-take}
 use lib.Dec.{eqb}
 use borrow.Author.Tests.{eqb-true}
@@ -14,35 +14,33 @@ use Rattle.tables.specs.State.{Resource, name-width, no-lock, no-resourc
 use Rattle.tables.specs.Layout.{head, flat-map, slot-width, slot, slots, resources-in, locks-in, read-chain, read-lock, slot-in, read-resource, read}
 use Rattle.tables.specs.Sound.{all-zero}
 use Rattle.tables.proofs.Cases.{and-left, and-right, and-intro}
+use Rattle.tables.proofs.Blocks.{length-map-from, getD-map-from}
+use Rattle.tables.proofs.Counts.{within-le}
+use Rattle.tables.proofs.Valid.{used-within}
 use Rattle.tables.specs.Threads.{Within}
-
-from-length : (a n : ℕ) → length (from a n) ≡ n
-from-length a zero = refl
-from-length a (suc n) = ap suc (from-length (suc a) n)
-
-from-at : {A : Type 0} (f : ℕ → A) (d : A) (a n i : ℕ) → i < n → getD (map f (from a n)) i d ≡ f (a + i)
-from-at f d a zero i p = absurd (omega arith)
-from-at f d a (suc n) zero p = rw add-zero
-from-at f d a (suc n) (suc i) p = from-at f d (suc a) n i (omega arith) ∙ ap f (omega arith)
+use Rattle.tables.specs.Validity.{used}
 
 module _ (ws ss : List ℕ) where
   pub resources-read : length (read ws ss .resources) ≡ resources-in ws
   unfolding read
-  resources-read = length-map (from 1 (resources-in ws)) (read-resource ws ss) ∙ from-length 1 (resources-in ws)
+  resources-read = length-map-from (read-resource ws ss) 1 (resources-in ws)
 
   pub locks-read : length (read ws ss .locks) ≡ locks-in ws
   unfolding read
-  locks-read = length-map (from 1 (locks-in ws)) (read-lock ws) ∙ from-length 1 (locks-in ws)
+  locks-read = length-map-from (read-lock ws) 1 (locks-in ws)
 
   pub resource-of : (r : ℕ) → 1 ≤ r → r ≤ resources-in ws → resource (read ws ss) r ≡ read-resource ws ss r
   unfolding read resource
   resource-of zero p q = absurd (omega arith)
-  resource-of (suc r) p q = from-at (read-resource ws ss) no-resource 1 (resources-in ws) r (omega arith) ∙ ap (read-resource ws ss) (omega arith)
+  resource-of (suc r) p q = getD-map-from (read-resource ws ss) no-resource 1 (resources-in ws) r (omega arith) ∙ ap (read-resource ws ss) (omega arith)
 
   pub lock-of : (k : ℕ) → 1 ≤ k → k ≤ locks-in ws → lock (read ws ss) k ≡ read-lock ws k
   unfolding read lock
   lock-of zero p q = absurd (omega arith)
-  lock-of (suc k) p q = from-at (read-lock ws) no-lock 1 (locks-in ws) k (omega arith) ∙ ap (read-lock ws) (omega arith)
+  lock-of (suc k) p q = getD-map-from (read-lock ws) no-lock 1 (locks-in ws) k (omega arith) ∙ ap (read-lock ws) (omega arith)
+
+  pub used-in : (r : ℕ) → used (read ws ss) r ≡ true → (1 ≤ r) × (r ≤ resources-in ws)
+  used-in r u = within-le (resources-in ws) r (rw resources-read at (used-within (read ws ss) r u))
 
   -- its chains are those that are followed
   pub chain-followed : (c : Chain) → Within (resources-in ws) (locks-in ws) (head c) → chain-of c (read ws ss) ≡ read-chain ws c

@@ -7,7 +7,7 @@ use Prim.Native.Nat.{ℕ, zero, suc, _<_, _≤_}
 use native.Mathlib.Omega.{arith}
 use lib.ListN.{length, drop, length-drop}
 use lib.Dec.{eqb}
-use borrow.Author.Tests.{eqb-true, ne-eqb, leb-true, not-true}
+use borrow.Author.Tests.{eqb-true, eq-eqb, ne-eqb, leb-true, not-true}
 use Rattle.modes.specs.Modes.{compatible}
 use Rattle.tables.specs.Lists.{within, count, bit, all, null, next}
 use Rattle.tables.specs.State.{Lock, name-width, value-width, no-value, no-resource, lock, resource, holds, Queue, grants, converts, waits, LockChain, free-locks, denied, blocked, notices, queue, queue-of, Chain, free-resources, of-locks, chain, chain-of, home-at, belongs}
@@ -15,36 +15,29 @@ use Rattle.tables.specs.Layout.{resource-width, Address, queue-head, of-
 use Rattle.tables.specs.Grants.{holders, empty}
 use Rattle.tables.specs.Sound.{free-resource-right, name-unique, used-resource-right, holders-compatible, sound}
 use Rattle.tables.proofs.Cases.{by-cases, clash, eqb-same, parts}
-use Rattle.tables.proofs.Counts.{within-le, le-within, count-nil, all-at}
-use Rattle.tables.specs.Validity.{used, Place, StateOk, LockOk, ResourceOk, Linked, Core, line, idle, Settled, Valid}
+use Rattle.tables.proofs.Counts.{within-le, le-within, count-nil, all-at, null-length}
+use Rattle.tables.specs.Validity.{used, Place, LockOk, ResourceOk, Linked, Core, line, idle, Settled, Valid, as-free}
+use Rattle.tables.proofs.StateCases.{StateOk, ok-numbered, ok-named}
 use Rattle.tables.proofs.Valid.{ok-at, holder-place, absent, absent-lock, used-within}
 use Rattle.tables.proofs.ChainMembers.{holder-in, no-head-idle}
 use Rattle.tables.specs.Threads.{Each}
 use Rattle.tables.proofs.Links.{count-absent, absent-count, counted-on, each-absent, next-absent}
 use Rattle.tables.specs.Threads.{Within}
 use Rattle.tables.proofs.Grid.{is-written}
-use Rattle.tables.proofs.ReadState.{resources-read, locks-read, lock-of, zeros-are, zero-drop, slot-is, slots-are}
+use Rattle.tables.proofs.ReadState.{resources-read, locks-read, lock-of, zeros-are, zero-drop, slot-is, slots-are, used-in}
 use Rattle.tables.proofs.Conditions.{names-differ, resources-low, resources-high, locks-low, locks-high, words-sized, slots-sized, header-zero, resource-zeros, chain-inside, chain-links, by-use, name-short, name-zeros, slot-wide, name-is, name-length, value-is, valid-is, fields-tested, stands-as, blocked-off, notice-off, compatible-tested, heads-tested}
 use Rattle.tables.proofs.Fields.{fields-are}
 
 nobody-zero : (n : ℕ) (xs : List ℕ) → Each (λ k. (1 ≤ k) × (k ≤ n)) xs → (k : ℕ) → within n k ≡ false → count k xs ≡ 0
 nobody-zero n xs e k w = absent-count k xs (each-absent (λ k. (1 ≤ k) × (k ≤ n)) xs k e (λ m. clash (within n k) (le-within n k (m .0) (m .1)) w))
 
-null-empty : (xs : List ℕ) → length xs ≡ 0 → null xs ≡ true
-null-empty [] e = refl
-null-empty (x ∷ xs) e = absurd (omega arith)
-
-null-some : (xs : List ℕ) → 1 ≤ length xs → null xs ≡ false
-null-some [] e = absurd (omega arith)
-null-some (x ∷ xs) e = refl
-
 module _ (ws ss : List ℕ) (h : sound ws ss ≡ true) where
   -- THE STATE IS VALID. Its locks
   lock-is : (k : ℕ) → LockOk (used (read ws ss)) (lock (read ws ss) k)
   lock-is k =
       by-cases (within (locks-in ws) k)
-      (λ w. let m = within-le (locks-in ws) k w in fields-are (read ws ss) (lock (read ws ss) k) (lock (read ws ss) k .state) refl (fields-tested ws ss h k (m .0) (m .1)))
-      (λ w. rw (absent-lock (read ws ss) k (rw (locks-read ws ss) w)) refl)
+      (λ w. let m = within-le (locks-in ws) k w in ok-named (fields-are (read ws ss) (lock (read ws ss) k) (lock (read ws ss) k .state) refl (fields-tested ws ss h k (m .0) (m .1))))
+      (λ w. rw (absent-lock (read ws ss) k (rw (locks-read ws ss) w)) (as-free refl))
 
   -- its chains
   counted : (c : LockChain) → Within (resources-in ws) (locks-in ws) (head (of-locks c)) → (k : ℕ) → count k (chain (read ws ss) c) ≡ bit (within (locks-in ws) k && belongs c (lock (read ws ss) k))
@@ -85,10 +78,10 @@ module _ (ws ss : List ℕ) (h : sound ws ss ≡ true) where
   -- its resources
   module _ (r : ℕ) (low : 1 ≤ r) (high : r ≤ resources-in ws) where
     free-name : word-in ws (of-resource r 4) ≡ 0 → null (resource (read ws ss) r .name) ≡ true
-    free-name e = null-empty (resource (read ws ss) r .name) (name-length ws ss h r low high ∙ e)
+    free-name e = null-length (resource (read ws ss) r .name) ∙ eq-eqb _ 0 (name-length ws ss h r low high ∙ e)
 
     used-name : 1 ≤ word-in ws (of-resource r 4) → null (resource (read ws ss) r .name) ≡ false
-    used-name e = null-some (resource (read ws ss) r .name) (rw (name-length ws ss h r low high) e)
+    used-name e = null-length (resource (read ws ss) r .name) ∙ ne-eqb (length (resource (read ws ss) r .name)) 0 (omega (arith, name-length ws ss h r low high))
 
     spare-is : count r (read ws ss .free-resources) ≡ bit (null (resource (read ws ss) r .name))
     unfolding free-resource-right used-resource-right
@@ -132,9 +125,6 @@ module _ (ws ss : List ℕ) (h : sound ws ss ≡ true) where
   gone : (r : ℕ) → within (resources-in ws) r ≡ false → resource (read ws ss) r ≡ no-resource
   gone r w = absent (read ws ss) r (rw (resources-read ws ss) w)
 
-  used-in : (r : ℕ) → used (read ws ss) r ≡ true → (1 ≤ r) × (r ≤ resources-in ws)
-  used-in r u = within-le (resources-in ws) r (rw (resources-read ws ss) at (used-within (read ws ss) r u))
-
   named : (r : ℕ) → used (read ws ss) r ≡ true → null (resource (read ws ss) r .name) ≡ false
   unfolding used
   named r u = not-true (null (resource (read ws ss) r .name)) u
@@ -152,7 +142,7 @@ module _ (ws ss : List ℕ) (h : sound ws ss ≡ true) where
 
   names-are : (r s : ℕ) → r ≢ s → used (read ws ss) r ≡ true → resource (read ws ss) r .name ≢ resource (read ws ss) s .name
   names-are r s n u q =
-      let i = used-in r u in
+      let i = used-in ws ss r u in
       by-cases (within (resources-in ws) s)
       (λ w. let m = within-le (resources-in ws) s w in
       names-differ (read ws ss) r (unique-is r (i .0) (i .1) (named r u)) s (m .0) (rw (resources-read ws ss) (m .1)) (λ e. n (sym e)) (sym q))
@@ -164,7 +154,7 @@ module _ (ws ss : List ℕ) (h : sound ws ss ≡ true) where
   agree-is j k n a b e =
       let r = lock (read ws ss) k .resource in
       let pair : ℕ → ℕ → Bool = λ j k. eqb j k || compatible (lock (read ws ss) j .held) (lock (read ws ss) k .held) in
-      let i = used-in r (holder-place (used (read ws ss)) (lock (read ws ss) k) (lock-is k) b .in-use) in
+      let i = used-in ws ss r (holder-place (used (read ws ss)) (lock (read ws ss) k) (lock-is k) b .in-use) in
       let first = all-at (λ j. all (pair j) (holders (read ws ss) r)) (holders (read ws ss) r) (compatible-tested ws ss h r (i .0) (i .1)) j (holder-in (read ws ss) linked-is r j a e) in
       rw (ne-eqb j k n) at (all-at (pair j) (holders (read ws ss) r) first k (holder-in (read ws ss) linked-is r k b refl))
 
@@ -222,7 +212,7 @@ module _ (ws ss : List ℕ) (h : sound ws ss ≡ true) where
     stands c i b = on-link (of-locks c) i (suc k) (stands-as ws ss h (suc k) (omega arith) high c i ∙ (rw b))
 
     housed : Place (used (read ws ss)) (lock (read ws ss) (suc k)) → (1 ≤ lock (read ws ss) (suc k) .resource) × (lock (read ws ss) (suc k) .resource ≤ resources-in ws)
-    housed p = used-in (lock (read ws ss) (suc k) .resource) (p .in-use)
+    housed p = used-in ws ss (lock (read ws ss) (suc k) .resource) (p .in-use)
 
     home-link : (s : ℕ) → lock (read ws ss) (suc k) .state ≡ s → StateOk (used (read ws ss)) (lock (read ws ss) (suc k)) s →
         word-in ws (of-lock (suc k) 0) ≡ next (suc k) (0 ∷ chain (read ws ss) (home-at s (lock (read ws ss) (suc k) .resource)))
@@ -265,7 +255,7 @@ module _ (ws ss : List ℕ) (h : sound ws ss ≡ true) where
   word-is (of-resource (suc r) (suc (suc (suc (suc (suc (suc (suc zero)))))))) i = resource-zeros ws ss h (suc r) (i .0) (i .1) .1
   word-is (of-resource (suc r) (suc (suc (suc (suc (suc (suc (suc (suc f))))))))) i = absurd (omega arith)
   word-is (of-lock zero f) i = absurd (omega arith)
-  word-is (of-lock (suc k) zero) i = home-link k (i .1) (lock (read ws ss) (suc k) .state) refl (lock-is (suc k))
+  word-is (of-lock (suc k) zero) i = home-link k (i .1) (lock (read ws ss) (suc k) .state) refl (ok-numbered (lock-is (suc k)))
   word-is (of-lock (suc k) (suc zero)) i = side-link k (i .1) blocked (omega arith) (blocked-off ws ss h (suc k) (i .0) (i .1))
   word-is (of-lock (suc k) (suc (suc zero))) i = side-link k (i .1) notices (omega arith) (notice-off ws ss h (suc k) (i .0) (i .1))
   word-is (of-lock (suc k) (suc (suc (suc zero)))) i = field k (i .1) (λ (l : Lock). l .resource)

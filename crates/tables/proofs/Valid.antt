@@ -1,20 +1,21 @@
 -- Laws of valid states, and of `move`. Every statement holds of every number, in range or not.
 use mathlib.Core.Path.{_≡_, refl, sym, _∙_, subst}
 use mathlib.Core.Logic.{_≢_}
-use mathlib.Core.Bool.{Bool, true, false, _&&_, not}
-use mathlib.Core.List.{List, [], _∷_, _++_}
+use mathlib.Core.Bool.{Bool, true, false, _&&_}
+use mathlib.Core.List.{List}
 use Prim.Native.Nat.{ℕ, zero, suc, _≤_}
+use native.Mathlib.Omega.{arith}
 use lib.ListN.{length}
 use lib.Dec.{eqb}
 use borrow.Author.Tests.{eqb-true, eq-eqb, ne-eqb}
 use Rattle.modes.specs.Modes.{compatible}
 use Rattle.modes.proofs.Laws.{compatible-sym}
-use Rattle.tables.specs.Lists.{within, count, bit, null}
-use Rattle.tables.specs.State.{Lock, Resource, Tables, no-value, no-lock, no-resource, lock, resource, granted, holds, grants, converts, waits, LockChain, free-locks, denied, blocked, notices, queue, chain, belongs, shift, shift-front, relist, move}
-use Rattle.tables.specs.Grants.{convert-grantable, empty}
+use Rattle.tables.specs.Lists.{within, count, bit}
+use Rattle.tables.specs.State.{Lock, Resource, Tables, no-lock, no-resource, lock, resource, granted, converting, blocked-lock, holds, grants, converts, waits, LockChain, free-locks, denied, blocked, notices, queue, chain, belongs, shift, shift-front, relist, move}
 use Rattle.tables.proofs.Cases.{by-cases, by-equal, clash}
-use Rattle.tables.proofs.Counts.{length-put, nth-put-same, nth-put-other, nth-out, count-shift, count-shift-other, count-front, count-front-other}
-use Rattle.tables.specs.Validity.{used, Place, StateOk, LockOk, ResourceOk, Linked, Core, Near}
+use Rattle.tables.proofs.Counts.{length-put, nth-put-same, nth-put-other, nth-out, count-shift, count-shift-other, count-front, count-front-other, within-le}
+use Rattle.tables.specs.Validity.{used, Place, LockOk, ResourceOk, Linked, Core, Near, as-free, as-granted, as-converting, as-waiting, as-denied}
+use Rattle.tables.proofs.StateCases.{StateOk, ok-numbered}
 
 -- how a lock that was on a chain (or not) comes to be on it (or not)
 abbrev pub enter : LockChain → Bool → Bool → ℕ → List ℕ → List ℕ
@@ -28,10 +29,13 @@ enter (queue r waits) b c k xs = shift b c k xs
 
 -- what is known of a lock in a known state
 pub ok-at : (u : ℕ → Bool) (l : Lock) (n : ℕ) → LockOk u l → eqb (l .state) n ≡ true → StateOk u l n
-ok-at u l n ok e = subst (StateOk u l) (eqb-true (l .state) n e) ok
+ok-at u l n ok e = subst (StateOk u l) (eqb-true (l .state) n e) (ok-numbered ok)
 
 pub holder-place : (u : ℕ → Bool) (l : Lock) → LockOk u l → holds l ≡ true → Place u l
 holder-place u l ok h = by-cases (granted l) (λ g. ok-at u l 1 ok g .place) (λ g. ok-at u l 2 ok (rw g at h) .place)
+
+pub blocked-lock-place : (u : ℕ → Bool) (l : Lock) → LockOk u l → blocked-lock l ≡ true → Place u l
+blocked-lock-place u l ok h = by-cases (converting l) (λ c. ok-at u l 2 ok c .place) (λ c. ok-at u l 3 ok (rw c at h) .place)
 
 pub absent : (t : Tables) (r : ℕ) → within (length (t .resources)) r ≡ false → resource t r ≡ no-resource
 unfolding resource
@@ -44,6 +48,32 @@ absent-lock t k h = nth-out no-lock (t .locks) k h
 pub used-within : (t : Tables) (r : ℕ) → used t r ≡ true → within (length (t .resources)) r ≡ true
 unfolding used
 used-within t r u = by-cases (within (length (t .resources)) r) (λ h. h) (λ h. cc (absent t r h))
+
+-- what every lock keeps to, whatever its state: modes, a client of at most 255, a resource that there is or none
+module _ (u : ℕ → Bool) (l : Lock) where
+  pub modes-low : (s : ℕ) → StateOk u l s → (l .held ≤ 5) × (l .asked ≤ 5)
+  modes-low zero ok = rw ok (omega arith, omega arith)
+  modes-low (suc zero) ok = (ok .place .held-mode, ok .place .asked-mode)
+  modes-low (suc (suc zero)) ok = (ok .place .held-mode, ok .place .asked-mode)
+  modes-low (suc (suc (suc zero))) ok = (ok .place .held-mode, ok .place .asked-mode)
+  modes-low (suc (suc (suc (suc zero)))) ok = (omega (arith, ok .holds), omega (arith, ok .asks))
+  modes-low (suc (suc (suc (suc (suc n))))) ok = absurd ok
+
+  pub client-low : (s : ℕ) → StateOk u l s → l .client ≤ 255
+  client-low zero ok = rw ok (omega arith)
+  client-low (suc zero) ok = ok .place .client-high
+  client-low (suc (suc zero)) ok = ok .place .client-high
+  client-low (suc (suc (suc zero))) ok = ok .place .client-high
+  client-low (suc (suc (suc (suc zero)))) ok = ok .client-high
+  client-low (suc (suc (suc (suc (suc n))))) ok = absurd ok
+
+pub housed : (t : Tables) (l : Lock) (s : ℕ) → StateOk (used t) l s → l .resource ≤ length (t .resources)
+housed t l zero ok = rw ok (omega arith)
+housed t l (suc zero) ok = within-le (length (t .resources)) (l .resource) (used-within t (l .resource) (ok .place .in-use)) .1
+housed t l (suc (suc zero)) ok = within-le (length (t .resources)) (l .resource) (used-within t (l .resource) (ok .place .in-use)) .1
+housed t l (suc (suc (suc zero))) ok = within-le (length (t .resources)) (l .resource) (used-within t (l .resource) (ok .place .in-use)) .1
+housed t l (suc (suc (suc (suc zero)))) ok = omega (arith, ok .nowhere)
+housed t l (suc (suc (suc (suc (suc n))))) ok = absurd ok
 
 -- the laws of move
 module _ (r k : ℕ) (m : Lock) (t : Tables) where
@@ -94,13 +124,13 @@ abbrev pub HomeState : ℕ → Type 0
 HomeState s = (u : ℕ → Bool) (l : Lock) → LockOk u l → l .state ≡ s → u (l .resource) ≡ true
 
 pub home1 : HomeState 1
-home1 u l ok e = (rw e at ok) .place .in-use
+home1 u l ok e = ok-at u l 1 ok (eq-eqb (l .state) 1 e) .place .in-use
 
 pub home2 : HomeState 2
-home2 u l ok e = (rw e at ok) .place .in-use
+home2 u l ok e = ok-at u l 2 ok (eq-eqb (l .state) 2 e) .place .in-use
 
 pub home3 : HomeState 3
-home3 u l ok e = (rw e at ok) .place .in-use
+home3 u l ok e = ok-at u l 3 ok (eq-eqb (l .state) 3 e) .place .in-use
 
 -- which home chains of a resource have a lock: those of its own
 module _ (n : ℕ) (home : HomeState n) (u : ℕ → Bool) (l : Lock) (ok : LockOk u l) where
@@ -182,16 +212,12 @@ module _ (r k : ℕ) (m : Lock) (t : Tables) (ok-old : LockOk (used t) (lock t k
 place-map : (u v : ℕ → Bool) (l : Lock) → (u (l .resource) ≡ true → v (l .resource) ≡ true) → Place u l → Place v l
 place-map u v l h p = record { in-use = h (p .in-use); client-low = p .client-low; client-high = p .client-high; held-mode = p .held-mode; asked-mode = p .asked-mode }
 
-state-map : (u v : ℕ → Bool) (l : Lock) → (u (l .resource) ≡ true → v (l .resource) ≡ true) → (s : ℕ) → StateOk u l s → StateOk v l s
-state-map u v l h zero ok = ok
-state-map u v l h (suc zero) ok = record { place = place-map u v l h (ok .place); asks = ok .asks; notice = ok .notice; not-denied = ok .not-denied }
-state-map u v l h (suc (suc zero)) ok = record { place = place-map u v l h (ok .place); notice = ok .notice }
-state-map u v l h (suc (suc (suc zero))) ok = record { place = place-map u v l h (ok .place); notice = ok .notice; holds = ok .holds }
-state-map u v l h (suc (suc (suc (suc zero)))) ok = ok
-state-map u v l h (suc (suc (suc (suc (suc n))))) ok = ok
-
 pub ok-map : (u v : ℕ → Bool) (l : Lock) → (u (l .resource) ≡ true → v (l .resource) ≡ true) → LockOk u l → LockOk v l
-ok-map u v l h ok = state-map u v l h (l .state) ok
+ok-map u v l h (as-free e) = as-free e
+ok-map u v l h (as-granted s ok) = as-granted s (record { place = place-map u v l h (ok .place); asks = ok .asks; notice = ok .notice; not-denied = ok .not-denied })
+ok-map u v l h (as-converting s ok) = as-converting s (record { place = place-map u v l h (ok .place); notice = ok .notice })
+ok-map u v l h (as-waiting s ok) = as-waiting s (record { place = place-map u v l h (ok .place); notice = ok .notice; holds = ok .holds })
+ok-map u v l h (as-denied s ok) = as-denied s ok
 
 same-resource-ok : (x y : Resource) → y .name ≡ x .name → y .value ≡ x .value → y .valid ≡ x .valid → ResourceOk x → ResourceOk y
 same-resource-ok x y n v f ok =

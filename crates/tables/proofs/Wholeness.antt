@@ -14,7 +14,8 @@ use Rattle.tables.proofs.Links.{count-absent, counted-on}
 use Rattle.tables.specs.Threads.{Present}
 use Rattle.tables.proofs.Chains.{home-past}
 use Rattle.tables.specs.Threads.{Seat, Whole}
-use Rattle.tables.specs.Validity.{used, Place, StateOk, LockOk, Core}
+use Rattle.tables.specs.Validity.{used, Place, LockOk, Core}
+use Rattle.tables.proofs.StateCases.{StateOk, ok-numbered}
 use Rattle.tables.proofs.Valid.{used-within}
 use Rattle.tables.proofs.ChainMembers.{chain-has}
 use Rattle.tables.proofs.ThreadedChains.{core-threaded}
@@ -25,7 +26,7 @@ counted-seat false k xs e = count-absent k xs e
 
 -- a lock belongs on its home
 pub home-belongs : (u : ℕ → Bool) (l : Lock) → LockOk u l → belongs (home l) l ≡ true
-home-belongs u l ok = go (l .state) refl ok
+home-belongs u l ok = go (l .state) refl (ok-numbered ok)
   where
     go : (s : ℕ) → l .state ≡ s → StateOk u l s → belongs (home-at s (l .resource)) l ≡ true
     go zero e o = eq-eqb (l .state) 0 e
@@ -37,7 +38,7 @@ home-belongs u l ok = go (l .state) refl ok
 
 -- and its home is there
 pub present-home : (t : Tables) (l : Lock) → LockOk (used t) l → Present t (of-locks (home l))
-present-home t l ok = go (l .state) ok
+present-home t l ok = go (l .state) (ok-numbered ok)
   where
     range : Place (used t) l → (1 ≤ l .resource) × (l .resource ≤ length (t .resources))
     range p = within-le (length (t .resources)) (l .resource) (used-within t (l .resource) (p .in-use))

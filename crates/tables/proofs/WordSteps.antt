@@ -1,19 +1,19 @@
 -- The steps that code makes on the words, and the steps on a state that they are.
 use mathlib.Core.Path.{_≡_, refl, sym, _∙_, ap, ap₂, fun-ext}
-use mathlib.Core.List.{List, [], _∷_, _++_}
+use mathlib.Core.List.{[], _∷_, _++_}
 use Prim.Native.Nat.{ℕ, zero, suc, _+_, _*_, _≤_}
 use native.Mathlib.Omega.{arith}
-use lib.ListN.{getD, set, length}
+use lib.ListN.{set, length}
 use Rattle.tables.specs.Lists.{remove, next}
 use Rattle.tables.specs.State.{Tables, free-locks, denied, blocked, notices, queue, Chain, free-resources, of-locks, chain-of}
-use Rattle.tables.specs.Layout.{resource-width, lock-width, place, head, link, cell, word-value, words}
+use Rattle.tables.specs.Layout.{place, head, link, cell, words}
 use Rattle.tables.specs.Threads.{Absent}
 use Rattle.tables.proofs.Links.{each-on, next-past}
 use Rattle.tables.proofs.Chains.{with-chain, spot}
-use Rattle.tables.specs.Threads.{Stands, LinkedAt, Threaded}
-use Rattle.tables.proofs.WordChanges.{linked-head, linked-on, read-word, append-words, remove-words, push-words}
-use Rattle.tables.specs.Stores.{cell-holding, cell-at}
-use Rattle.tables.proofs.ChainWalk.{walk-holds}
+use Rattle.tables.specs.Threads.{Stands, Threaded}
+use Rattle.tables.proofs.WordChanges.{linked-head, linked-on, append-words, remove-words, push-words}
+use Rattle.tables.specs.Stores.{cell-at}
+use Rattle.tables.proofs.ChainWalk.{walk-holds, cell-word}
 use Rattle.tables.specs.Stores.{join-cells, push-cells, leave-cells, cell-place, stride}
 
 -- on a state: k joins a chain at its end, or in front, or leaves it
@@ -42,9 +42,6 @@ cells-are r c = fun-ext at-each
     at-each (suc k) = link-place r c k
 
 module _ (t : Tables) (r : ℕ) (size : length (t .resources) ≡ r) (c : Chain) (h : Threaded t c) where
-  cell-word : (k : ℕ) → LinkedAt t c k → getD (words t) (spot t (cell c k)) 0 ≡ next k (0 ∷ chain-of c t)
-  cell-word k l = read-word t (cell c k) (l .inside) ∙ ap (word-value t) (l .says)
-
   pub join-is : (n k : ℕ) → length (chain-of c t) ≤ n → join-cells (cell-place r c) n k (words t) ≡ words (join c k t)
   unfolding join join-cells
   join-is n k p =
@@ -53,7 +50,7 @@ module _ (t : Tables) (r : ℕ) (size : length (t .resources) ≡ r) (c : Chain)
   pub push-is : (k : ℕ) → Stands t c k → push-cells (cell-place r c) k (words t) ≡ words (push c k t)
   unfolding push push-cells next
   push-is k s =
-      rw (← size) (ap (λ (v : ℕ). set (set (words t) (spot t (cell c k)) v) (spot t (cell c 0)) k) (cell-word 0 (linked-head t c (h .present))) ∙ sym (push-words t c h k s))
+      rw (← size) (ap (λ (v : ℕ). set (set (words t) (spot t (cell c k)) v) (spot t (cell c 0)) k) (cell-word t c 0 (linked-head t c (h .present))) ∙ sym (push-words t c h k s))
 
   pub leave-is : (n k : ℕ) → length (chain-of c t) ≤ n → (Absent k (chain-of c t) → ⊥) → leave-cells (cell-place r c) n k (words t) ≡ words (leave c k t)
   unfolding leave leave-cells
@@ -61,5 +58,5 @@ module _ (t : Tables) (r : ℕ) (size : length (t .resources) ≡ r) (c : Chain)
       let s = each-on (Stands t c) (chain-of c t) k (h .members) o .0 in
       rw (← size)
       (ap₂ (λ (i v : ℕ). set (set (words t) i v) (spot t (cell c k)) 0) (walk-holds t c h k n p (λ z. o))
-      (cell-word k (linked-on t c h k (λ a. o (a .1))) ∙ next-past k 0 (chain-of c t) (omega arith))
+      (cell-word t c k (linked-on t c h k (λ a. o (a .1))) ∙ next-past k 0 (chain-of c t) (omega arith))
       ∙ sym (remove-words t c h k o))

@@ -1,6 +1,5 @@
 -- The written form of a valid state is sound, and is read back.
 use mathlib.Core.Path.{_≡_, refl, sym, _∙_, ap, ap₂}
-use mathlib.Core.Logic.{_≢_}
 use mathlib.Core.Bool.{true, false, _&&_, _||_}
 use mathlib.Core.List.{List, [], _∷_, _++_, append-assoc}
 use Prim.Native.Nat.{ℕ, zero, suc, _-_, _*_, _<_, _≤_}
@@ -16,9 +15,10 @@ use Rattle.tables.specs.Layout.{resource-width, Address, of-header, of-r
 use Rattle.tables.specs.Grants.{holders, no-grantable-head, empty}
 use Rattle.tables.specs.Sound.{sizes-right, zeros-right, resource-index, lock-index, indices-right, ends, chain-ends, chains-end, all-zero, free-resource-right, name-unique, used-resource-right, resource-right, stands-right, home-right, lock-right, linked-right, holders-compatible, state-right, sound}
 use Rattle.tables.proofs.Cases.{by-cases, by-equal, clash, eqb-same, and-intro, or-left, or-right}
-use Rattle.tables.proofs.Counts.{within-le, le-within, all-intro, nil-of-counts}
-use Rattle.tables.specs.Validity.{used, StateOk, Core, Valid}
-use Rattle.tables.proofs.Valid.{ok-at, used-within}
+use Rattle.tables.proofs.Counts.{within-le, le-within, all-intro, nil-of-counts, null-nil, null-some}
+use Rattle.tables.specs.Validity.{used, Core, Valid}
+use Rattle.tables.proofs.StateCases.{StateOk, ok-numbered}
+use Rattle.tables.proofs.Valid.{ok-at, housed}
 use Rattle.tables.proofs.ChainMembers.{and-bit, on-chain, on-grants, on-converts, on-waits, in-holder, idle-no-head}
 use Rattle.tables.proofs.Blocks.{length-blocks}
 use Rattle.tables.specs.Threads.{Each}
@@ -43,15 +43,6 @@ next-each P z k x (y ∷ ys) e = by-equal k x (λ q. rw (next-here k x (y ∷ ys
 
 pub valid-readable : (t : Tables) → Valid t → Readable t
 valid-readable t v = core-readable t (v .core)
-
--- lists and slots
-null-nil : (xs : List ℕ) → null xs ≡ true → xs ≡ []
-null-nil [] h = refl
-null-nil (x ∷ xs) h = clash true refl (sym h)
-
-null-not : (xs : List ℕ) → null xs ≡ false → length xs ≢ 0
-null-not [] h = clash true refl h
-null-not (x ∷ xs) h = omega arith
 
 -- the slot of a resource without name; and what stands after a name
 zero-slot : (x : Resource) → x .name ≡ [] → x .value ≡ no-value → all-zero (slot x) ≡ true
@@ -105,14 +96,6 @@ module _ (t : Tables) (c : Core t) where
       next-each (λ j. j ≤ length (t .resources)) (omega arith) k 0 (t .free-resources)
       (each-counted (λ j. j ≤ length (t .resources)) (t .free-resources) (λ j m. within-le (length (t .resources)) j (spare-in j m) .1))
 
-  housed : (s k : ℕ) → StateOk (used t) (lock t k) s → lock t k .resource ≤ length (t .resources)
-  housed zero k ok = rw ok (omega arith)
-  housed (suc zero) k ok = within-le (length (t .resources)) (lock t k .resource) (used-within t (lock t k .resource) (ok .place .in-use)) .1
-  housed (suc (suc zero)) k ok = within-le (length (t .resources)) (lock t k .resource) (used-within t (lock t k .resource) (ok .place .in-use)) .1
-  housed (suc (suc (suc zero))) k ok = within-le (length (t .resources)) (lock t k .resource) (used-within t (lock t k .resource) (ok .place .in-use)) .1
-  housed (suc (suc (suc (suc zero)))) k ok = omega (arith, ok .nowhere)
-  housed (suc (suc (suc (suc (suc n))))) k ok = absurd ok
-
   names-lock : (a : Address) → In t a → content t a ≤ length (t .locks) → lock-index (words t) (word-in (words t) a) ≡ true
   unfolding lock-index
   names-lock a i p = le-leb (word-in (words t) a) (locks-in (words t)) (rw (word-read t a i, locks-word t) p)
@@ -145,11 +128,11 @@ module _ (t : Tables) (c : Core t) where
           let a = names-lock (of-lock k 0) (p, q, omega arith) (lock-next (home (lock t k)) k) in
           let b = names-lock (of-lock k 1) (p, q, omega arith) (lock-next blocked k) in
           let d = names-lock (of-lock k 2) (p, q, omega arith) (lock-next notices k) in
-          let e = names-resource (of-lock k 3) (p, q, omega arith) (housed (lock t k .state) k (c .lock-ok k)) in
+          let e = names-resource (of-lock k 3) (p, q, omega arith) (housed t (lock t k) (lock t k .state) (ok-numbered (c .lock-ok k))) in
           rw (a, b, d, e)
 
   -- every chain ends
-  chain-ending : (x : Chain) → Present t x → chain-ends (words t) x ≡ true
+  pub chain-ending : (x : Chain) → Present t x → chain-ends (words t) x ≡ true
   unfolding chain-ends
   chain-ending x i =
       let h = core-readable t c .chains x i in
@@ -234,7 +217,7 @@ module _ (t : Tables) (c : Core t) where
         let size-word : word-in (words t) (of-resource r 4) ≡ length (resource t r .name) = at-field 4 (omega arith) in
         by-cases (null (resource t r .name))
         (λ n. rw (eq-eqb _ 0 (size-word ∙ ap length (null-nil (resource t r .name) n))) (free-right n))
-        (λ n. rw (ne-eqb (word-in (words t) (of-resource r 4)) 0 (λ e. null-not (resource t r .name) n (sym size-word ∙ e))) (used-right n))
+        (λ n. rw (ne-eqb (word-in (words t) (of-resource r 4)) 0 (omega (arith, size-word, null-some (resource t r .name) n))) (used-right n))
 
   -- 3, 4. locks
   module _ (k : ℕ) (low : 1 ≤ k) (high : k ≤ length (t .locks)) where
@@ -245,7 +228,7 @@ module _ (t : Tables) (c : Core t) where
     lock-is : lock-right t k ≡ true
     unfolding lock-right home-right
     lock-is =
-        rw (stands-is free-locks, stands-is denied, are-fields t (lock t k) (lock t k .state) (c .lock-ok k))
+        rw (stands-is free-locks, stands-is denied, are-fields t (lock t k) (lock t k .state) (ok-numbered (c .lock-ok k)))
         (and-intro _ true (each-intro _ (length (t .resources)) (λ r p q. rw (stands-is (queue r grants), stands-is (queue r converts), stands-is (queue r waits)))) refl)
 
     off-zero : (x : LockChain) → In t (cell (of-locks x) k) → content t (cell (of-locks x) k) ≡ next k (0 ∷ chain t x) → linked-right (words t) t x k ≡ true
@@ -288,11 +271,20 @@ module _ (t : Tables) (v : Valid t) where
       (rw (tables-read t (valid-readable t v)) state-is)
 
 -- EXACTLY. Sound words and slots are the written form of a valid state, and of one only
-pub sound-written : (ws ss : List ℕ) → sound ws ss ≡ true → (t : Tables) × Valid t × (ws ≡ words t) × (ss ≡ slots t)
-sound-written ws ss h = (read ws ss, sound-valid ws ss h, sound-words ws ss h, sound-slots ws ss h)
+pub record Writes (ws ss : List ℕ) (t : Tables) : Type 0 where
+  pub valid : Valid t
+  pub is : ws ≡ words t
+  pub slots-are : ss ≡ slots t
 
-pub written-sound : (ws ss : List ℕ) (t : Tables) → Valid t → ws ≡ words t → ss ≡ slots t → sound ws ss ≡ true
-written-sound ws ss t v p q = ap₂ sound p q ∙ valid-sound t v
+pub sound-written : (ws ss : List ℕ) → sound ws ss ≡ true → Writes ws ss (read ws ss)
+sound-written ws ss h = record { valid = sound-valid ws ss h; is = sound-words ws ss h; slots-are = sound-slots ws ss h }
+
+-- so what holds of the written form of every valid state holds of all sound words and slots
+pub for-sound : (P : List ℕ → List ℕ → Type 0) → ((t : Tables) → Valid t → P (words t) (slots t)) → (ws ss : List ℕ) → sound ws ss ≡ true → P ws ss
+for-sound P h ws ss s = go (read ws ss) (sound-written ws ss s)
+  where
+    go : (t : Tables) → Writes ws ss t → P ws ss
+    go t w = rw (w .is, w .slots-are) (h t (w .valid))
 
 pub written-once : (t u : Tables) → Valid t → Valid u → words t ≡ words u → slots t ≡ slots u → t ≡ u
 written-once t u v w p q = sym (tables-read t (valid-readable t v)) ∙ ap₂ read p q ∙ tables-read u (valid-readable u w)

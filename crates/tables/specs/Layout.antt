@@ -165,6 +165,14 @@ unfoldable pub read-chain : List ℕ → Chain → List ℕ
 unfolding follow
 read-chain ws c = follow (link-in ws c) (most (resources-in ws) (locks-in ws) c) (link-in ws c 0)
 
+-- the lock that the field f of the lock j names, and the locks from k on, where that field of each names the next
+abbrev pub lock-link : List ℕ → ℕ → ℕ → ℕ
+lock-link ws f j = word-in ws (of-lock j f)
+
+unfoldable pub onward : List ℕ → ℕ → ℕ → List ℕ
+unfolding follow
+onward ws f k = follow (lock-link ws f) (locks-in ws) k
+
 unfoldable pub read-lock : List ℕ → ℕ → Lock
 read-lock ws k =
     record {

@@ -6,7 +6,7 @@ use lib.ListN.{length, take, drop}
 use lib.Dec.{eqb, leb}
 use Rattle.modes.specs.Modes.{compatible}
 use Rattle.tables.specs.Lists.{count, bit, all, from, null, same}
-use Rattle.tables.specs.State.{Lock, Tables, name-width, state-free, state-granted, state-converting, state-waiting, state-denied, completion-none, completion-granted, completion-denied, completion-conversion-denied, lock, resource, grants, converts, waits, LockChain, free-locks, denied, blocked, notices, queue, Chain, free-resources, of-locks, chain, belongs}
+use Rattle.tables.specs.State.{Lock, Tables, most-resources, most-locks, last-client, last-mode, name-width, state-free, state-granted, state-converting, state-waiting, state-denied, completion-none, completion-granted, completion-denied, completion-conversion-denied, lock, resource, grants, converts, waits, LockChain, free-locks, denied, blocked, notices, queue, Chain, free-resources, of-locks, chain, belongs}
 use Rattle.tables.specs.Layout.{of-header, of-resource, of-lock, size, slot-width, resources-in, locks-in, word-in, most, link-in, slot-in, read}
 use Rattle.tables.specs.Grants.{holders, no-grantable-head, empty}
 
@@ -19,7 +19,7 @@ each-lock ws p = all p (from 1 (locks-in ws))
 -- 1. "Sizes and lengths as above; every word given as zero is zero; every index is 0 or a record's number; every chain ends."
 unfoldable pub sizes-right : List ℕ → List ℕ → Bool
 sizes-right ws ss =
-    leb 1 (resources-in ws) && leb (resources-in ws) 256 && leb 1 (locks-in ws) && leb (locks-in ws) 1024
+    leb 1 (resources-in ws) && leb (resources-in ws) most-resources && leb 1 (locks-in ws) && leb (locks-in ws) most-locks
     && eqb (length ws) (size (resources-in ws) (locks-in ws)) && eqb (length ss) (slot-width * resources-in ws)
 
 unfoldable pub zeros-right : List ℕ → Bool
@@ -97,10 +97,10 @@ home-right t k =
 
 -- "Clients are 1 to 255, modes 0 to 5", and a lock on a resource's chain has a resource that is in use (one chain has it, and none of a free one)
 unfoldable pub client-right : ℕ → Bool
-client-right c = leb 1 c && leb c 255
+client-right c = leb 1 c && leb c last-client
 
 unfoldable pub modes-right : Lock → Bool
-modes-right l = leb (l .held) 5 && leb (l .asked) 5
+modes-right l = leb (l .held) last-mode && leb (l .asked) last-mode
 
 unfoldable pub on-resource : Tables → Lock → Bool
 on-resource t l = not (null (resource t (l .resource) .name))

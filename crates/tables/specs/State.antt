@@ -54,6 +54,19 @@ pub record Tables : Type 0 where
   pub blocked : List ℕ
   pub notices : List ℕ
 
+-- how many resources and locks tables may have at most; clients are 1 to the last, modes 0 to the last
+abbrev pub most-resources : ℕ
+most-resources = 256
+
+abbrev pub most-locks : ℕ
+most-locks = 1024
+
+abbrev pub last-client : ℕ
+last-client = 255
+
+abbrev pub last-mode : ℕ
+last-mode = 5
+
 -- the widths of a resource's slot: a name of at most 64 bytes, and its value block
 abbrev pub name-width : ℕ
 name-width = 64
@@ -67,6 +80,18 @@ no-value = replicate value-width 0
 -- a freed record keeps nothing
 abbrev pub no-lock : Lock
 no-lock = record { resource = 0; client = 0; state = state-free; held = 0; asked = 0; completion = completion-none }
+
+-- a new lock of the client c on the resource r
+abbrev pub new-lock : ℕ → ℕ → ℕ → ℕ → ℕ → Lock
+new-lock r c s h a = record { resource = r; client = c; state = s; held = h; asked = a; completion = completion-none }
+
+-- the lock of a denied request: it keeps its client alone
+abbrev pub denied-lock : Lock → Lock
+denied-lock l = record { resource = 0; client = l .client; state = state-denied; held = 0; asked = 0; completion = completion-denied }
+
+-- the lock l with another state, held and asked mode and completion: it keeps the rest
+abbrev pub changed-lock : ℕ → ℕ → ℕ → ℕ → Lock → Lock
+changed-lock s h a e l = record { resource = l .resource; client = l .client; state = s; held = h; asked = a; completion = e }
 
 abbrev pub no-resource : Resource
 no-resource = record { name = []; value = no-value; valid = 0; grant = []; convert = []; wait = [] }

@@ -5,7 +5,7 @@ use mathlib.Core.List.{List, [], _∷_}
 use Prim.Native.Nat.{ℕ, zero, suc, _+_, _*_, _≤_, _<_}
 use lib.ListN.{getD, set, length}
 use lib.Dec.{eqb}
-use Rattle.tables.specs.State.{Lock, Chain, free-resources, of-locks, home}
+use Rattle.tables.specs.State.{Lock, state-free, Chain, free-resources, of-locks, home}
 use Rattle.tables.specs.Layout.{resource-width, lock-width, of-lock, place, cell, lock-links, lock-fields}
 
 -- a run of stores: vs at the places at-field f, at-field (f + 1), ..
@@ -70,7 +70,7 @@ unfoldable pub resettle-cells : Bool → ℕ → ℕ → ℕ → Lock → Lock �
 unfolding set-cells
 resettle-cells true r l k o m ws = set-cells r k m ws
 resettle-cells false r l k o m ws =
-    arrive-cells (eqb (m .state) 0) (cell-place r (of-locks (home m))) l k (set-cells r k m (leave-cells (cell-place r (of-locks (home o))) l k ws))
+    arrive-cells (eqb (m .state) state-free) (cell-place r (of-locks (home m))) l k (set-cells r k m (leave-cells (cell-place r (of-locks (home o))) l k ws))
 
 -- k on a chain of free records, where it was and is to be on it or not: it enters at the front
 unfoldable pub front-cells : Bool → Bool → (ℕ → ℕ) → ℕ → ℕ → List ℕ → List ℕ

@@ -3,11 +3,11 @@ use mathlib.Core.Path.{_≡_}
 use mathlib.Core.Logic.{_≢_}
 use mathlib.Core.Bool.{Bool, true, false, _&&_, not}
 use mathlib.Core.List.{List, [], _∷_, _++_}
-use Prim.Native.Nat.{ℕ, zero, suc, _≤_}
+use Prim.Native.Nat.{ℕ, _≤_}
 use lib.ListN.{length}
 use Rattle.modes.specs.Modes.{compatible}
 use Rattle.tables.specs.Lists.{within, count, bit, null}
-use Rattle.tables.specs.State.{Lock, Resource, Tables, no-value, no-lock, lock, resource, holds, LockChain, chain, belongs}
+use Rattle.tables.specs.State.{Lock, Resource, Tables, most-resources, most-locks, last-client, last-mode, name-width, value-width, no-value, no-lock, lock, resource, holds, LockChain, chain, belongs, state-granted, state-converting, state-waiting, state-denied, completion-none, completion-denied, completion-conversion-denied}
 use Rattle.tables.specs.Grants.{convert-grantable, empty}
 
 -- a resource in use has a name
@@ -18,48 +18,44 @@ used t r = not (null (resource t r .name))
 pub record Place (u : ℕ → Bool) (l : Lock) : Type 0 where
   pub in-use : u (l .resource) ≡ true
   pub client-low : 1 ≤ l .client
-  pub client-high : l .client ≤ 255
-  pub held-mode : l .held ≤ 5
-  pub asked-mode : l .asked ≤ 5
+  pub client-high : l .client ≤ last-client
+  pub held-mode : l .held ≤ last-mode
+  pub asked-mode : l .asked ≤ last-mode
 
 pub record Granted (u : ℕ → Bool) (l : Lock) : Type 0 where
   pub place : Place u l
   pub asks : l .asked ≡ 0
-  pub notice : l .completion ≤ 3
-  pub not-denied : l .completion ≢ 2
+  pub notice : l .completion ≤ completion-conversion-denied
+  pub not-denied : l .completion ≢ completion-denied
 
 pub record Converting (u : ℕ → Bool) (l : Lock) : Type 0 where
   pub place : Place u l
-  pub notice : l .completion ≡ 0
+  pub notice : l .completion ≡ completion-none
 
 pub record Waiting (u : ℕ → Bool) (l : Lock) : Type 0 where
   pub place : Place u l
-  pub notice : l .completion ≡ 0
+  pub notice : l .completion ≡ completion-none
   pub holds : l .held ≡ 0
 
 pub record Denied (l : Lock) : Type 0 where
   pub client-low : 1 ≤ l .client
-  pub client-high : l .client ≤ 255
+  pub client-high : l .client ≤ last-client
   pub nowhere : l .resource ≡ 0
   pub holds : l .held ≡ 0
   pub asks : l .asked ≡ 0
-  pub notice : l .completion ≡ 2
+  pub notice : l .completion ≡ completion-denied
 
--- the states in their order: free, granted, converting, waiting, denied; there is no other. Clauses on the number, since proofs go by cases on it.
-abbrev pub StateOk : (ℕ → Bool) → Lock → ℕ → Type 0
-StateOk u l zero = l ≡ no-lock
-StateOk u l (suc zero) = Granted u l
-StateOk u l (suc (suc zero)) = Converting u l
-StateOk u l (suc (suc (suc zero))) = Waiting u l
-StateOk u l (suc (suc (suc (suc zero)))) = Denied l
-StateOk u l (suc (suc (suc (suc (suc n))))) = ⊥
-
-abbrev pub LockOk : (ℕ → Bool) → Lock → Type 0
-LockOk u l = StateOk u l (l .state)
+-- a lock is in one of the five states, and has that state's fields
+pub data LockOk (u : ℕ → Bool) (l : Lock) : Type 0 where
+  as-free : l ≡ no-lock → LockOk u l
+  as-granted : l .state ≡ state-granted → Granted u l → LockOk u l
+  as-converting : l .state ≡ state-converting → Converting u l → LockOk u l
+  as-waiting : l .state ≡ state-waiting → Waiting u l → LockOk u l
+  as-denied : l .state ≡ state-denied → Denied l → LockOk u l
 
 pub record ResourceOk (x : Resource) : Type 0 where
-  pub name-length : length (x .name) ≤ 64
-  pub value-length : length (x .value) ≡ 32
+  pub name-length : length (x .name) ≤ name-width
+  pub value-length : length (x .value) ≡ value-width
   pub flag : x .valid ≤ 1
   pub unused : x .name ≡ [] → x .valid ≡ 0
   pub unused-value : x .name ≡ [] → x .value ≡ no-value
@@ -70,9 +66,9 @@ Linked t = (c : LockChain) (k : ℕ) → count k (chain t c) ≡ bit (within (le
 
 pub record Core (t : Tables) : Type 0 where
   pub resources-low : 1 ≤ length (t .resources)
-  pub resources-high : length (t .resources) ≤ 256
+  pub resources-high : length (t .resources) ≤ most-resources
   pub locks-low : 1 ≤ length (t .locks)
-  pub locks-high : length (t .locks) ≤ 1024
+  pub locks-high : length (t .locks) ≤ most-locks
   pub linked : Linked t
   pub spare : (r : ℕ) → count r (t .free-resources) ≡ bit (within (length (t .resources)) r && null (resource t r .name))
   pub lock-ok : (k : ℕ) → LockOk (used t) (lock t k)

@@ -1,5 +1,7 @@
 //! A call as a value, and the two managers that it can be made on.
 
+use zamgyorud::layout::{self, MOST_LOCKS, VALUE_BYTES};
+
 /// Lent tables.
 #[derive(Clone, PartialEq, Eq)]
 pub struct Tables {
@@ -41,7 +43,7 @@ pub enum Call {
 
 /// Areas that calls write to, made once so that no timing has their making in it.
 pub struct Areas {
-    pub value: [u8; 32],
+    pub value: [u8; VALUE_BYTES],
     pub entries: Vec<zamgyorud::raw::Entry>,
     pub flat_entries: Vec<[u32; 5]>,
     pub image: Vec<u8>,
@@ -50,10 +52,10 @@ pub struct Areas {
 impl Areas {
     pub fn new(tables: &Tables) -> Areas {
         Areas {
-            value: [0; 32],
-            entries: vec![Default::default(); 1024],
-            flat_entries: vec![[0; 5]; 1024],
-            image: vec![0; 4 * tables.words.len() + tables.slots.len()],
+            value: [0; VALUE_BYTES],
+            entries: vec![Default::default(); MOST_LOCKS as usize],
+            flat_entries: vec![Default::default(); MOST_LOCKS as usize],
+            image: vec![0; layout::image(tables.words.len(), tables.slots.len())],
         }
     }
 }
@@ -71,19 +73,19 @@ impl Manager for Library {
         use zamgyorud::raw;
         let (words, slots) = (&mut t.words[..], &mut t.slots[..]);
         match call {
-            Call::Start { resources, locks } => raw::start(words, slots, *resources, *locks),
-            Call::Request { client, mode, name } => raw::request(words, slots, *client, *mode, 0, name),
-            Call::Convert { client, lock, mode } => raw::convert(words, slots, *client, *lock, *mode, 0, &[]),
-            Call::Release { client, lock } => raw::release(words, slots, *client, *lock, 0, &[]),
-            Call::Cancel { client, lock } => raw::cancel(words, slots, *client, *lock),
-            Call::Purge { client } => raw::purge(words, slots, *client),
-            Call::Break => raw::break_deadlock(words, slots),
-            Call::Poll { client } => raw::poll(words, slots, *client),
-            Call::Read { client, lock } => raw::read(words, slots, *client, *lock, &mut areas.value),
-            Call::List { client, lock } => raw::list(words, slots, *client, *lock, &mut areas.entries),
-            Call::Image => raw::image(words, slots, &mut areas.image),
-            Call::Load { image } => raw::load(image, words, slots),
-            Call::Holder { image, name } => u64::from(raw::holder(image, name)),
+            Call::Start { resources, locks } => raw::start(words, slots, *resources, *locks).bits,
+            Call::Request { client, mode, name } => raw::request(words, slots, *client, *mode, 0, name).bits,
+            Call::Convert { client, lock, mode } => raw::convert(words, slots, *client, *lock, *mode, 0, &[]).bits,
+            Call::Release { client, lock } => raw::release(words, slots, *client, *lock, 0, &[]).bits,
+            Call::Cancel { client, lock } => raw::cancel(words, slots, *client, *lock).bits,
+            Call::Purge { client } => raw::purge(words, slots, *client).bits,
+            Call::Break => raw::break_deadlock(words, slots).bits,
+            Call::Poll { client } => raw::poll(words, slots, *client).bits,
+            Call::Read { client, lock } => raw::read(words, slots, *client, *lock, &mut areas.value).bits,
+            Call::List { client, lock } => raw::list(words, slots, *client, *lock, &mut areas.entries).bits,
+            Call::Image => raw::image(words, slots, &mut areas.image).bits,
+            Call::Load { image } => raw::load(image, words, slots).bits,
+            Call::Holder { image, name } => u64::from(raw::holder(image, name).bits),
             Call::Sound => u64::from(raw::sound(words, slots)),
         }
     }
@@ -94,16 +96,20 @@ pub struct Flat;
 
 const REFUSED: u64 = 1 << 63;
 
+fn two(answer: Result<(u32, u32), u32>) -> u64 {
+    answer.map_or_else(|number| REFUSED | u64::from(number), |(result, lock)| u64::from(lock) << 16 | u64::from(result))
+}
+
 fn one(answer: Result<u32, u32>) -> u64 {
-    answer.map_or_else(|number| REFUSED | u64::from(number), u64::from)
+    two(answer.map(|result| (result, 0)))
 }
 
 fn none(answer: Result<(), u32>) -> u64 {
     one(answer.map(|()| 0))
 }
 
-fn two(answer: Result<(u32, u32), u32>) -> u64 {
-    answer.map_or_else(|number| REFUSED | u64::from(number), |(first, second)| u64::from(first) << 32 | u64::from(second))
+fn denied(answer: Result<u32, u32>) -> u64 {
+    two(answer.map(|lock| (lock, lock)))
 }
 
 impl Manager for Flat {
@@ -116,7 +122,7 @@ impl Manager for Flat {
             Call::Release { client, lock } => none(flat::release(words, slots, *client, *lock, 0, &[])),
             Call::Cancel { client, lock } => one(flat::cancel(words, slots, *client, *lock)),
             Call::Purge { client } => one(flat::purge(words, slots, *client)),
-            Call::Break => one(flat::break_deadlock(words, slots)),
+            Call::Break => denied(flat::break_deadlock(words, slots)),
             Call::Poll { client } => two(flat::poll(words, slots, *client)),
             Call::Read { client, lock } => one(flat::read(words, slots, *client, *lock).map(|(value, valid)| {
                 areas.value = value;
@@ -129,6 +135,16 @@ impl Manager for Flat {
             Call::Sound => u64::from(flat::sound(words, slots)),
         }
     }
+}
+
+/// The result in an accepted call's answer.
+pub fn result(answer: u64) -> u32 {
+    u32::from(answer as u16)
+}
+
+/// The lock in an accepted call's answer.
+pub fn lock(answer: u64) -> u32 {
+    result(answer >> 16)
 }
 
 /// Whether an answer is a refusal.

@@ -1,6 +1,7 @@
 //! The tables that calls are timed on.
 
-use crate::call::{Areas, Call, Flat, Manager, Tables, refused};
+use crate::call::{Areas, Call, Flat, Manager, Tables, lock, refused};
+use zamgyorud::layout::{self, MOST_LOCKS, MOST_RESOURCES};
 
 /// Numbers of records.
 #[derive(Clone, Copy, PartialEq, Eq)]
@@ -10,7 +11,8 @@ pub struct Size {
 }
 
 /// The sizes that are timed.
-pub const SIZES: [Size; 3] = [Size { resources: 4, locks: 8 }, Size { resources: 64, locks: 256 }, Size { resources: 256, locks: 1024 }];
+pub const SIZES: [Size; 3] =
+    [Size { resources: 4, locks: 8 }, Size { resources: 64, locks: 256 }, Size { resources: MOST_RESOURCES, locks: MOST_LOCKS }];
 
 /// How full tables are.
 #[derive(Clone, Copy, PartialEq, Eq)]
@@ -55,8 +57,8 @@ pub fn name(number: u32) -> Vec<u8> {
 }
 
 pub fn started(size: Size) -> Tables {
-    let words = 8 + 8 * size.resources as usize + 9 * size.locks as usize;
-    let mut tables = Tables { words: vec![0; words], slots: vec![0; 96 * size.resources as usize] };
+    let words = vec![0; layout::words(size.resources, size.locks)];
+    let mut tables = Tables { words, slots: vec![0; layout::slots(size.resources)] };
     flat::start(&mut tables.words, &mut tables.slots, size.resources, size.locks).expect("sizes in range");
     tables
 }
@@ -90,7 +92,7 @@ pub fn filled(size: Size, fill: Fill) -> Tables {
 }
 
 fn request(tables: &mut Tables, client: u32, mode: u32, at: u32) -> u32 {
-    accepted(tables, &Call::Request { client, mode, name: name(at) }) as u32
+    lock(accepted(tables, &Call::Request { client, mode, name: name(at) }))
 }
 
 fn holder(number: u32) -> u32 {
@@ -114,7 +116,8 @@ fn add_spread(tables: &mut Tables, at: u32, layer: u32, number: u32) {
         (2, 0) => request(tables, holder(number), PW, at),
         (2, 1) => {
             let lock = request(tables, converter(number), NL, at);
-            accepted(tables, &Call::Convert { client: converter(number), lock, mode: EX }) as u32
+            accepted(tables, &Call::Convert { client: converter(number), lock, mode: EX });
+            lock
         }
         (2, _) => request(tables, waiter(number), CR, at),
         (_, layer) => request(tables, holder(number), [CR, CW, NL][layer as usize % 3], at),

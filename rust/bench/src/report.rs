@@ -140,7 +140,8 @@ fn share_table(page: &mut String, results: &Results) {
     for size in SIZES {
         let _ = write!(page, " R {}, L {}, full |", size.resources, size.locks);
     }
-    let _ = write!(page, " R 256, L 1024, one name |\n|---|{}\n", "--:|".repeat(SIZES.len() + 1));
+    let Size { resources, locks } = SIZES[SIZES.len() - 1];
+    let _ = write!(page, " R {resources}, L {locks}, one name |\n|---|{}\n", "--:|".repeat(SIZES.len() + 1));
     let sound = Results::row(SOUND);
     let share = |size: usize, fill: Fill, row: usize| {
         let (alone, call) = (results.cell(size, fill, sound), results.cell(size, fill, row));

@@ -1,7 +1,9 @@
 //! What is timed: calls of each entry with a given outcome, found on the tables by trying.
 
-use crate::call::{Areas, Call, Flat, Manager, Tables, refused};
+use crate::call::{Areas, Call, Flat, Manager, Tables, refused, result};
 use crate::fill::{accepted, name};
+use flat::layout::state::{CONVERTING, GRANTED, WAITING};
+use flat::layout::{LockRecord, Records, completion, head, lock, resource};
 
 /// A small random number generator (splitmix64), so that every run times the same calls.
 pub struct Rng(pub u64);
@@ -41,10 +43,6 @@ const PR: u32 = 3;
 const PW: u32 = 4;
 const EX: u32 = 5;
 
-const GRANTED: u32 = 1;
-const CONVERTING: u32 = 2;
-const WAITING: u32 = 3;
-
 fn always(_: &Tables, _: u64, _: &Tables) -> bool {
     true
 }
@@ -63,31 +61,28 @@ fn new_notice(before: &Tables, _: u64, after: &Tables) -> bool {
 
 /// How many locks have a completion.
 fn notices(tables: &Tables) -> usize {
-    lock_records(tables).iter().filter(|record| record[8] != 0).count()
+    records(tables).locks.iter().filter(|record| record[lock::COMPLETION] != completion::NONE).count()
 }
 
-fn lock_records(tables: &Tables) -> &[[u32; 9]] {
-    tables.words[8 + 8 * tables.words[0] as usize..].as_chunks().0
+fn records(tables: &Tables) -> Records<'_> {
+    Records::cut(&tables.words, &tables.slots).expect("tables that were started")
 }
 
 /// A random lock in one of some states, without a completion: its client and number.
 fn some_lock(rng: &mut Rng, tables: &Tables, states: &[u32]) -> Option<(u32, u32)> {
-    let records = lock_records(tables);
-    let fitting: Vec<u32> = (1..=records.len() as u32)
-        .filter(|lock| {
-            let record = &records[*lock as usize - 1];
-            states.contains(&record[5]) && record[8] == 0
-        })
-        .collect();
-    let lock = *fitting.get(rng.below(fitting.len().max(1)))?;
-    Some((records[lock as usize - 1][4], lock))
+    let numbered = (1..).zip(records(tables).locks);
+    let fits = |record: &LockRecord| states.contains(&record[lock::STATE]) && record[lock::COMPLETION] == completion::NONE;
+    let fitting: Vec<(u32, u32)> =
+        numbered.filter(|(_, record)| fits(record)).map(|(number, record)| (record[lock::CLIENT], number)).collect();
+    fitting.get(rng.below(fitting.len().max(1))).copied()
 }
 
 /// A random name in use.
 fn some_name(rng: &mut Rng, tables: &Tables) -> Option<Vec<u8>> {
-    let used: Vec<usize> = (0..tables.words[0] as usize).filter(|at| tables.words[8 + 8 * at + 4] != 0).collect();
-    let at = *used.get(rng.below(used.len().max(1)))?;
-    Some(tables.slots[96 * at..96 * at + tables.words[8 + 8 * at + 4] as usize].to_vec())
+    let records = records(tables);
+    let slots = records.resources.iter().map(|record| record[resource::NAME_LENGTH] as usize).zip(records.slots);
+    let used: Vec<&[u8]> = slots.filter(|(length, _)| *length != 0).map(|(length, slot)| &slot[..length]).collect();
+    used.get(rng.below(used.len().max(1))).map(|name| name.to_vec())
 }
 
 fn request_known(rng: &mut Rng, tables: &Tables) -> Option<Call> {
@@ -129,7 +124,7 @@ pub const ROWS: &[Row] = &[
     Row {
         title: "start",
         prepare: &[],
-        propose: |_, tables| Some(Call::Start { resources: tables.words[0], locks: tables.words[1] }),
+        propose: |_, tables| Some(Call::Start { resources: tables.words[head::RESOURCES], locks: tables.words[head::LOCKS] }),
         fits: always,
     },
     Row { title: "request, new name", prepare: &[], propose: request_new, fits: always },
@@ -137,9 +132,14 @@ pub const ROWS: &[Row] = &[
         title: "request, granted",
         prepare: &[Step::Request(251, PR, 0)],
         propose: request_known,
-        fits: |_, answer, _| answer >> 32 == 1,
+        fits: |_, answer, _| result(answer) == 1,
     },
-    Row { title: "request, waits", prepare: &[Step::Request(251, EX, 0)], propose: request_known, fits: |_, answer, _| answer >> 32 == 2 },
+    Row {
+        title: "request, waits",
+        prepare: &[Step::Request(251, EX, 0)],
+        propose: request_known,
+        fits: |_, answer, _| result(answer) == 2,
+    },
     Row {
         title: "convert, in place",
         prepare: &[Step::Request(251, PR, 0)],
@@ -169,7 +169,7 @@ pub const ROWS: &[Row] = &[
     Row {
         title: "break, no deadlock",
         prepare: &[Step::Request(251, EX, 0), Step::Request(252, PW, 0)],
-        propose: |_, tables| (tables.words[5] != 0).then_some(Call::Break),
+        propose: |_, tables| (tables.words[head::BLOCKED] != 0).then_some(Call::Break),
         fits: |_, answer, _| answer == 0,
     },
     Row {

@@ -1,6 +1,7 @@
 //! A call as a value: what it is given, so that a list of calls can be played again.
 
-use crate::manager::Tables;
+use crate::manager::{Tables, result};
+use crate::sizes::lengths;
 use std::fmt;
 use std::rc::Rc;
 
@@ -183,11 +184,7 @@ impl Entry {
 
     /// Which of these an answer is.
     pub fn answer_kind(self, answer: u64) -> &'static str {
-        let number = match self {
-            Entry::Request | Entry::Poll => answer >> 32,
-            _ => answer,
-        };
-        let plain = match number {
+        let plain = match result(answer) {
             0 => "0",
             1 => "1",
             2 => "2",
@@ -199,6 +196,12 @@ impl Entry {
 }
 
 impl Call {
+    /// A start on tables of just the lengths that R and L call for.
+    pub fn start(resources: u32, locks: u32) -> Call {
+        let (words, slots) = lengths(resources, locks);
+        Call::Start { resources, locks, words, slots }
+    }
+
     /// Which entry the call goes to.
     pub fn entry(&self) -> Entry {
         match self {

@@ -7,7 +7,9 @@ use crate::events::{Event, events};
 use crate::manager::{Tables, refusal};
 use crate::play::Outcome;
 use crate::refusals::{self, Before, Given, fitting, image_of, sizes_in};
+use crate::sizes::{self, BUFFERS, LARGEST};
 use crate::tally::Tally;
+use model::layout;
 use model::{Flaw, State};
 use std::collections::BTreeMap;
 use std::fmt;
@@ -117,22 +119,32 @@ impl fmt::Display for CallCounts {
     }
 }
 
-/// How many words an image has. The library decodes them into one of three buffers, which have room for 128, for 3,072 and for all words
-/// (`crates/entry_image`), so the sizes at these edges are told apart.
+/// How many words an image has, from one number to another. The library decodes them into one of three buffers, so the sizes at the edges of
+/// these are told apart.
 #[derive(Clone, Copy, Debug, PartialEq, Eq, PartialOrd, Ord)]
 struct Size(usize, usize);
 
 impl Size {
-    const ALL: [Size; 8] = [
-        Size(0, 127),
-        Size(128, 128),
-        Size(129, 129),
-        Size(130, 3071),
-        Size(3072, 3072),
-        Size(3073, 3073),
-        Size(3074, 11271),
-        Size(11272, 11272),
-    ];
+    const ALL: [Size; 8] = {
+        let [small, above_small] = Size::around(BUFFERS[0]);
+        let [middle, above_middle] = Size::around(BUFFERS[1]);
+        let most = sizes::words(LARGEST);
+        [
+            Size(0, small - 1),
+            Size(small, small),
+            Size(above_small, above_small),
+            Size(above_small + 1, middle - 1),
+            Size(middle, middle),
+            Size(above_middle, above_middle),
+            Size(above_middle + 1, most - 1),
+            Size(most, most),
+        ]
+    };
+
+    /// The most words that tables in a buffer have, and the fewest of tables that are too large for it.
+    const fn around(room: usize) -> [usize; 2] {
+        [sizes::words(sizes::fitting(room)), sizes::words(sizes::over(room))]
+    }
 
     fn of(words: usize) -> Option<Size> {
         Size::ALL.into_iter().find(|size| (size.0..=size.1).contains(&words))
@@ -240,7 +252,7 @@ impl Counts {
         if let Some(image) = image_of(call) {
             self.add_image(tables, image, if call.entry() == Entry::Load { Where::Loaded } else { Where::Asked });
             let bytes = image.bytes(tables);
-            let fitting_length = sizes_in(&bytes).filter(|(words, slots)| bytes.len() == 4 * words + slots);
+            let fitting_length = sizes_in(&bytes).filter(|(words, slots)| bytes.len() == layout::image(*words, *slots));
             let size = fitting_length.and_then(|(words, _)| Size::of(words));
             size.into_iter().for_each(|size| self.images.add(Lent(call.entry(), size, refused)));
         }

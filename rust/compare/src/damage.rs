@@ -4,29 +4,12 @@ use crate::call::{Change, Changes};
 use crate::damages::{DAMAGES, Damage};
 use crate::manager::Tables;
 use crate::rng::Rng;
+use model::layout::{self, MOST_LOCKS, NAME_BYTES, SLOT_BYTES, header, lock, resource, resource_at, slot_at};
 use model::{Lock, Mode, Resource, Standing, State};
 use std::collections::VecDeque;
+use std::ops::Range;
 
 pub const MOST: u32 = u32::MAX;
-
-// The places of the words in a resource record, and then in a lock record. They are said once more here, and not taken from what is
-// compared.
-pub const NEXT: usize = 0;
-pub const GRANT: usize = 1;
-pub const CONVERT: usize = 2;
-pub const WAIT: usize = 3;
-pub const NAME_LENGTH: usize = 4;
-pub const VALIDITY: usize = 5;
-
-pub const HOME: usize = 0;
-pub const BLOCKED: usize = 1;
-pub const NOTICE: usize = 2;
-pub const RESOURCE: usize = 3;
-pub const CLIENT: usize = 4;
-pub const STATE: usize = 5;
-pub const HELD: usize = 6;
-pub const ASKED: usize = 7;
-pub const COMPLETION: usize = 8;
 
 pub fn granted(lock: &Lock) -> bool {
     matches!(lock.standing, Standing::Granted { .. })
@@ -53,9 +36,9 @@ pub fn word(at: usize, word: u32) -> Option<Vec<Change>> {
     Some(vec![Change::Word(at, word)])
 }
 
-/// The first word of a resource's record.
-fn resource_at(number: u32) -> usize {
-    8 + 8 * (number as usize - 1)
+/// Sets a word of a resource's record.
+fn resource_change(number: u32, field: usize, word: u32) -> Change {
+    Change::Word(resource_at(number, field), word)
 }
 
 /// The chains that tables have.
@@ -71,12 +54,18 @@ pub enum Kind {
     Wait,
 }
 
-/// A chain: the word of its head, its numbers, and how far a number's link is from its record's start.
+/// A chain: the place of its head, its numbers, and the word of a record that is the link.
 struct Chain<'a> {
     head: usize,
     numbers: &'a VecDeque<u32>,
     link: usize,
     of_resources: bool,
+}
+
+impl<'a> Chain<'a> {
+    fn of_locks(head: usize, numbers: &'a VecDeque<u32>, link: usize) -> Chain<'a> {
+        Chain { head, numbers, link, of_resources: false }
+    }
 }
 
 /// A maker of changes to some tables that have a state.
@@ -102,12 +91,17 @@ impl<'a> Damager<'a> {
         (damage.make)(self).map(|list| Changes { label: damage.label, list })
     }
 
-    fn lock_at(&self, number: u32) -> usize {
-        8 + 8 * self.state.most_resources as usize + 9 * (number as usize - 1)
+    fn lock_at(&self, number: u32, field: usize) -> usize {
+        layout::lock_at(self.state.most_resources, number, field)
+    }
+
+    /// Sets a word of a lock's record.
+    fn lock_change(&self, number: u32, field: usize, word: u32) -> Change {
+        Change::Word(self.lock_at(number, field), word)
     }
 
     fn link_at(&self, chain: &Chain, number: u32) -> usize {
-        chain.link + if chain.of_resources { resource_at(number) } else { self.lock_at(number) }
+        if chain.of_resources { resource_at(number, chain.link) } else { self.lock_at(number, chain.link) }
     }
 
     /// The word that names the number at a place of a chain, or ends it.
@@ -156,7 +150,7 @@ impl<'a> Damager<'a> {
 
     /// An index that is out of range by one or by far.
     pub fn beyond(&mut self, most: u32) -> u32 {
-        *self.rng.pick(&[most + 1, most + 1, 1025, MOST])
+        *self.rng.pick(&[most + 1, most + 1, MOST_LOCKS + 1, MOST])
     }
 
     pub fn beyond_locks(&mut self) -> u32 {
@@ -173,55 +167,55 @@ impl<'a> Damager<'a> {
 
     pub fn used_word(&mut self, field: usize, value: fn(&mut Damager<'a>) -> u32) -> Option<Vec<Change>> {
         let resource = self.resource_where(|_| true)?;
-        word(resource_at(resource) + field, value(self))
+        word(resource_at(resource, field), value(self))
     }
 
     pub fn free_word(&mut self, field: usize, value: fn(&mut Damager<'a>) -> u32) -> Option<Vec<Change>> {
         let resource = self.free_resource()?;
-        word(resource_at(resource) + field, value(self))
+        word(resource_at(resource, field), value(self))
     }
 
     pub fn any_lock_word(&mut self, field: usize, value: fn(&mut Damager<'a>) -> u32) -> Option<Vec<Change>> {
         let lock = self.a_lock();
-        word(self.lock_at(lock) + field, value(self))
+        word(self.lock_at(lock, field), value(self))
     }
 
     pub fn free_lock_word(&mut self, field: usize, value: fn(&mut Damager<'a>) -> u32) -> Option<Vec<Change>> {
         let lock = self.free_lock()?;
-        word(self.lock_at(lock) + field, value(self))
+        word(self.lock_at(lock, field), value(self))
     }
 
     pub fn lock_word(&mut self, fits: fn(&Lock) -> bool, field: usize, value: fn(&mut Damager<'a>) -> u32) -> Option<Vec<Change>> {
         let lock = self.lock_where(fits)?;
-        word(self.lock_at(lock) + field, value(self))
+        word(self.lock_at(lock, field), value(self))
     }
 
     /// A byte of a resource's slot that isn't what it was.
     fn byte(&mut self, resource: u32, within: usize) -> Option<Vec<Change>> {
-        let at = 96 * (resource as usize - 1) + within;
+        let at = slot_at(resource, within);
         let other = self.tables.slots[at].wrapping_add(self.rng.between(1, 255) as u8);
         Some(vec![Change::Byte(at, other)])
     }
 
-    pub fn free_byte(&mut self, least: usize, most: usize) -> Option<Vec<Change>> {
-        let (resource, within) = (self.free_resource()?, self.rng.between(least, most));
+    pub fn free_byte(&mut self, part: Range<usize>) -> Option<Vec<Change>> {
+        let (resource, within) = (self.free_resource()?, self.rng.within(part));
         self.byte(resource, within)
     }
 
     pub fn value_byte(&mut self) -> Option<Vec<Change>> {
-        let (resource, within) = (self.resource_where(|_| true)?, self.rng.between(64, 95));
+        let (resource, within) = (self.resource_where(|_| true)?, self.rng.within(NAME_BYTES..SLOT_BYTES));
         self.byte(resource, within)
     }
 
     pub fn byte_after_name(&mut self, place: fn(usize) -> usize) -> Option<Vec<Change>> {
-        let resource = self.resource_where(|resource| resource.name.len() < 64)?;
+        let resource = self.resource_where(|resource| resource.name.len() < NAME_BYTES)?;
         self.byte(resource, place(self.state.resources[&resource].name.len()))
     }
 
     /// A name's length is one less, and its last byte isn't zero.
     pub fn cut_name(&mut self) -> Option<Vec<Change>> {
         let resource = self.resource_where(|resource| resource.name.len() > 1 && resource.name.last() != Some(&0))?;
-        word(resource_at(resource) + NAME_LENGTH, self.state.resources[&resource].name.len() as u32 - 1)
+        word(resource_at(resource, resource::NAME_LENGTH), self.state.resources[&resource].name.len() as u32 - 1)
     }
 
     /// A chain of a kind that has at least so many numbers.
@@ -233,21 +227,23 @@ impl<'a> Damager<'a> {
             _ => &queues.waiting,
         };
         let chain = match kind {
-            Kind::FreeResources => Chain { head: 2, numbers: &state.free_resources, link: NEXT, of_resources: true },
-            Kind::FreeLocks => Chain { head: 3, numbers: &state.free_locks, link: HOME, of_resources: false },
-            Kind::Denied => Chain { head: 4, numbers: &state.denied, link: HOME, of_resources: false },
-            Kind::Blocked => Chain { head: 5, numbers: &state.blocked, link: BLOCKED, of_resources: false },
-            Kind::Notices => Chain { head: 6, numbers: &state.notices, link: NOTICE, of_resources: false },
+            Kind::FreeResources => {
+                Chain { head: header::FREE_RESOURCE, numbers: &state.free_resources, link: resource::NEXT, of_resources: true }
+            }
+            Kind::FreeLocks => Chain::of_locks(header::FREE_LOCK, &state.free_locks, lock::HOME),
+            Kind::Denied => Chain::of_locks(header::DENIED, &state.denied, lock::HOME),
+            Kind::Blocked => Chain::of_locks(header::BLOCKED, &state.blocked, lock::BLOCKED),
+            Kind::Notices => Chain::of_locks(header::NOTICE, &state.notices, lock::NOTICE),
             Kind::Grant | Kind::Convert | Kind::Wait => {
                 let long: Vec<u32> =
                     state.resources.iter().filter(|(_, queues)| queue(queues).len() >= least).map(|(number, _)| *number).collect();
                 let resource = self.pick(&long)?;
                 let field = match kind {
-                    Kind::Grant => GRANT,
-                    Kind::Convert => CONVERT,
-                    _ => WAIT,
+                    Kind::Grant => resource::GRANT,
+                    Kind::Convert => resource::CONVERT,
+                    _ => resource::WAIT,
                 };
-                Chain { head: resource_at(resource) + field, numbers: queue(&state.resources[&resource]), link: HOME, of_resources: false }
+                Chain::of_locks(resource_at(resource, field), queue(&state.resources[&resource]), lock::HOME)
             }
         };
         Some(chain).filter(|chain| chain.numbers.len() >= least)
@@ -291,14 +287,14 @@ impl<'a> Damager<'a> {
     /// The first free lock stands on the grant chain of a free resource.
     pub fn free_takes_lock(&mut self) -> Option<Vec<Change>> {
         let (resource, lock) = (self.free_resource()?, *self.state.free_locks.front()?);
-        let at = self.lock_at(lock);
+        let link = self.lock_at(lock, lock::HOME);
         Some(vec![
-            Change::Word(3, self.tables.words[at]),
-            Change::Word(at, 0),
-            Change::Word(resource_at(resource) + GRANT, lock),
-            Change::Word(at + RESOURCE, resource),
-            Change::Word(at + CLIENT, 1),
-            Change::Word(at + STATE, 1),
+            Change::Word(header::FREE_LOCK, self.tables.words[link]),
+            Change::Word(link, 0),
+            resource_change(resource, resource::GRANT, lock),
+            self.lock_change(lock, lock::RESOURCE, resource),
+            self.lock_change(lock, lock::CLIENT, 1),
+            self.lock_change(lock, lock::STATE, 1),
         ])
     }
 
@@ -306,23 +302,25 @@ impl<'a> Damager<'a> {
     pub fn same_name(&mut self, most: usize) -> Option<Vec<Change>> {
         let one = self.resource_where(|_| true)?;
         let new = self.state.resources[&one].name.clone();
-        let unlike = |name: &[u8]| (0..64).filter(|at| name.get(*at).unwrap_or(&0) != new.get(*at).unwrap_or(&0)).count();
-        let other =
-            self.resource_where(|other| other.name != new && (most == 64 || other.name.len() == new.len() && unlike(&other.name) <= most))?;
-        let start = 96 * (other as usize - 1);
-        let bytes = (0..64).map(|at| Change::Byte(start + at, *new.get(at).unwrap_or(&0)));
-        Some(bytes.chain([Change::Word(resource_at(other) + NAME_LENGTH, new.len() as u32)]).collect())
+        let unlike = |name: &[u8]| (0..NAME_BYTES).filter(|at| name.get(*at).unwrap_or(&0) != new.get(*at).unwrap_or(&0)).count();
+        let other = self.resource_where(|other| {
+            other.name != new && (most == NAME_BYTES || other.name.len() == new.len() && unlike(&other.name) <= most)
+        })?;
+        let bytes = (0..NAME_BYTES).map(|at| Change::Byte(slot_at(other, at), *new.get(at).unwrap_or(&0)));
+        Some(bytes.chain([resource_change(other, resource::NAME_LENGTH, new.len() as u32)]).collect())
     }
 
     /// A free resource gets a name and no lock.
     pub fn name_without_locks(&mut self) -> Option<Vec<Change>> {
-        let at = resource_at(*self.state.free_resources.front()?);
-        Some(vec![Change::Word(2, self.tables.words[at]), Change::Word(at, 0), Change::Word(at + NAME_LENGTH, 1)])
+        let free = *self.state.free_resources.front()?;
+        let link = resource_at(free, resource::NEXT);
+        let after = Change::Word(header::FREE_RESOURCE, self.tables.words[link]);
+        Some(vec![after, Change::Word(link, 0), resource_change(free, resource::NAME_LENGTH, 1)])
     }
 
     pub fn no_heads(&mut self) -> Option<Vec<Change>> {
-        let at = resource_at(self.resource_where(|_| true)?);
-        Some([GRANT, CONVERT, WAIT].map(|field| Change::Word(at + field, 0)).to_vec())
+        let used = self.resource_where(|_| true)?;
+        Some(resource::LOCK_HEADS.map(|field| resource_change(used, field, 0)).to_vec())
     }
 
     /// Two home chains, the second not empty.
@@ -346,19 +344,20 @@ impl<'a> Damager<'a> {
     pub fn other_resource(&mut self, fits: fn(&Lock) -> bool) -> Option<Vec<Change>> {
         let lock = self.lock_where(fits)?;
         let other = self.up_to(self.state.most_resources);
-        if self.state.locks[&lock].resource() == Some(other) { None } else { word(self.lock_at(lock) + RESOURCE, other) }
+        if self.state.locks[&lock].resource() == Some(other) { None } else { word(self.lock_at(lock, lock::RESOURCE), other) }
     }
 
     /// A lock gets a completion and joins the notice chain.
     pub fn give_completion(&mut self, fits: fn(&Lock) -> bool) -> Option<Vec<Change>> {
         let lock = self.lock_where(fits)?;
-        let end = self.state.notices.back().map_or(6, |last| self.lock_at(*last) + NOTICE);
-        Some(vec![Change::Word(self.lock_at(lock) + COMPLETION, *self.rng.pick(&[1, 3])), Change::Word(end, lock)])
+        let end = self.state.notices.back().map_or(header::NOTICE, |last| self.lock_at(*last, lock::NOTICE));
+        let completion = *self.rng.pick(&[1, 3]);
+        Some(vec![self.lock_change(lock, lock::COMPLETION, completion), Change::Word(end, lock)])
     }
 
     pub fn other_completion(&mut self) -> Option<Vec<Change>> {
         let lock = self.lock_where(|lock| unread(lock) == Some(true))?;
-        word(self.lock_at(lock) + COMPLETION, 4 - self.state.locks[&lock].completion())
+        word(self.lock_at(lock, lock::COMPLETION), 4 - self.state.locks[&lock].completion())
     }
 
     /// A lock leaves a chain on which it belongs.
@@ -388,7 +387,7 @@ impl<'a> Damager<'a> {
         let second = self.pick(&of_kind(&state.resources[&resource]))?;
         let firsts: Vec<u32> = state.resources[&resource].holders().filter(|lock| *lock != second).collect();
         let first = self.pick(&firsts)?;
-        Some([(first, one), (second, other)].map(|(lock, mode)| Change::Word(self.lock_at(lock) + HELD, mode.number())).to_vec())
+        Some([(first, one), (second, other)].map(|(lock, mode)| self.lock_change(lock, lock::HELD, mode.number())).to_vec())
     }
 
     /// A convert head asks for a mode that the others' modes go with.
@@ -396,7 +395,7 @@ impl<'a> Damager<'a> {
         let resource = self.resource_where(|resource| !resource.converting.is_empty())?;
         let head = *self.state.resources[&resource].converting.front()?;
         let eased: Vec<Mode> = Mode::ALL.into_iter().filter(|mode| self.state.fits(resource, *mode, head)).collect();
-        word(self.lock_at(head) + ASKED, self.pick(&eased)?.number())
+        word(self.lock_at(head, lock::ASKED), self.pick(&eased)?.number())
     }
 
     /// All others on a resource hold NL, and its convert head asks for a mode that doesn't go with the one that it holds.
@@ -405,7 +404,7 @@ impl<'a> Damager<'a> {
         let head = *self.state.resources[&resource].converting.front()?;
         let pairs = Mode::ALL.into_iter().flat_map(|held| Mode::ALL.map(|asked| (held, asked)));
         let (held, asked) = self.pick(&pairs.filter(|(held, asked)| !held.compatible(*asked)).collect::<Vec<_>>())?;
-        let own = [(HELD, held), (ASKED, asked)].map(|(field, mode)| Change::Word(self.lock_at(head) + field, mode.number()));
+        let own = [(lock::HELD, held), (lock::ASKED, asked)].map(|(field, mode)| self.lock_change(head, field, mode.number()));
         Some([self.all_others_null(resource, head), own.to_vec()].concat())
     }
 
@@ -413,7 +412,7 @@ impl<'a> Damager<'a> {
         let resource = self.resource_where(|resource| resource.converting.is_empty() && !resource.waiting.is_empty())?;
         let head = *self.state.resources[&resource].waiting.front()?;
         let eased: Vec<Mode> = Mode::ALL.into_iter().filter(|mode| self.state.fits(resource, *mode, 0)).collect();
-        word(self.lock_at(head) + ASKED, self.pick(&eased)?.number())
+        word(self.lock_at(head, lock::ASKED), self.pick(&eased)?.number())
     }
 
     /// All that hold a mode beside a head hold NL.
@@ -424,7 +423,7 @@ impl<'a> Damager<'a> {
 
     fn all_others_null(&self, resource: u32, head: u32) -> Vec<Change> {
         let others = self.state.resources[&resource].holders().filter(|lock| *lock != head);
-        others.map(|lock| Change::Word(self.lock_at(lock) + HELD, Mode::Nl.number())).collect()
+        others.map(|lock| self.lock_change(lock, lock::HELD, Mode::Nl.number())).collect()
     }
 
     /// The only conversion of a resource, behind which a compatible request waits, is granted what it holds.
@@ -439,15 +438,16 @@ impl<'a> Damager<'a> {
         let resource = self.pick(&found)?;
         let queues = &state.resources[&resource];
         let lock = *queues.converting.front()?;
-        let grant_end = queues.granted.back().map_or(resource_at(resource) + GRANT, |last| self.lock_at(*last));
+        let no_grants = resource_at(resource, resource::GRANT);
+        let grant_end = queues.granted.back().map_or(no_grants, |last| self.lock_at(*last, lock::HOME));
         let blocked = self.chain(Kind::Blocked, 1)?;
         let place = blocked.numbers.iter().position(|other| *other == lock)?;
         let link = self.cell_at(&blocked, place + 1);
         Some(vec![
-            Change::Word(resource_at(resource) + CONVERT, 0),
+            resource_change(resource, resource::CONVERT, 0),
             Change::Word(grant_end, lock),
-            Change::Word(self.lock_at(lock) + STATE, 1),
-            Change::Word(self.lock_at(lock) + ASKED, 0),
+            self.lock_change(lock, lock::STATE, 1),
+            self.lock_change(lock, lock::ASKED, 0),
             Change::Word(self.cell_at(&blocked, place), self.tables.words[link]),
             Change::Word(link, 0),
         ])
@@ -483,19 +483,19 @@ impl<'a> Damager<'a> {
     pub fn ask_for_less(&mut self) -> Option<Vec<Change>> {
         let (lock, held) = self.conversion_behind(|held| held != Mode::Nl)?;
         let less: Vec<Mode> = Mode::ALL.into_iter().filter(|mode| *mode != held && held.down_to(*mode)).collect();
-        word(self.lock_at(lock) + ASKED, self.pick(&less)?.number())
+        word(self.lock_at(lock, lock::ASKED), self.pick(&less)?.number())
     }
 
     pub fn ask_for_same(&mut self) -> Option<Vec<Change>> {
         let (lock, held) = self.conversion_behind(|_| true)?;
-        word(self.lock_at(lock) + ASKED, held.number())
+        word(self.lock_at(lock, lock::ASKED), held.number())
     }
 
     /// A holder has another mode that goes with the others' and grants no head.
     pub fn other_held(&mut self) -> Option<Vec<Change>> {
         let lock = self.lock_where(|lock| lock.held().is_some())?;
         let mode = *self.rng.pick(&Mode::ALL);
-        let change = Change::Word(self.lock_at(lock) + HELD, mode.number());
+        let change = self.lock_change(lock, lock::HELD, mode.number());
         let mut changed = self.tables.clone();
         crate::call::damage(&mut changed, &[change]);
         let stays = self.state.locks[&lock].held() != Some(mode) && State::from_tables(&changed.words, &changed.slots).is_some();
@@ -504,7 +504,7 @@ impl<'a> Damager<'a> {
 
     pub fn turn_validity(&mut self) -> Option<Vec<Change>> {
         let resource = self.resource_where(|_| true)?;
-        word(resource_at(resource) + VALIDITY, u32::from(!self.state.resources[&resource].valid))
+        word(resource_at(resource, resource::VALIDITY), u32::from(!self.state.resources[&resource].valid))
     }
 
     /// A byte of a name is another, and the name still nobody else's.
@@ -513,7 +513,7 @@ impl<'a> Damager<'a> {
         let mut name = self.state.resources[&resource].name.clone();
         let within = self.rng.below(name.len());
         name[within] = name[within].wrapping_add(self.rng.between(1, 255) as u8);
-        let change = Change::Byte(96 * (resource as usize - 1) + within, name[within]);
+        let change = Change::Byte(slot_at(resource, within), name[within]);
         self.state.named(&name).is_none().then(|| vec![change])
     }
 

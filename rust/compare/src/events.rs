@@ -1,6 +1,9 @@
 //! Noteworthy branches: what a call met and did, told from the states before and after it.
 
 use crate::call::{Call, Image};
+use crate::manager::{lock, result};
+use crate::sizes::{LARGEST, MIDDLE, SMALL, SMALLEST, Sizes};
+use model::layout::{MOST_CLIENT, NAME_BYTES, VALUE_BYTES};
 use model::{Lock, Mode, Resource, Standing, State, Unread};
 use std::collections::{BTreeSet, VecDeque};
 use std::fmt;
@@ -161,11 +164,11 @@ events! {
 /// What was noteworthy about a call.
 pub fn events(before: &State, call: &Call, answer: u64, refused: Option<u32>, after: &State) -> Vec<Event> {
     let mut found = Vec::new();
-    let notes = Notes { before, after, answer };
+    let notes = Notes { before, after, result: result(answer), lock: lock(answer) };
     match (call, refused) {
         (Call::Convert { client, lock, .. } | Call::Release { client, lock, .. }, Some(7)) => notes.value(*client, *lock, &mut found),
         (_, Some(_)) => {}
-        (Call::Start { resources: 1, locks: 1, .. }, None) => found.push(Event::SmallestTables),
+        (Call::Start { resources, locks, .. }, None) => note(&mut found, (*resources, *locks) == SMALLEST, Event::SmallestTables),
         (Call::Request { mode, flags, name, .. }, None) => notes.request(*mode, *flags, name, &mut found),
         (Call::Convert { lock, mode, flags, .. }, None) => notes.convert(*lock, *mode, *flags, &mut found),
         (Call::Release { lock, flags, .. }, None) => notes.release(*lock, *flags, &mut found),
@@ -180,25 +183,30 @@ pub fn events(before: &State, call: &Call, answer: u64, refused: Option<u32>, af
         (Call::Sound, None) => sound(before, &mut found),
         _ => {}
     }
-    if (before.most_resources, before.most_locks) == (256, 1024) {
+    if sizes_of(before) == LARGEST {
         found.push(Event::LargestTables);
         found.extend(before.free_locks.is_empty().then_some(Event::LargestTablesFull));
     }
     found
 }
 
+fn sizes_of(state: &State) -> Sizes {
+    (state.most_resources, state.most_locks)
+}
+
 /// What is noteworthy about tables that were found sound.
 fn sound(state: &State, found: &mut Vec<Event>) {
-    let sizes = (state.most_resources, state.most_locks);
+    let is = |sizes: Sizes| sizes_of(state) == sizes;
     let idle = state.locks.is_empty() && upward(&state.free_resources) && upward(&state.free_locks);
-    note(found, idle && sizes == (1, 1), Event::SoundStartedSmallest);
-    note(found, idle && sizes == (4, 8), Event::SoundStartedSmall);
-    note(found, idle && sizes == (256, 1024), Event::SoundStartedLargest);
-    let used = state.resources.len();
-    note(found, sizes == (64, 256) && used == 32, Event::SoundHalf);
-    note(found, sizes == (64, 256) && used == 64, Event::SoundFull);
-    note(found, sizes == (256, 1024) && used == 128, Event::SoundLargestHalf);
-    note(found, sizes == (256, 1024) && used == 256 && state.free_locks.is_empty(), Event::SoundLargestFull);
+    note(found, idle && is(SMALLEST), Event::SoundStartedSmallest);
+    note(found, idle && is(SMALL), Event::SoundStartedSmall);
+    note(found, idle && is(LARGEST), Event::SoundStartedLargest);
+    let half = state.resources.len() as u32 == state.most_resources / 2;
+    let full = state.free_resources.is_empty();
+    note(found, is(MIDDLE) && half, Event::SoundHalf);
+    note(found, is(MIDDLE) && full, Event::SoundFull);
+    note(found, is(LARGEST) && half, Event::SoundLargestHalf);
+    note(found, is(LARGEST) && full && state.free_locks.is_empty(), Event::SoundLargestFull);
     note(found, !upward(&state.free_resources) && !upward(&state.free_locks), Event::SoundFreeChains);
     note(found, state.resources.values().any(|resource| !resource.valid), Event::SoundNotValid);
     sound_locks(state, found);
@@ -220,7 +228,7 @@ fn sound_locks(state: &State, found: &mut Vec<Event>) {
     };
     note(found, asks(|held, asked| held != asked && held.down_to(asked)), Event::SoundAsksForLess);
     note(found, asks(|held, asked| held == asked), Event::SoundAsksForSame);
-    note(found, state.locks.values().any(|lock| lock.client == 255), Event::SoundClient255);
+    note(found, state.locks.values().any(|lock| u32::from(lock.client) == MOST_CLIENT), Event::SoundClient255);
     note(found, !upward(&state.notices), Event::SoundNotices);
     let place = |lock: &u32| state.blocked.iter().position(|other| other == lock);
     let otherwise = |queue: &VecDeque<u32>| !queue.iter().map(place).is_sorted();
@@ -231,7 +239,7 @@ fn sound_locks(state: &State, found: &mut Vec<Event>) {
 fn sound_names(state: &State, found: &mut Vec<Event>) {
     let names: BTreeSet<&[u8]> = state.resources.values().map(|resource| &resource.name[..]).collect();
     let lower: BTreeSet<Vec<u8>> = names.iter().map(|name| name.to_ascii_lowercase()).collect();
-    note(found, names.iter().any(|name| name.len() == 64), Event::SoundLongestName);
+    note(found, names.iter().any(|name| name.len() == NAME_BYTES), Event::SoundLongestName);
     let shorter = |name: &[u8]| name.strip_suffix(&[0]).is_some_and(|shorter| names.contains(shorter));
     note(found, names.iter().any(|name| shorter(name)), Event::SoundZeroName);
     note(found, lower.len() < names.len(), Event::SoundNamesByCase);
@@ -245,7 +253,8 @@ fn sound_names(state: &State, found: &mut Vec<Event>) {
 struct Notes<'a> {
     before: &'a State,
     after: &'a State,
-    answer: u64,
+    result: u32,
+    lock: u32,
 }
 
 /// Adds an event if something is so.
@@ -289,9 +298,9 @@ impl Notes<'_> {
     }
 
     fn request(&self, mode: u32, flags: u32, name: &[u8], found: &mut Vec<Event>) {
-        note(found, name.len() == 64, Event::LongestName);
+        note(found, name.len() == NAME_BYTES, Event::LongestName);
         note(found, name.last() == Some(&0), Event::NameEndsInZero);
-        let granted = self.answer >> 32 == 1;
+        let granted = self.result == 1;
         note(found, granted && flags == 4, Event::DontQueueGranted);
         let Some(resource) = self.before.named(name) else {
             let mut used = self.before.resources.values().map(|resource| &resource.name);
@@ -317,7 +326,7 @@ impl Notes<'_> {
             return;
         };
         let down = old.down_to(new);
-        let granted = self.answer == 1;
+        let granted = self.result == 1;
         let between_pr_and_cw = matches!((old, new), (Mode::Pr, Mode::Cw) | (Mode::Cw, Mode::Pr));
         note(found, old == new, Event::ConvertSame);
         note(found, down && old != new && !queues.converting.is_empty(), Event::ConvertDownPastQueue);
@@ -349,7 +358,7 @@ impl Notes<'_> {
         note(found, acts && flags & 2 != 0 && queues.valid, Event::ConvertInvalidates);
         note(found, set && !old.writes_value(), Event::ConvertFlagLowMode);
         note(found, set && old.writes_value() && !acts, Event::ConvertFlagNotSmaller);
-        note(found, set && self.answer == 2, Event::ConvertFlagQueued);
+        note(found, set && self.result == 2, Event::ConvertFlagQueued);
     }
 
     fn release(&self, lock: u32, flags: u32, found: &mut Vec<Event>) {
@@ -389,7 +398,7 @@ impl Notes<'_> {
 
     fn purge(&self, client: u32, found: &mut Vec<Event>) {
         let its: Vec<&Lock> = self.before.locks.values().filter(|lock| u32::from(lock.client) == client).collect();
-        note(found, self.answer >= 5, Event::PurgeMany);
+        note(found, self.result >= 5, Event::PurgeMany);
         note(found, its.iter().any(|lock| lock.standing == Standing::Denied), Event::PurgeDenied);
         note(found, its.iter().any(|lock| lock.held().is_some() && lock.completion() != 0), Event::PurgeUnread);
         note(found, its.iter().any(|lock| lock.blocked()), Event::PurgeBlocked);
@@ -408,7 +417,7 @@ impl Notes<'_> {
     }
 
     fn break_deadlock(&self, found: &mut Vec<Event>) {
-        let denied = self.answer as u32;
+        let denied = self.result;
         if denied == 0 {
             let none = self.before.blocked.is_empty();
             return found.push(if none { Event::BreakNoneBlocked } else { Event::BreakNoDeadlock });
@@ -466,7 +475,7 @@ impl Notes<'_> {
     }
 
     fn poll(&self, found: &mut Vec<Event>) {
-        let lock = self.answer as u32;
+        let lock = self.lock;
         note(found, lock == 0 && !self.before.notices.is_empty(), Event::PollOthers);
         note(found, lock != 0 && self.before.notices.front() != Some(&lock), Event::PollNotFirst);
         let client = self.before.locks.get(&lock).map(|lock| lock.client);
@@ -480,10 +489,10 @@ impl Notes<'_> {
     fn read(&self, lock: u32, room: usize, found: &mut Vec<Event>) {
         let (_, queues) = self.queues(lock);
         note(found, !queues.valid, Event::ReadNotValid);
-        note(found, queues.value != [0; 32], Event::ReadStored);
+        note(found, queues.value != [0; VALUE_BYTES], Event::ReadStored);
         note(found, self.was(lock).blocked(), Event::ReadConverting);
         note(found, self.was(lock).completion() != 0, Event::ReadUnread);
-        note(found, room < 32, Event::ReadLittleRoom);
+        note(found, room < VALUE_BYTES, Event::ReadLittleRoom);
     }
 
     fn list(&self, lock: u32, room: usize, found: &mut Vec<Event>) {
@@ -501,7 +510,7 @@ impl Notes<'_> {
             return found.push(Event::HolderUnknown);
         };
         let mut converting = self.before.resources[&resource].converting.iter();
-        note(found, self.answer == 0, Event::HolderNobody);
+        note(found, self.result == 0, Event::HolderNobody);
         note(found, converting.any(|lock| self.was(*lock).held() == Some(Mode::Ex)), Event::HolderConverting);
     }
 }

@@ -3,6 +3,7 @@
 use crate::call::Call;
 use crate::manager::{Manager, Tables, refusal};
 use crate::play::{Board, Difference};
+use model::layout::VALUE_BYTES;
 use std::collections::HashSet;
 
 /// What was looked at.
@@ -38,7 +39,11 @@ fn calls(resources: u32, locks: u32) -> Vec<Call> {
             calls.extend(names.iter().flat_map(|name| [request(name, 0), request(name, 4)]));
         }
         for lock in 1..=locks {
-            calls.extend([Call::Cancel { client, lock }, Call::Read { client, lock, room: 32 }, Call::List { client, lock, room: 4 }]);
+            calls.extend([
+                Call::Cancel { client, lock },
+                Call::Read { client, lock, room: VALUE_BYTES },
+                Call::List { client, lock, room: 4 },
+            ]);
             calls.extend([0, 2].map(|flags| Call::Release { client, lock, flags, value: Vec::new() }));
             calls.extend(MODES.flat_map(|mode| [0, 6].map(|flags| Call::Convert { client, lock, mode, flags, value: Vec::new() })));
         }
@@ -53,8 +58,7 @@ pub fn explore(
     (resources, locks): (u32, u32),
     most: usize,
 ) -> Result<Explored, (Vec<Call>, Difference)> {
-    let words = 8 + 8 * resources as usize + 9 * locks as usize;
-    let start = Call::Start { resources, locks, words, slots: 96 * resources as usize };
+    let start = Call::start(resources, locks);
     let mut board = Board::new(first, second);
     board.play(&start).map_err(|difference| (vec![start.clone()], difference))?;
     let mut seen = HashSet::from([board.tables().bytes()]);

@@ -5,7 +5,9 @@ use crate::damage::Damager;
 use crate::damages::DAMAGES;
 use crate::manager::Tables;
 use crate::rng::Rng;
-use crate::states::{Filling, random, varied};
+use crate::sizes::{BUFFERS, LARGEST, MIDDLE, SMALL, SMALLEST, Sizes, fitting, lengths, over};
+use crate::states::{Filling, VARIED, random, varied};
+use model::layout::{self, MOST_CLIENT, MOST_LOCKS, MOST_RESOURCES, NAME_BYTES, SLOT_BYTES, VALUE_BYTES, WORD_BYTES};
 use model::{Lock, State};
 
 /// What a game's next call may be, with how often it comes. A game multiplies these by numbers of its own.
@@ -51,11 +53,12 @@ const MODES: [[usize; 6]; 6] =
     [[1, 1, 1, 1, 1, 1], [1, 1, 1, 1, 4, 8], [1, 2, 1, 8, 1, 2], [6, 1, 1, 2, 2, 4], [1, 1, 6, 6, 1, 1], [2, 6, 2, 2, 6, 1]];
 
 /// The kinds of sizes: how often, the most resources and locks, and the most calls.
-const SIZES: [(usize, usize, usize, usize); 5] = [(5, 1, 1, 60), (43, 4, 8, 300), (32, 8, 32, 260), (14, 64, 256, 120), (6, 256, 1024, 60)];
+const SIZES: [(usize, Sizes, usize); 5] = [(5, SMALLEST, 60), (43, SMALL, 300), (32, VARIED, 260), (14, MIDDLE, 120), (6, LARGEST, 60)];
 
-/// The sizes of chosen games: the smallest tables, lockplay's, tables of 128, 129, 3,072 and 3,073 words, which are the edges of the buffers
-/// into which the library decodes an image, some between these, and the largest.
-const CHOSEN_SIZES: [(u32, u32); 9] = [(1, 1), (4, 8), (6, 8), (14, 1), (64, 256), (248, 120), (247, 121), (200, 500), (256, 1024)];
+/// The sizes of chosen games: the smallest tables, lockplay's, those at the edges of the buffers into which the library decodes an image, some
+/// between these, and the largest.
+const CHOSEN_SIZES: [Sizes; 9] =
+    [SMALLEST, SMALL, fitting(BUFFERS[0]), over(BUFFERS[0]), MIDDLE, fitting(BUFFERS[1]), over(BUFFERS[1]), (200, 500), LARGEST];
 
 /// How the tables of chosen games are at first.
 const CHOSEN_FILLS: [Fill; 3] = [Fill::Started, Fill::Half, Fill::Full];
@@ -124,14 +127,14 @@ impl Game {
         let mut rng = Rng::new(seed);
         if (SIZED..CHOSEN).contains(&seed) {
             let entry = [Entry::Sound, Entry::Load, Entry::Holder][(seed - SIZED) as usize];
-            return Game::of(rng, (8, 32), Style::Damages(entry), DAMAGES.len() + 2);
+            return Game::of(rng, VARIED, Style::Damages(entry), DAMAGES.len() + 2);
         }
         if seed < SIZED {
             let (sizes, fill) = (seed as usize / CHOSEN_FILLS.len(), seed as usize % CHOSEN_FILLS.len());
             return Game { fill: CHOSEN_FILLS[fill], ..Game::of(rng, CHOSEN_SIZES[sizes], Style::Images, CHOSEN_LENGTH) };
         }
-        let (_, most_resources, most_locks, most_calls) = SIZES[rng.weighted(&SIZES.map(|(weight, ..)| weight))];
-        let sizes = sizes(&mut rng, most_resources, most_locks);
+        let (_, most, most_calls) = SIZES[rng.weighted(&SIZES.map(|(weight, ..)| weight))];
+        let sizes = sizes(&mut rng, most);
         let style = [Style::Plain, Style::Ring, Style::Pile][rng.weighted(&[70, 15, 15])];
         let length = rng.between(most_calls / 3, most_calls);
         Game::of(rng, sizes, style, length)
@@ -146,7 +149,7 @@ impl Game {
         game
     }
 
-    fn of(mut rng: Rng, (resources, locks): (u32, u32), style: Style, length: usize) -> Game {
+    fn of(mut rng: Rng, (resources, locks): Sizes, style: Style, length: usize) -> Game {
         let clients = clients(&mut rng, locks);
         let names = if style == Style::Images { alike_names(resources) } else { names(&mut rng, resources) };
         let modes = match style {
@@ -181,8 +184,7 @@ impl Game {
             fill => fill == Fill::Started,
         };
         if start {
-            let (words, slots) = lengths(resources, locks);
-            return Call::Start { resources, locks, words, slots };
+            return Call::start(resources, locks);
         }
         let used = match self.fill {
             Fill::Half => Some(resources.div_ceil(2)),
@@ -290,7 +292,7 @@ impl Game {
             Action::Poll => Call::Poll { client: self.client_with_notice(state) },
             Action::Read => {
                 let (client, lock) = self.lock(state, |lock| lock.held().is_some());
-                Call::Read { client, lock, room: *self.rng.pick(&[32, 32, 32, 0, 5, 31, 40]) }
+                Call::Read { client, lock, room: self.value_room() }
             }
             Action::List => {
                 let (client, lock) = self.lock(state, |lock| lock.held().is_some());
@@ -322,7 +324,8 @@ impl Game {
     }
 
     fn client(&mut self) -> u32 {
-        if self.is_wild() { *self.rng.pick(&[0, 256, 257, 1 << 16, u32::MAX]) } else { *self.rng.pick(&self.clients) }
+        let wild = [0, MOST_CLIENT + 1, MOST_CLIENT + 2, 1 << 16, u32::MAX];
+        if self.is_wild() { *self.rng.pick(&wild) } else { *self.rng.pick(&self.clients) }
     }
 
     fn client_with_notice(&mut self, state: &State) -> u32 {
@@ -350,21 +353,22 @@ impl Game {
         }
     }
 
-    /// A value for flags: 32 bytes if they store it, mostly.
+    /// A value for flags: of the right length if they store it, mostly.
     fn value(&mut self, flags: u32) -> Vec<u8> {
         let right = flags & 1 != 0 && !self.is_wild() && self.rng.percent(90);
-        let length = if right { 32 } else { *self.rng.pick(&[0, 0, 31, 33, 32, 64]) };
+        let others = [0, 0, VALUE_BYTES - 1, VALUE_BYTES + 1, VALUE_BYTES, 2 * VALUE_BYTES];
+        let length = if right { VALUE_BYTES } else { *self.rng.pick(&others) };
         self.rng.bytes(length)
     }
 
     /// A name in use in this game, the first ones more often; seldom another, or one of a wrong length.
     fn name(&mut self) -> Vec<u8> {
         if self.is_wild() || self.style == Style::Images && self.rng.percent(12) {
-            let length = *self.rng.pick(&[0, 65, 66, 200]);
+            let length = *self.rng.pick(&[0, NAME_BYTES + 1, NAME_BYTES + 2, 200]);
             return self.rng.bytes(length);
         }
         if self.rng.percent(3) {
-            let length = self.rng.between(1, 64);
+            let length = self.rng.between(1, NAME_BYTES);
             return self.rng.bytes(length);
         }
         let hot = match self.style {
@@ -380,7 +384,7 @@ impl Game {
     fn lock(&mut self, state: &State, fits: impl Fn(&Lock) -> bool) -> (u32, u32) {
         let client = self.client();
         if self.is_wild() {
-            let number = *self.rng.pick(&[0, state.most_locks + 1, 1025, u32::MAX]);
+            let number = *self.rng.pick(&[0, state.most_locks + 1, MOST_LOCKS + 1, u32::MAX]);
             return (client, number);
         }
         let any = self.rng.percent(18);
@@ -391,6 +395,11 @@ impl Game {
         let number = *self.rng.pick(&chosen);
         let owner = u32::from(state.locks[&number].client);
         (if self.is_wild() || self.rng.percent(2) { client } else { owner }, number)
+    }
+
+    /// Room for a value: just right mostly, none, too little, or too much.
+    fn value_room(&mut self) -> usize {
+        *self.rng.pick(&[VALUE_BYTES, VALUE_BYTES, VALUE_BYTES, 0, 5, VALUE_BYTES - 1, VALUE_BYTES + 8])
     }
 
     /// Room for a list: just right, too little, none, one too many, or plenty.
@@ -408,8 +417,8 @@ impl Game {
 
     fn image_room(&mut self, state: &State) -> usize {
         let (words, slots) = lengths(state.most_resources, state.most_locks);
-        let right = 4 * words + slots;
-        if self.rng.percent(80) { right } else { *self.rng.pick(&[0, right - 1, right + 1, right + 4, words]) }
+        let right = layout::image(words, slots);
+        if self.rng.percent(80) { right } else { *self.rng.pick(&[0, right - 1, right + 1, right + WORD_BYTES, words]) }
     }
 
     /// The image of the tables, mostly of the right length, or of a random state.
@@ -418,21 +427,22 @@ impl Game {
             let Call::Load { image, .. } = self.load_random(self.resources, self.locks, None) else { unreachable!("a load") };
             return image;
         }
-        let longer_by = if self.rng.percent(88) { 0 } else { *self.rng.pick(&[-1, 1, -96, 96, -4, 4, -100_000]) };
+        let (slot, word) = (SLOT_BYTES as isize, WORD_BYTES as isize);
+        let longer_by = if self.rng.percent(88) { 0 } else { *self.rng.pick(&[-1, 1, -slot, slot, -word, word, -100_000]) };
         Image::OfTables { changes: Changes::default(), longer_by }
     }
 
     /// A load of the tables' image, or of a random state; seldom into tables of wrong lengths.
     fn load(&mut self, state: &State) -> Call {
         if self.rng.percent(15) {
-            let (resources, locks) = sizes(&mut self.rng, self.resources as usize, self.locks as usize);
+            let (resources, locks) = sizes(&mut self.rng, (self.resources, self.locks));
             return self.load_random(resources, locks, None);
         }
         let (words, slots) = lengths(state.most_resources, state.most_locks);
         let (words, slots) = match self.rng.below(8) {
             0 => (words + 1, slots),
             1 => (words - 1, slots),
-            2 => (words, slots + 96),
+            2 => (words, slots + SLOT_BYTES),
             3 => (0, 0),
             _ => (words, slots),
         };
@@ -449,15 +459,15 @@ impl Game {
         let (resources, locks) = (self.resources, self.locks);
         let (words, slots) = lengths(resources, locks);
         match self.rng.below(12) {
-            0 => Call::Start { resources, locks, words, slots },
-            1 => Call::Start { resources: 0, locks, words: words - 8 * resources as usize, slots: 0 },
-            2 => Call::Start { resources, locks: 0, words: words - 9 * locks as usize, slots },
-            3 => Call::Start { resources: 257, locks, words: lengths(257, locks).0, slots: lengths(257, locks).1 },
-            4 => Call::Start { resources, locks: 1025, words: lengths(resources, 1025).0, slots },
+            0 => Call::start(resources, locks),
+            1 => Call::start(0, locks),
+            2 => Call::start(resources, 0),
+            3 => Call::start(MOST_RESOURCES + 1, locks),
+            4 => Call::start(resources, MOST_LOCKS + 1),
             5 => Call::Start { resources, locks, words: words + 1, slots },
             6 => Call::Start { resources, locks, words: words - 1, slots },
             7 => Call::Start { resources, locks, words, slots: slots - 1 },
-            8 => Call::Start { resources, locks, words, slots: slots + 96 },
+            8 => Call::Start { resources, locks, words, slots: slots + SLOT_BYTES },
             9 => Call::Start { resources: u32::MAX, locks: u32::MAX, words, slots },
             10 => Call::Start { resources, locks, words: 0, slots: 0 },
             _ => Call::Start { resources: resources + 9, locks, words, slots },
@@ -479,25 +489,20 @@ fn has_lock_on(state: &State, client: u32, name: &[u8]) -> bool {
     resource.is_some_and(|resource| resource.locks().any(|lock| u32::from(state.locks[&lock].client) == client))
 }
 
-/// The lengths of tables in words and slot bytes.
-fn lengths(resources: u32, locks: u32) -> (usize, usize) {
-    (8 + 8 * resources as usize + 9 * locks as usize, 96 * resources as usize)
-}
-
 /// Sizes up to the most of a kind, the most itself often.
-fn sizes(rng: &mut Rng, most_resources: usize, most_locks: usize) -> (u32, u32) {
+fn sizes(rng: &mut Rng, most: Sizes) -> Sizes {
     if rng.percent(30) {
-        return (most_resources as u32, most_locks as u32);
+        return most;
     }
-    (rng.between(1, most_resources) as u32, rng.between(1, most_locks) as u32)
+    (rng.between(1, most.0 as usize) as u32, rng.between(1, most.1 as usize) as u32)
 }
 
 /// Few clients, so that they meet.
 fn clients(rng: &mut Rng, locks: u32) -> Vec<u32> {
     let count = rng.between(1, if locks > 64 { 30 } else { 5 });
-    let mut clients: Vec<u32> = (0..count).map(|_| rng.between(1, 255) as u32).collect();
+    let mut clients: Vec<u32> = (0..count).map(|_| rng.between(1, MOST_CLIENT as usize) as u32).collect();
     if rng.percent(30) {
-        clients.push(255);
+        clients.push(MOST_CLIENT);
         clients.push(1);
     }
     clients
@@ -515,9 +520,13 @@ fn names(rng: &mut Rng, resources: u32) -> Vec<Vec<u8>> {
     names
 }
 
-/// Names of 64 bytes of which the first 60 are alike.
+/// Names of the most bytes, of which the last four differ.
 fn alike_names(resources: u32) -> Vec<Vec<u8>> {
-    (0..resources).map(|at| format!("{}{at:04}", "x".repeat(60)).into_bytes()).collect()
+    (0..resources as usize).map(alike_name).collect()
+}
+
+fn alike_name(at: usize) -> Vec<u8> {
+    format!("{}{at:04}", "x".repeat(NAME_BYTES - 4)).into_bytes()
 }
 
 /// Names of which eight differ in the case of their letters alone.
@@ -528,12 +537,12 @@ fn by_case(at: usize) -> Vec<u8> {
 
 fn name_of_style(rng: &mut Rng, style: usize, at: usize) -> Vec<u8> {
     match style {
-        0 => format!("{}{at:04}", "x".repeat(60)).into_bytes(),
+        0 => alike_name(at),
         1 => [vec![b'a'; 1 + at / 2 % 32], format!("{}", at / 64).into_bytes(), vec![0; at % 2]].concat(),
-        2 => vec![0; 1 + at % 64],
+        2 => vec![0; 1 + at % NAME_BYTES],
         3 => by_case(at),
         _ => {
-            let length = rng.between(2, 64);
+            let length = rng.between(2, NAME_BYTES);
             rng.bytes(length)
         }
     }

@@ -1,8 +1,9 @@
 //! Inputs for lockplay: chosen ones, and random scripts of calls of which some are malformed.
 
 use crate::generate::Game;
-use crate::lines::{BAD_NUMBERS, line_of, places, takes, wrong_counts};
+use crate::lines::{AT_ONCE, BAD_NUMBERS, line_of, places, takes, wrong_counts};
 use crate::rng::Rng;
+use model::layout::NAME_BYTES;
 use model::lockplay::{LONGEST, Run};
 
 /// An input, and what it is.
@@ -45,23 +46,33 @@ fn bad_counts() -> Vec<u8> {
     ended(wrong_counts().map(line))
 }
 
+/// A request without its name.
+const UNNAMED: &[u8] = b"q 1 5 0 ";
+
+/// The length of a request whose name has the most bytes.
+const LONGEST_NAMED: usize = UNNAMED.len() + NAME_BYTES;
+
 /// A request whose line has so many bytes.
 fn request_of(length: usize) -> Vec<u8> {
-    [b"q 1 5 0 ".to_vec(), vec![b'l'; length.saturating_sub(8)]].concat()
+    [UNNAMED.to_vec(), vec![b'l'; length.saturating_sub(UNNAMED.len())]].concat()
 }
 
-/// Lines of lengths around what a line may have, what is read at once and what a pipe holds.
+/// Lines of lengths around what a name and a line may have, what is read at once and what a pipe holds.
 fn lengths() -> Vec<u8> {
-    let lengths = [8, 9, 72, 73, 255, LONGEST, 257, 258, 1023, 1024, 1025, 2048, 5000, 70_000];
+    let around_name = [UNNAMED.len(), UNNAMED.len() + 1, LONGEST_NAMED, LONGEST_NAMED + 1];
+    let around_line = [LONGEST - 1, LONGEST, LONGEST + 1, LONGEST + 2];
+    let larger = [AT_ONCE - 1, AT_ONCE, AT_ONCE + 1, 2 * AT_ONCE, 5000, 70_000];
+    let lengths = around_name.into_iter().chain(around_line).chain(larger);
     let blank = |length: usize| [b"d".to_vec(), vec![b' '; length - 1]].concat();
-    ended(lengths.into_iter().flat_map(|length| [request_of(length), blank(length), b"d".to_vec()]))
+    ended(lengths.flat_map(|length| [request_of(length), blank(length), b"d".to_vec()]))
 }
 
-/// Lines that lie across the end of the first 1,024 bytes, at each of their bytes.
+/// Lines that lie across the end of the bytes that are read at once, at each of their bytes. They begin 24 bytes before it.
 fn edges() -> Vec<Input> {
-    let before = b"n 1\n".repeat(250);
+    let none = b"n 1\n";
+    let before = none.repeat((AT_ONCE - 24) / none.len());
     let input = |length: usize| [before.clone(), ended([request_of(length), b"q 2 0 0 a".to_vec(), b"n 2".to_vec()])].concat();
-    (8..40).map(|length| Input::new("a line across 1,024 bytes", input(length))).collect()
+    (UNNAMED.len()..40).map(|length| Input::new("a line across 1,024 bytes", input(length))).collect()
 }
 
 /// Each byte as a line, as a name, as a number, behind a number and as a letter.
@@ -74,7 +85,7 @@ fn bytes() -> Vec<u8> {
 /// Inputs whose last line has no byte 10.
 fn last_lines() -> Vec<Input> {
     let lasts: [&[u8]; 12] = [b"q 1 5 0 a", b"q 1 5 0 ", b"c 1 1 0 0", b"r 1 1 0", b"x 1 1", b"p 1", b"d", b"n 1", b"z", b"q", b" ", b"\r"];
-    let long = [request_of(LONGEST), request_of(257), request_of(3000), b"q 1 5 0 n".repeat(200)];
+    let long = [request_of(LONGEST), request_of(LONGEST + 1), request_of(3000), b"q 1 5 0 n".repeat(200)];
     let all = lasts.iter().map(|last| last.to_vec()).chain(long);
     let input = |last: Vec<u8>| [Input::new("a last line alone", last.clone()), Input::new("a last line", [SAMPLE, &last].concat())];
     all.flat_map(input).collect()
@@ -141,7 +152,7 @@ fn spoiled(rng: &mut Rng, mut line: Vec<u8>) -> Vec<u8> {
         7 => line.clear(),
         8 => line.extend(rng.bytes(300)),
         9 => {
-            let length = *rng.pick(&[72, 73, LONGEST, 257, 1024, 3000]);
+            let length = *rng.pick(&[LONGEST_NAMED, LONGEST_NAMED + 1, LONGEST, LONGEST + 1, AT_ONCE, 3000]);
             line.resize(length, b'n');
         }
         10 | 11 => line = with_number(rng, &line, |field| padded(field, 9)),

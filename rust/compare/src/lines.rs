@@ -3,9 +3,10 @@
 use crate::call::{Call, Entry};
 use crate::counts::CallCounts;
 use crate::events::{Event, events};
-use crate::manager::{REFUSED, Tables};
+use crate::manager::{Tables, accepted, refused};
 use crate::refusals::Given;
 use crate::tally::Tally;
+use model::layout::NAME_BYTES;
 use model::lockplay::{Asked, LONGEST, Reply, Run, asked, lines};
 use std::fmt;
 
@@ -55,6 +56,9 @@ impl<'a> Seen<'a> {
 
 const LETTERS: &[u8] = b"qcrxpdn";
 
+/// How many bytes lockplay reads at once, at most.
+pub const AT_ONCE: usize = 1024;
+
 /// A kind of line: its label, and which lines are of it.
 type Kind = (&'static str, fn(&Seen) -> bool);
 
@@ -62,9 +66,9 @@ type Kind = (&'static str, fn(&Seen) -> bool);
 const KINDS: &[Kind] = &[
     ("q: a name", |s| s.named(|name| !name.is_empty())),
     ("q: an empty name", |s| s.named(|name| name.is_empty())),
-    ("q: a name of 64 bytes", |s| s.named(|name| name.len() == 64)),
-    ("q: a name of 65 bytes", |s| s.named(|name| name.len() == 65)),
-    ("q: a name of more than 65 bytes", |s| s.named(|name| name.len() > 65)),
+    ("q: a name of 64 bytes", |s| s.named(|name| name.len() == NAME_BYTES)),
+    ("q: a name of 65 bytes", |s| s.named(|name| name.len() == NAME_BYTES + 1)),
+    ("q: a name of more than 65 bytes", |s| s.named(|name| name.len() > NAME_BYTES + 1)),
     ("q: a name with a space in it", |s| s.named(|name| name.trim_ascii() == name && name.contains(&b' '))),
     ("q: a name with two spaces side by side", |s| s.named(|name| name.windows(2).any(|two| two == b"  "))),
     ("q: a name that begins with a space", |s| s.named(|name| name.starts_with(b" "))),
@@ -102,9 +106,9 @@ const KINDS: &[Kind] = &[
     ("other: a byte above 127", |s| s.other() && !s.line.is_ascii()),
     ("other: a printed line", |s| s.line == b"?"),
     ("other: 256 bytes", |s| s.other() && s.line.len() == LONGEST),
-    ("other: a call but for its 257 bytes", |s| s.line.len() == 257 && s.but_for(|line| line[..256].to_vec())),
-    ("other: over 1,024 bytes", |s| s.line.len() > 1024),
-    ("other: over 4,096 bytes", |s| s.line.len() > 4096),
+    ("other: a call but for its 257 bytes", |s| s.line.len() == LONGEST + 1 && s.but_for(|line| line[..LONGEST].to_vec())),
+    ("other: over 1,024 bytes", |s| s.line.len() > AT_ONCE),
+    ("other: over 4,096 bytes", |s| s.line.len() > 4 * AT_ONCE),
 ];
 
 /// A line with one piece replaced wherever it stands.
@@ -275,8 +279,8 @@ impl LineCounts {
 
     fn add_call(&mut self, call: &Call, before: &model::State, reply: &Reply, run: &Run) {
         let (answer, refused) = match reply {
-            Reply::Answer(numbers) => (numbers.iter().fold(0, |answer, number| answer << 32 | u64::from(*number)), None),
-            Reply::Refused(refused) => (REFUSED | u64::from(refused.0), Some(refused.0)),
+            Reply::Answer(numbers) => (accepted(numbers[0], numbers.get(1).copied().unwrap_or(0)), None),
+            Reply::Refused(refusal) => (refused(refusal.0), Some(refusal.0)),
             Reply::AnotherForm => return,
         };
         let (words, slots) = (Vec::new(), Vec::new());

@@ -1,7 +1,7 @@
 //! Compares the program lockplay with the model: what it prints for chosen and random inputs, whichever way they reach it.
 
 use crate::inputs::{self, Input};
-use crate::lines::LineCounts;
+use crate::lines::{AT_ONCE, LineCounts};
 use crate::play::shrink;
 use crate::program::{Program, Way, pieces};
 use crate::rng::Rng;
@@ -48,16 +48,16 @@ impl Counts {
     }
 
     fn add_input(&mut self, input: &[u8]) {
-        let across = input.len() > 1024 && input[1023] != 10;
+        let across = input.len() > AT_ONCE && input[AT_ONCE - 1] != 10;
         let so = [
             input.is_empty(),
             input == [10],
             input.ends_with(&[10]),
             !input.is_empty() && !input.ends_with(&[10]),
-            input.len() > 1024,
+            input.len() > AT_ONCE,
             input.len() > 65_536,
-            input.get(1023) == Some(&10),
-            across && input[1024] != 10,
+            input.get(AT_ONCE - 1) == Some(&10),
+            across && input[AT_ONCE] != 10,
         ];
         self.met.add_all(MET.iter().zip(so).filter(|(_, so)| *so).map(|(what, _)| *what));
     }
@@ -193,7 +193,7 @@ impl Counts {
 #[cfg(test)]
 mod tests {
     use super::*;
-    use model::lockplay::{lines, printed};
+    use model::lockplay::{LONGEST, lines, printed};
 
     /// A program that is the model, but for what it does to an input or to what is printed.
     struct Faulty {
@@ -230,7 +230,7 @@ mod tests {
         let same: fn(&str) -> String = str::to_string;
         assert!(!found(<[u8]>::to_vec, same));
         assert!(found(|input| each(input, |line| line.strip_suffix(b"\r").unwrap_or(line).to_vec()), same), "byte 13 is cut");
-        assert!(found(|input| each(input, |line| line[..line.len().min(256)].to_vec()), same), "long lines are cut");
+        assert!(found(|input| each(input, |line| line[..line.len().min(LONGEST)].to_vec()), same), "long lines are cut");
         assert!(found(|input| each(input, <[u8]>::to_ascii_lowercase), same), "capital letters are taken");
         assert!(found(|input| each(input, |line| line.trim_ascii_end().to_vec()), same), "spaces at the end are cut");
         assert!(found(|input| input.iter().copied().filter(|byte| *byte != 0).collect(), same), "zero bytes are left out");

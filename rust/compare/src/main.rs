@@ -19,6 +19,7 @@ mod refusals;
 mod rng;
 mod scenario;
 mod scripts;
+mod sizes;
 mod states;
 mod tally;
 
@@ -278,6 +279,8 @@ mod tests {
     use super::*;
     use crate::call::Change;
     use crate::manager::{Listed, Tables};
+    use crate::sizes::BUFFERS;
+    use model::layout::{MOST_CLIENT, NAME_BYTES, header};
 
     /// Plays games of a seed until there were enough calls, or the first that fails.
     fn play(other: &dyn Manager, seed: u64, enough: u64) -> Result<Counts, Failed> {
@@ -339,7 +342,7 @@ mod tests {
 
         fn purge(&self, t: &mut Tables, client: u32) -> u64 {
             match (self.0, Flat.purge(t, client)) {
-                (Mistake::PurgeCount, count @ 2..=1024) => count - 1,
+                (Mistake::PurgeCount, count) if count >= 2 && refusal(count).is_none() => count - 1,
                 (_, answer) => answer,
             }
         }
@@ -370,7 +373,7 @@ mod tests {
 
         fn sound(&self, t: &Tables) -> u32 {
             let mut eased = t.clone();
-            if let (Mistake::Soundness, Some(word)) = (self.0, eased.words.get_mut(7)) {
+            if let (Mistake::Soundness, Some(word)) = (self.0, eased.words.get_mut(header::ZERO)) {
                 *word = 0;
             }
             Flat.sound(&eased)
@@ -423,8 +426,8 @@ mod tests {
             let filling = states::Filling { resources: 2, locks: 5, clients: &[1, 2], names: &names, used: None };
             let (words, slots) = states::random(&mut rng, &filling).to_tables();
             let tables = Tables { words, slots };
-            let words =
-                (0..tables.words.len()).flat_map(|at| (0..=6).chain([64, 65, 255, 256, u32::MAX]).map(move |to| Change::Word(at, to)));
+            let edges = [NAME_BYTES as u32, NAME_BYTES as u32 + 1, MOST_CLIENT, MOST_CLIENT + 1, u32::MAX];
+            let words = (0..tables.words.len()).flat_map(|at| (0..=6).chain(edges).map(move |to| Change::Word(at, to)));
             let bytes = (0..tables.slots.len()).flat_map(|at| [0, b'a', b'b'].map(|to| Change::Byte(at, to)));
             for change in words.chain(bytes) {
                 let mut changed = tables.clone();
@@ -441,12 +444,13 @@ mod tests {
     fn what_never_occurred_is_told() {
         let counts = Counts::default();
         let missing = counts.missing();
+        let too_large = format!("load of an image of {} words, accepted", sizes::words(sizes::over(BUFFERS[1])));
         for expected in [
             "poll answering 3",
             "request refused with 13: behind a conversion",
             "convert refused with 7 where 8 fits as well",
             "the damage \"a convert head kept waiting by its own mode alone\" of tables",
-            "load of an image of 3073 words, accepted",
+            &too_large,
             "sound: started tables of R 256, L 1024",
         ] {
             assert!(missing.iter().any(|what| what == expected), "{expected}");

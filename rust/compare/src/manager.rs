@@ -1,6 +1,7 @@
 //! What is compared: lock managers over lent tables, with the answers of the C interface.
 
 use flat::Refused;
+use model::layout::Value;
 
 /// The lent tables of one manager.
 #[derive(Clone, Debug, PartialEq, Eq)]
@@ -21,8 +22,8 @@ impl Tables {
     }
 }
 
-/// A lock manager. Answers are those of zamgyorud.h: a refusal has the highest bit set and its number below; request and poll give two
-/// numbers, the upper half the first. A call may change only what its `&mut` arguments lend.
+/// A lock manager. Answers are those of zamgyorud.h: a refusal has the highest bit set and its number below; otherwise the result is in bits 0
+/// to 15 and the lock in bits 16 to 31. A call may change only what its `&mut` arguments lend.
 pub trait Manager {
     fn start(&self, tables: &mut Tables, resources: u32, locks: u32) -> u64;
     fn request(&self, tables: &mut Tables, client: u32, mode: u32, flags: u32, name: &[u8]) -> u64;
@@ -46,29 +47,50 @@ pub trait Manager {
 pub type Listed = [u32; 5];
 
 /// The highest bit of an answer: it is a refusal.
-pub const REFUSED: u64 = 1 << 63;
+const REFUSED: u64 = 1 << 63;
 
 /// The number of the refusal in an answer, if it is one.
 pub fn refusal(answer: u64) -> Option<u32> {
     (answer & REFUSED != 0).then_some(answer as u32)
 }
 
-fn refused(number: u32) -> u64 {
+/// A refused call's answer.
+pub fn refused(number: u32) -> u64 {
     REFUSED | u64::from(number)
 }
 
-/// An answer of one number.
-fn one(answer: Result<u32, Refused>) -> u64 {
-    answer.map_or_else(refused, u64::from)
+/// An accepted call's answer.
+pub fn accepted(result: u32, lock: u32) -> u64 {
+    u64::from(lock) << 16 | u64::from(result)
 }
 
-/// An answer of two numbers.
+/// The result in an accepted call's answer.
+pub fn result(answer: u64) -> u32 {
+    u32::from(answer as u16)
+}
+
+/// The lock in an accepted call's answer.
+pub fn lock(answer: u64) -> u32 {
+    result(answer >> 16)
+}
+
+/// An answer of a result alone.
+fn one(answer: Result<u32, Refused>) -> u64 {
+    two(answer.map(|result| (result, 0)))
+}
+
+/// An answer of a result and a lock.
 fn two(answer: Result<(u32, u32), Refused>) -> u64 {
-    answer.map_or_else(refused, |(first, second)| u64::from(first) << 32 | u64::from(second))
+    answer.map_or_else(refused, |(result, lock)| accepted(result, lock))
+}
+
+/// Break's answer: the denied lock is its result and its lock.
+fn denied(answer: Result<u32, Refused>) -> u64 {
+    two(answer.map(|lock| (lock, lock)))
 }
 
 /// Puts what read gives into an area, and gives its answer. A refused read leaves the area as it is.
-fn put_value(answer: Result<([u8; 32], bool), Refused>, area: &mut [u8]) -> u64 {
+fn put_value(answer: Result<(Value, bool), Refused>, area: &mut [u8]) -> u64 {
     one(answer.map(|(value, valid)| {
         area.iter_mut().zip(value).for_each(|(byte, new)| *byte = new);
         u32::from(valid)
@@ -120,7 +142,7 @@ impl Manager for Model {
     }
 
     fn break_deadlock(&self, t: &mut Tables) -> u64 {
-        one(model::entries::break_deadlock(&mut t.words, &mut t.slots).map_err(|refused| refused.0))
+        denied(model::entries::break_deadlock(&mut t.words, &mut t.slots).map_err(|refused| refused.0))
     }
 
     fn poll(&self, t: &mut Tables, client: u32) -> u64 {
@@ -187,7 +209,7 @@ impl Manager for Flat {
     }
 
     fn break_deadlock(&self, t: &mut Tables) -> u64 {
-        one(flat::break_deadlock(&mut t.words, &t.slots))
+        denied(flat::break_deadlock(&mut t.words, &t.slots))
     }
 
     fn poll(&self, t: &mut Tables, client: u32) -> u64 {
@@ -226,53 +248,53 @@ pub struct Library;
 #[cfg(feature = "library")]
 impl Manager for Library {
     fn start(&self, t: &mut Tables, resources: u32, locks: u32) -> u64 {
-        zamgyorud::raw::start(&mut t.words, &mut t.slots, resources, locks)
+        zamgyorud::raw::start(&mut t.words, &mut t.slots, resources, locks).bits
     }
 
     fn request(&self, t: &mut Tables, client: u32, mode: u32, flags: u32, name: &[u8]) -> u64 {
-        zamgyorud::raw::request(&mut t.words, &mut t.slots, client, mode, flags, name)
+        zamgyorud::raw::request(&mut t.words, &mut t.slots, client, mode, flags, name).bits
     }
 
     fn convert(&self, t: &mut Tables, client: u32, lock: u32, mode: u32, flags: u32, value: &[u8]) -> u64 {
-        zamgyorud::raw::convert(&mut t.words, &mut t.slots, client, lock, mode, flags, value)
+        zamgyorud::raw::convert(&mut t.words, &mut t.slots, client, lock, mode, flags, value).bits
     }
 
     fn release(&self, t: &mut Tables, client: u32, lock: u32, flags: u32, value: &[u8]) -> u64 {
-        zamgyorud::raw::release(&mut t.words, &mut t.slots, client, lock, flags, value)
+        zamgyorud::raw::release(&mut t.words, &mut t.slots, client, lock, flags, value).bits
     }
 
     fn cancel(&self, t: &mut Tables, client: u32, lock: u32) -> u64 {
-        zamgyorud::raw::cancel(&mut t.words, &t.slots, client, lock)
+        zamgyorud::raw::cancel(&mut t.words, &t.slots, client, lock).bits
     }
 
     fn purge(&self, t: &mut Tables, client: u32) -> u64 {
-        zamgyorud::raw::purge(&mut t.words, &mut t.slots, client)
+        zamgyorud::raw::purge(&mut t.words, &mut t.slots, client).bits
     }
 
     fn break_deadlock(&self, t: &mut Tables) -> u64 {
-        zamgyorud::raw::break_deadlock(&mut t.words, &t.slots)
+        zamgyorud::raw::break_deadlock(&mut t.words, &t.slots).bits
     }
 
     fn poll(&self, t: &mut Tables, client: u32) -> u64 {
-        zamgyorud::raw::poll(&mut t.words, &t.slots, client)
+        zamgyorud::raw::poll(&mut t.words, &t.slots, client).bits
     }
 
     fn read(&self, t: &Tables, client: u32, lock: u32, value: &mut [u8]) -> u64 {
-        zamgyorud::raw::read(&t.words, &t.slots, client, lock, value)
+        zamgyorud::raw::read(&t.words, &t.slots, client, lock, value).bits
     }
 
     fn list(&self, t: &Tables, client: u32, lock: u32, entries: &mut [Listed]) -> u64 {
         let entry = |[number, client, state, held, asked]: Listed| zamgyorud::raw::Entry { number, client, state, held, asked };
         let words = |e: &zamgyorud::raw::Entry| [e.number, e.client, e.state, e.held, e.asked];
-        with_entries(entries, entry, words, |list| zamgyorud::raw::list(&t.words, &t.slots, client, lock, list))
+        with_entries(entries, entry, words, |list| zamgyorud::raw::list(&t.words, &t.slots, client, lock, list).bits)
     }
 
     fn image(&self, t: &Tables, area: &mut [u8]) -> u64 {
-        zamgyorud::raw::image(&t.words, &t.slots, area)
+        zamgyorud::raw::image(&t.words, &t.slots, area).bits
     }
 
     fn load(&self, image: &[u8], t: &mut Tables) -> u64 {
-        zamgyorud::raw::load(image, &mut t.words, &mut t.slots)
+        zamgyorud::raw::load(image, &mut t.words, &mut t.slots).bits
     }
 
     fn sound(&self, t: &Tables) -> u32 {
@@ -280,6 +302,6 @@ impl Manager for Library {
     }
 
     fn holder(&self, image: &[u8], name: &[u8]) -> u32 {
-        zamgyorud::raw::holder(image, name)
+        zamgyorud::raw::holder(image, name).bits
     }
 }

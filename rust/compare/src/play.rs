@@ -1,7 +1,7 @@
 //! Two managers side by side: each call is made on both, and all that they give back or hold is compared.
 
 use crate::call::{Call, damage};
-use crate::manager::{Listed, Manager, Tables, refusal};
+use crate::manager::{Listed, Manager, Tables, lock, refusal, refused, result};
 use std::fmt;
 
 /// What a call gave back, besides what it did to the tables.
@@ -49,9 +49,9 @@ impl fmt::Display for Difference {
 
 fn shown(answer: u64) -> String {
     match refusal(answer) {
-        Some(number) if answer == 1 << 63 | u64::from(number) => format!("refusal {number}"),
+        Some(number) if answer == refused(number) => format!("refusal {number}"),
         Some(_) => format!("{answer:#018x}, a refusal with something beside its number"),
-        None => format!("{} ({}, {})", answer, answer >> 32, answer as u32),
+        None => format!("{answer:#x} ({}, {})", result(answer), lock(answer)),
     }
 }
 

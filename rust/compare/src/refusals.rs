@@ -3,6 +3,8 @@
 
 use crate::call::{Call, Entry, Image};
 use crate::manager::Tables;
+use crate::sizes;
+use model::layout::{self, MOST_CLIENT, MOST_LOCKS, MOST_RESOURCES, NAME_BYTES, VALUE_BYTES, WORD_BYTES, header};
 use model::{Lock, Mode, Standing, State};
 use std::fmt;
 
@@ -174,7 +176,7 @@ pub fn fitting(call: &Call, tables: &Tables, state: Option<&State>) -> Vec<Fit> 
             let but_unread = standing.into_iter().filter(|fit| fit.is_none_or(|fit| fit.number != 9)).collect();
             [vec![unsound, client_number(*client)], but_unread].concat()
         }
-        Call::Image { room } => vec![unsound, area(*room, 4 * tables.words.len() + tables.slots.len())],
+        Call::Image { room } => vec![unsound, area(*room, layout::image(tables.words.len(), tables.slots.len()))],
         Call::Load { image, words, slots } => {
             let bytes = image.bytes(tables);
             vec![unsound_image(&bytes), sizes_in(&bytes).and_then(|(right, of_slots)| lengths((*words, *slots), (right, of_slots)))]
@@ -195,15 +197,14 @@ fn first(number: u32, whys: &[&'static str], so: &[bool]) -> Option<Fit> {
 }
 
 fn sizes(resources: u32, locks: u32, words: usize, slots: usize) -> Option<Fit> {
-    let right_words = 8 + 8 * resources as usize + 9 * locks as usize;
-    let right_slots = 96 * resources as usize;
-    let wrong = [resources == 0, resources > 256, locks == 0, locks > 1024];
+    let (right_words, right_slots) = sizes::lengths(resources, locks);
+    let wrong = [resources == 0, resources > MOST_RESOURCES, locks == 0, locks > MOST_LOCKS];
     let lengths = [words < right_words, words > right_words, slots < right_slots, slots > right_slots];
     first(2, SIZES, &[wrong, lengths].concat())
 }
 
 fn client_number(client: u32) -> Option<Fit> {
-    first(3, CLIENT, &[client == 0, client == 256, client > 256])
+    first(3, CLIENT, &[client == 0, client == MOST_CLIENT + 1, client > MOST_CLIENT])
 }
 
 fn mode(mode: u32) -> Option<Fit> {
@@ -217,12 +218,12 @@ fn flags(flags: u32, allowed: u32) -> Option<Fit> {
 }
 
 fn name(name: &[u8]) -> Option<Fit> {
-    first(6, NAME, &[name.is_empty(), name.len() == 65, name.len() > 65])
+    first(6, NAME, &[name.is_empty(), name.len() == NAME_BYTES + 1, name.len() > NAME_BYTES])
 }
 
 fn value(flags: u32, value: &[u8]) -> Option<Fit> {
     let stores = flags & 1 != 0;
-    first(7, VALUE, &[stores && value.is_empty(), stores && value.len() < 32, stores && value.len() > 32])
+    first(7, VALUE, &[stores && value.is_empty(), stores && value.len() < VALUE_BYTES, stores && value.len() > VALUE_BYTES])
 }
 
 /// What is wrong with the lock of a call: 8, or else 9 and 10.
@@ -281,15 +282,16 @@ fn lengths((words, slots): (usize, usize), (right_words, right_slots): (usize, u
 
 /// The counts of words and slot bytes that an image's own R and L give, if these are in range.
 pub fn sizes_in(image: &[u8]) -> Option<(usize, usize)> {
-    let word = |at: usize| image.get(at..at + 4).map(|bytes| u32::from_le_bytes([bytes[0], bytes[1], bytes[2], bytes[3]]));
-    let (resources, locks) = (word(0).filter(|r| (1..=256).contains(r))?, word(4).filter(|l| (1..=1024).contains(l))?);
-    Some((8 + 8 * resources as usize + 9 * locks as usize, 96 * resources as usize))
+    let (words, _) = image.as_chunks::<WORD_BYTES>();
+    let word = |at: usize| words.get(at).map(|bytes| u32::from_le_bytes(*bytes));
+    let (resources, locks) = (word(header::RESOURCES)?, word(header::LOCKS)?);
+    layout::sizes_allowed(resources, locks).then(|| sizes::lengths(resources, locks))
 }
 
 /// 1, where an image isn't that of sound tables, whatever name is asked for.
 fn unsound_image(image: &[u8]) -> Option<Fit> {
     let unsound = model::entries::holder(image, b"a name") == Err(model::Refused::UNSOUND);
-    let right_length = sizes_in(image).is_some_and(|(words, slots)| image.len() == 4 * words + slots);
+    let right_length = sizes_in(image).is_some_and(|(words, slots)| image.len() == layout::image(words, slots));
     first(1, IMAGE, &[unsound && right_length, unsound])
 }
 

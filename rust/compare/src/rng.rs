@@ -1,5 +1,7 @@
 //! A small random number generator (splitmix64), so that a seed always gives the same calls.
 
+use std::ops::Range;
+
 pub struct Rng(u64);
 
 impl Rng {
@@ -27,6 +29,11 @@ impl Rng {
     /// A number from one to another, both included.
     pub fn between(&mut self, least: usize, most: usize) -> usize {
         least + self.below(most - least + 1)
+    }
+
+    /// A number of a range that isn't empty.
+    pub fn within(&mut self, range: Range<usize>) -> usize {
+        self.between(range.start, range.end - 1)
     }
 
     /// True in so many of a hundred cases.

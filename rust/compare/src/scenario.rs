@@ -3,6 +3,7 @@
 use crate::manager::Tables;
 use crate::states::started;
 use model::State;
+use model::layout::{header, lock, lock_at};
 use std::process::ExitCode;
 
 const NL: u32 = 0;
@@ -59,8 +60,8 @@ fn empty() -> Vec<u8> {
 
 fn unsound() -> Vec<u8> {
     let (mut words, slots) = pair_state().to_tables();
-    let first_lock = 8 + 8 * 4;
-    words[first_lock] = 1;
+    let first_link = lock_at(words[header::RESOURCES], 1, lock::HOME);
+    words[first_link] = 1;
     Tables { words, slots }.bytes()
 }
 

@@ -2,6 +2,8 @@
 //! managers meet all that soundness allows.
 
 use crate::rng::Rng;
+use crate::sizes::Sizes;
+use model::layout::{self, NAME_BYTES, VALUE_BYTES};
 use model::{Lock, Mode, Resource, Standing, State, Unread};
 use std::collections::VecDeque;
 
@@ -20,8 +22,7 @@ const STANDINGS: [usize; 4] = [45, 22, 28, 5];
 
 /// A started state.
 pub fn started(resources: u32, locks: u32) -> State {
-    let words = 8 + 8 * resources as usize + 9 * locks as usize;
-    State::start(resources, locks, words, 96 * resources as usize).expect("sizes in range")
+    State::start(resources, locks, layout::words(resources, locks), layout::slots(resources)).expect("sizes in range")
 }
 
 /// A random sound state.
@@ -50,17 +51,17 @@ pub fn random(rng: &mut Rng, filling: &Filling) -> State {
     state
 }
 
+/// The sizes of [`varied`].
+pub const VARIED: Sizes = (8, 32);
+
 /// A state in which every damage has a place: locks of every state on several resources, and at least two records on every chain.
 pub fn varied() -> State {
     use Mode::{Cr, Ex, Nl, Pr, Pw};
-    let mut state = started(8, 32);
-    let names: [&[u8]; 5] = [b"vip-7", b"vip-8", b"a", b"a\0", &[b'n'; 64]];
+    let mut state = started(VARIED.0, VARIED.1);
+    let names: [&[u8]; 5] = [b"vip-7", b"vip-8", b"a", b"a\0", &[b'n'; NAME_BYTES]];
     for name in names {
-        let number = state.free_resources.pop_front().expect("eight, and five names");
-        let empty = VecDeque::new;
-        let valid = number % 2 == 1;
-        let queues =
-            Resource { name: name.to_vec(), value: [number as u8; 32], valid, granted: empty(), converting: empty(), waiting: empty() };
+        let number = state.free_resources.pop_front().expect("more than there are names");
+        let queues = Resource { value: [number as u8; VALUE_BYTES], valid: number % 2 == 1, ..Resource::new(name) };
         state.resources.insert(number, queues);
     }
     let granted = |resource, held, unread| Standing::Granted { resource, held, unread };
@@ -102,7 +103,7 @@ pub fn varied() -> State {
 /// The first free lock stands so, at the ends of its chains.
 fn put(state: &mut State, client: u8, standing: Standing) {
     let number = state.free_locks.pop_front().expect("a free lock");
-    let lock = Lock { client, standing };
+    let lock = Lock::new(client, standing);
     let queues = lock.resource().and_then(|resource| state.resources.get_mut(&resource));
     match (standing, queues) {
         (Standing::Granted { .. }, Some(queues)) => queues.granted.push_back(number),
@@ -132,16 +133,15 @@ fn add_exclusive_conversion(rng: &mut Rng, state: &mut State, filling: &Filling)
         queues.converting.push_back(number);
         insert_somewhere(rng, &mut state.blocked, number);
         let standing = Standing::Converting { resource, held, asked };
-        state.locks.insert(number, Lock { client: *rng.pick(filling.clients) as u8, standing });
+        state.locks.insert(number, Lock::new(*rng.pick(filling.clients) as u8, standing));
     }
     state.resources.insert(resource, queues);
 }
 
 /// A resource of a name with no locks yet and any value.
 fn new_resource(rng: &mut Rng, name: &[u8]) -> Resource {
-    let value = if rng.percent(50) { [0; 32] } else { rng.bytes(32).try_into().expect("32 bytes") };
-    let empty = VecDeque::new;
-    Resource { name: name.to_vec(), value, valid: rng.percent(60), granted: empty(), converting: empty(), waiting: empty() }
+    let value = if rng.percent(50) { [0; VALUE_BYTES] } else { rng.bytes(VALUE_BYTES).try_into().expect("as many as asked for") };
+    Resource { value, valid: rng.percent(60), ..Resource::new(name) }
 }
 
 /// How many of some locks are in use: often all or few.
@@ -195,7 +195,7 @@ fn add_lock(rng: &mut Rng, state: &mut State, filling: &Filling, resource: Optio
             Standing::Denied
         }
     };
-    state.locks.insert(number, Lock { client, standing });
+    state.locks.insert(number, Lock::new(client, standing));
 }
 
 /// A lock that stands on a resource, put on its chains.

@@ -2,7 +2,10 @@
 
 use crate::Refused;
 use crate::deadlock;
-use crate::layout::{LockRecord, NAME_BYTES, Records, Slot, completion, head, lock, resource, sizes_allowed, slots_for, state, words_for};
+use crate::layout::{
+    LockRecord, MOST_CLIENT, MOST_RESOURCES, NAME_BYTES, Records, Slot, VALUE_BYTES, Value, completion, head, lock, resource,
+    sizes_allowed, slots_for, state, words_for,
+};
 use crate::modes::{EX, PW, admits, down};
 use crate::queues::{Queues, find};
 
@@ -21,7 +24,7 @@ fn demand(right: bool, refused: Refused) -> Result<(), Refused> {
 
 #[inline]
 fn check_client(client: u32) -> Result<(), Refused> {
-    demand(client.wrapping_sub(1) < 255, 3)
+    demand(client.wrapping_sub(1) < MOST_CLIENT as u32, 3)
 }
 
 #[inline]
@@ -41,7 +44,7 @@ pub fn check_name(name: &[u8]) -> Result<(), Refused> {
 
 #[inline]
 fn check_value(flags: u32, value: &[u8]) -> Result<(), Refused> {
-    demand(flags & STORE == 0 || value.len() == 32, 7)
+    demand(flags & STORE == 0 || value.len() == VALUE_BYTES, 7)
 }
 
 /// A client's lock. A free record has client 0, so it is nobody's.
@@ -78,7 +81,7 @@ fn slot(slots: &mut [u8], number: u32) -> &mut Slot {
 fn free_or_sweep(queues: &mut Queues, slots: &mut [u8], number: u32) {
     if queues.is_empty(number) {
         queues.free_resource(number);
-        *slot(slots, number) = [0; 96];
+        slot(slots, number).fill(0);
     } else {
         queues.sweep(number);
     }
@@ -90,13 +93,14 @@ pub fn start(words: &mut [u32], slots: &mut [u8], resources: u32, locks: u32) ->
     demand(sizes_allowed(r, l) && words.len() == words_for(r, l) && slots.len() == slots_for(r), 2)?;
     words.fill(0);
     slots.fill(0);
-    words[..4].copy_from_slice(&[resources, locks, 1, 1]);
-    let (resource_words, lock_words) = words[8..].split_at_mut(8 * r);
+    words[head::RESOURCES] = resources;
+    words[head::LOCKS] = locks;
+    words[head::FREE_RESOURCE] = 1;
+    words[head::FREE_LOCK] = 1;
+    let queues = Queues::cut(words);
     let up_to = |most: u32| (2..=most).chain([0]);
-    let resource_links = resource_words.as_chunks_mut::<8>().0.iter_mut().map(|record| &mut record[resource::NEXT]);
-    resource_links.zip(up_to(resources)).for_each(|(link, next)| *link = next);
-    let lock_links = lock_words.as_chunks_mut::<9>().0.iter_mut().map(|record| &mut record[lock::HOME]);
-    lock_links.zip(up_to(locks)).for_each(|(link, next)| *link = next);
+    queues.resources.iter_mut().zip(up_to(resources)).for_each(|(record, next)| record[resource::NEXT] = next);
+    queues.locks.iter_mut().zip(up_to(locks)).for_each(|(record, next)| record[lock::HOME] = next);
     Ok(())
 }
 
@@ -116,7 +120,7 @@ pub fn request(words: &mut [u32], slots: &mut [u8], client: u32, mode: u32, flag
 
     let number = if known != 0 { known } else { new_resource(&mut queues, slots, name) };
     let k = queues.take_lock();
-    let mut record = [0; 9];
+    let mut record = [0; lock::WIDTH];
     record[lock::RESOURCE] = number;
     record[lock::CLIENT] = client;
     if granted {
@@ -137,7 +141,7 @@ pub fn request(words: &mut [u32], slots: &mut [u8], client: u32, mode: u32, flag
 
 fn new_resource(queues: &mut Queues, slots: &mut [u8], name: &[u8]) -> u32 {
     let number = queues.take_resource();
-    let mut record = [0; 8];
+    let mut record = [0; resource::WIDTH];
     record[resource::NAME_LENGTH] = name.len() as u32;
     record[resource::VALID] = 1;
     *queues.resource(number) = record;
@@ -221,7 +225,7 @@ pub fn cancel(words: &mut [u32], slots: &[u8], client: u32, k: u32) -> Result<u3
 pub fn purge(words: &mut [u32], slots: &mut [u8], client: u32) -> Result<u32, Refused> {
     let mut queues = Queues::open(words, slots)?;
     check_client(client)?;
-    let mut touched = [false; crate::layout::MOST_RESOURCES + 1];
+    let mut touched = [false; MOST_RESOURCES + 1];
     let mut count = 0;
     for record in queues.locks.iter().filter(|record| record[lock::CLIENT] == client) {
         let number = record[lock::RESOURCE] as usize;
@@ -301,10 +305,10 @@ fn own_held<'a>(records: &Records<'a>, client: u32, k: u32) -> Result<&'a LockRe
 }
 
 /// The value block of a lock's resource, and whether it is valid.
-pub fn read(words: &[u32], slots: &[u8], client: u32, k: u32) -> Result<([u8; 32], bool), Refused> {
+pub fn read(words: &[u32], slots: &[u8], client: u32, k: u32) -> Result<(Value, bool), Refused> {
     let records = Records::cut(words, slots).filter(Records::sound).ok_or(1_u32)?;
     let at = own_held(&records, client, k)?[lock::RESOURCE] as usize - 1;
-    let mut value = [0; 32];
+    let mut value = [0; VALUE_BYTES];
     value.copy_from_slice(&records.slots[at][NAME_BYTES..]);
     Ok((value, records.resources[at][resource::VALID] == 1))
 }

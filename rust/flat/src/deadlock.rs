@@ -4,7 +4,7 @@
 //! further ahead), and to the clients of the locks that are in its way; a client leads to its blocked locks. A lock leads back to itself
 //! exactly if its component has a second node: a lock that leads to itself at once does so through its client.
 
-use crate::layout::{head, lock, resource, state};
+use crate::layout::{MOST_CLIENT, head, lock, resource, state};
 use crate::modes::{admits, only};
 use crate::queues::Queues;
 
@@ -48,7 +48,7 @@ struct Search<'a> {
     /// For each blocked lock, the one right ahead of it, or 0.
     ahead: Vec<u32>,
     /// For each client, its first blocked lock, and for each of these the next one.
-    first_of: [u32; 256],
+    first_of: [u32; MOST_CLIENT + 1],
     next_of: Vec<u32>,
     /// Tarjan's numbers: the order in which a node was met (0: not yet), and the earliest open node that it reaches.
     order: Vec<u32>,
@@ -64,11 +64,11 @@ impl<'a> Search<'a> {
     /// Nodes are 1 to L for locks and above L for clients.
     fn new(queues: &'a Queues<'a>) -> Search<'a> {
         let locks = queues.locks.len() + 1;
-        let nodes = locks + 256;
+        let nodes = locks + MOST_CLIENT + 1;
         let mut search = Search {
             queues,
             ahead: vec![0; locks],
-            first_of: [0; 256],
+            first_of: [0; MOST_CLIENT + 1],
             next_of: vec![0; locks],
             order: vec![0; nodes],
             low: vec![0; nodes],

@@ -1,21 +1,24 @@
 //! Images: words little-endian, then slots.
 
 use crate::calls::check_name;
-use crate::layout::{Records, lock, resource, sizes_allowed, slots_for, words_for};
+use crate::layout::{Records, WORD_BYTES, head, image_for, lock, resource, sizes_allowed, slots_for, words_for};
 use crate::modes::EX;
 use crate::queues::find;
 use crate::{Refused, sound};
 
 /// Cuts an image into the bytes of its words and its slots, if its length is that of its own R and L.
-fn cut(image: &[u8]) -> Option<(&[[u8; 4]], &[u8])> {
-    let (sizes, _) = image.split_first_chunk::<8>()?;
-    let resources = u32::from_le_bytes([sizes[0], sizes[1], sizes[2], sizes[3]]) as usize;
-    let locks = u32::from_le_bytes([sizes[4], sizes[5], sizes[6], sizes[7]]) as usize;
-    if !sizes_allowed(resources, locks) || image.len() != 4 * words_for(resources, locks) + slots_for(resources) {
+fn cut(image: &[u8]) -> Option<(&[[u8; WORD_BYTES]], &[u8])> {
+    let bytes = image.as_chunks().0;
+    let size = |at: usize| bytes.get(at).map(|word| u32::from_le_bytes(*word) as usize);
+    let (resources, locks) = (size(head::RESOURCES)?, size(head::LOCKS)?);
+    if !sizes_allowed(resources, locks) {
         return None;
     }
-    let (words, slots) = image.split_at(4 * words_for(resources, locks));
-    Some((words.as_chunks().0, slots))
+    let count = words_for(resources, locks);
+    if image.len() != image_for(count, slots_for(resources)) {
+        return None;
+    }
+    Some((&bytes[..count], &image[image_for(count, 0)..]))
 }
 
 /// The words and slots of an image of sound tables.
@@ -30,10 +33,10 @@ pub fn image(words: &[u32], slots: &[u8], area: &mut [u8]) -> Result<(), Refused
     if !sound(words, slots) {
         return Err(1);
     }
-    if area.len() != 4 * words.len() + slots.len() {
+    if area.len() != image_for(words.len(), slots.len()) {
         return Err(14);
     }
-    let (for_words, for_slots) = area.split_at_mut(4 * words.len());
+    let (for_words, for_slots) = area.split_at_mut(image_for(words.len(), 0));
     for_words.as_chunks_mut().0.iter_mut().zip(words).for_each(|(bytes, word)| *bytes = word.to_le_bytes());
     for_slots.copy_from_slice(slots);
     Ok(())

@@ -8,7 +8,7 @@
 mod calls;
 mod deadlock;
 mod image;
-mod layout;
+pub mod layout;
 mod modes;
 mod queues;
 mod sound;

@@ -1,12 +1,12 @@
 //! The chains of sound tables, and what the calls do with them.
 
-use crate::layout::{LockRecord, Records, ResourceRecord, completion, head, lock, resource, state};
+use crate::layout::{Head, LockRecord, Records, ResourceRecord, completion, head, lock, resource, state};
 use crate::modes::{Held, admits, only};
 use crate::{Refused, sound};
 
 /// The words of sound tables, cut into records.
 pub struct Queues<'a> {
-    pub head: &'a mut [u32; 8],
+    pub head: &'a mut Head,
     pub resources: &'a mut [ResourceRecord],
     pub locks: &'a mut [LockRecord],
 }
@@ -79,8 +79,8 @@ impl<'a> Queues<'a> {
 
     /// The queues of words that are known to be sound.
     pub fn cut(words: &'a mut [u32]) -> Queues<'a> {
-        let (head, records) = words.split_first_chunk_mut::<8>().expect("sound words");
-        let (resources, locks) = records.split_at_mut(8 * head[0] as usize);
+        let (head, records) = words.split_first_chunk_mut::<{ head::WIDTH }>().expect("sound words");
+        let (resources, locks) = records.split_at_mut(resource::WIDTH * head[head::RESOURCES] as usize);
         Queues { head, resources: resources.as_chunks_mut().0, locks: locks.as_chunks_mut().0 }
     }
 
@@ -165,7 +165,7 @@ impl<'a> Queues<'a> {
 
     /// Puts a lock that is off all chains back to the front of the free chain.
     pub fn free_lock(&mut self, number: u32) {
-        let mut record = [0; 9];
+        let mut record = [0; lock::WIDTH];
         record[lock::HOME] = self.head[head::FREE_LOCK];
         *self.lock(number) = record;
         self.head[head::FREE_LOCK] = number;
@@ -180,7 +180,7 @@ impl<'a> Queues<'a> {
 
     /// Puts a resource back to the front of the free chain. Its slot is the caller's to clear.
     pub fn free_resource(&mut self, number: u32) {
-        let mut record = [0; 8];
+        let mut record = [0; resource::WIDTH];
         record[resource::NEXT] = self.head[head::FREE_RESOURCE];
         *self.resource(number) = record;
         self.head[head::FREE_RESOURCE] = number;

@@ -4,7 +4,9 @@
 //! a resource of its own, so no lock can be on two of them. What is left is counting: the home chains together must have exactly L locks,
 //! the blocked chain as many as are blocked, the notice chain as many as have a completion, the free chain as many resources as have no name.
 
-use crate::layout::{LockRecord, NAME_BYTES, Records, ResourceRecord, Slot, completion, head, lock, resource, state};
+use crate::layout::{
+    LockRecord, MOST_CLIENT, MOST_RESOURCES, NAME_BYTES, Records, ResourceRecord, Slot, completion, head, lock, resource, state,
+};
 use crate::modes::{EX, admits, only};
 
 /// Whether tables are sound.
@@ -44,7 +46,7 @@ fn zero_from(bytes: &[u8], from: usize) -> bool {
 /// What all locks in use have: a client, modes in range, and no link on a chain that they aren't on.
 #[inline]
 fn in_use(record: &LockRecord, blocked: bool, noticed: bool) -> bool {
-    record[lock::CLIENT].wrapping_sub(1) < 255
+    record[lock::CLIENT].wrapping_sub(1) < MOST_CLIENT as u32
         && record[lock::HELD] <= EX
         && record[lock::ASKED] <= EX
         && (blocked || record[lock::BLOCKED] == 0)
@@ -64,7 +66,7 @@ impl Records<'_> {
         let mut used = 0;
         for (at, record) in self.resources.iter().enumerate() {
             if record[resource::NAME_LENGTH] == 0 {
-                need(all_zero(&record[1..]) && zero_from(&self.slots[at], 0))?;
+                need(all_zero(&record[resource::NEXT + 1..]) && zero_from(&self.slots[at], 0))?;
             } else {
                 used += 1;
                 self.used_resource(at as u32 + 1, record, &self.slots[at], &mut census)?;
@@ -93,7 +95,7 @@ impl Records<'_> {
     }
 
     fn free_locks(&self, census: &mut Census) -> Option<()> {
-        self.home_chain(self.head[head::FREE_LOCK], census, |record| all_zero(&record[1..]))
+        self.home_chain(self.head[head::FREE_LOCK], census, |record| all_zero(&record[lock::HOME + 1..]))
     }
 
     fn denied_locks(&self, census: &mut Census) -> Option<()> {
@@ -112,7 +114,7 @@ impl Records<'_> {
 
     fn used_resource(&self, number: u32, record: &ResourceRecord, slot: &Slot, census: &mut Census) -> Option<()> {
         let length = record[resource::NAME_LENGTH] as usize;
-        need(record[resource::NEXT] == 0 && record[resource::VALID] <= 1 && record[6] == 0 && record[7] == 0)?;
+        need(record[resource::NEXT] == 0 && record[resource::VALID] <= 1 && all_zero(&record[resource::ZEROS]))?;
         need(length <= NAME_BYTES && zero_from(&slot[..NAME_BYTES], length))?;
         let before = census.locks;
         let mut held = 0;
@@ -209,7 +211,7 @@ impl Records<'_> {
 
     /// Whether no two resources have one name, by a small hash table of their numbers.
     fn names_differ(&self) -> bool {
-        let mut table = [0_u16; 2 * crate::layout::MOST_RESOURCES];
+        let mut table = [0_u16; 2 * MOST_RESOURCES];
         let mask = (2 * self.resources.len()).next_power_of_two() - 1;
         for (at, record) in self.resources.iter().enumerate() {
             let length = record[resource::NAME_LENGTH] as usize;

@@ -2,7 +2,7 @@
 //!
 //! Every call first looks for the first refusal that fits, in the paper's order, and only then changes anything.
 
-use crate::tables::{sizes_allowed, words_for};
+use crate::layout::{self, NAME_BYTES, Value, sizes_allowed};
 use crate::{Lock, Mode, Refused, Resource, Standing, State, Unread};
 use std::collections::{BTreeSet, VecDeque};
 
@@ -68,14 +68,14 @@ fn flags_of(flags: u32, allowed: u32) -> Result<(), Refused> {
 }
 
 pub(crate) fn name_of(name: &[u8]) -> Result<(), Refused> {
-    demand((1..=64).contains(&name.len()), Refused::NAME)
+    demand((1..=NAME_BYTES).contains(&name.len()), Refused::NAME)
 }
 
 /// What is to be done with the value block where the flags act.
 #[derive(Clone, Copy)]
 enum ValueAct {
     Leave,
-    Store([u8; 32]),
+    Store(Value),
     Invalidate,
 }
 
@@ -97,7 +97,7 @@ impl State {
     /// Fresh tables of so many words, if R, L and the lengths are right.
     pub fn start(resources: u32, locks: u32, words_len: usize, slots_len: usize) -> Result<State, Refused> {
         demand(sizes_allowed(resources, locks), Refused::SIZES)?;
-        let lengths = words_len == words_for(resources, locks) && slots_len == 96 * resources as usize;
+        let lengths = words_len == layout::words(resources, locks) && slots_len == layout::slots(resources);
         demand(lengths, Refused::SIZES)?;
         Ok(State::started(resources, locks))
     }
@@ -118,7 +118,7 @@ impl State {
         let number = self.free_locks.pop_front().expect("a free lock, as seen above");
         let standing =
             if granted { Standing::Granted { resource, held: mode, unread: None } } else { Standing::Waiting { resource, asked: mode } };
-        self.locks.insert(number, Lock { client, standing });
+        self.locks.insert(number, Lock::new(client, standing));
         if granted {
             self.at(resource).granted.push_back(number);
             Ok((Answer::Granted, number))
@@ -241,7 +241,7 @@ impl State {
     }
 
     /// The value block of a lock's resource, and whether it is valid.
-    pub fn read(&self, client: u32, lock: u32) -> Result<([u8; 32], bool), Refused> {
+    pub fn read(&self, client: u32, lock: u32) -> Result<(Value, bool), Refused> {
         let resource = self.held_resource(client, lock)?;
         Ok((resource.value, resource.valid))
     }

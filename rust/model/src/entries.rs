@@ -1,6 +1,7 @@
 //! The entries over lent tables: the state is read back from them (refusal 1 if they aren't sound), the call made on it, and the new state
 //! written out. A refused call writes nothing.
 
+use crate::layout::{self, Value, WORD_BYTES, header};
 use crate::{Answer, Entry, Polled, Refused, State};
 
 fn state_of(words: &[u32], slots: &[u8]) -> Result<State, Refused> {
@@ -24,13 +25,13 @@ fn write(state: &State, words: &mut [u32], slots: &mut [u8]) {
 /// The tables of an image, sound or not: words little-endian, then slots, of the lengths that its own R and L give. None if it is too short
 /// or its length isn't theirs.
 fn image_tables(image: &[u8]) -> Option<(Vec<u32>, Vec<u8>)> {
-    let word = |at: usize| image.get(4 * at..4 * at + 4).map(|b| u32::from_le_bytes([b[0], b[1], b[2], b[3]]));
-    let (resources, locks) = (word(0)?, word(1)?);
-    crate::tables::sizes_allowed(resources, locks).then_some(())?;
-    let count = crate::tables::words_for(resources, locks);
-    let words = (0..count).map(word).collect::<Option<Vec<u32>>>()?;
-    let slots = image.get(4 * count..)?.to_vec();
-    (slots.len() == crate::tables::slots_for(resources)).then_some((words, slots))
+    let (bytes, _) = image.as_chunks::<WORD_BYTES>();
+    let word = |at: usize| bytes.get(at).map(|word| u32::from_le_bytes(*word));
+    let (resources, locks) = (word(header::RESOURCES)?, word(header::LOCKS)?);
+    layout::sizes_allowed(resources, locks).then_some(())?;
+    let words = (0..layout::words(resources, locks)).map(word).collect::<Option<Vec<u32>>>()?;
+    let slots = image.get(layout::image(words.len(), 0)..)?.to_vec();
+    (slots.len() == layout::slots(resources)).then_some((words, slots))
 }
 
 fn state_of_image(image: &[u8]) -> Result<State, Refused> {
@@ -89,7 +90,7 @@ pub fn poll(words: &mut [u32], slots: &mut [u8], client: u32) -> Result<Polled, 
 }
 
 /// The value block of a lock's resource, and whether it is valid.
-pub fn read(words: &[u32], slots: &[u8], client: u32, lock: u32) -> Result<([u8; 32], bool), Refused> {
+pub fn read(words: &[u32], slots: &[u8], client: u32, lock: u32) -> Result<(Value, bool), Refused> {
     state_of(words, slots)?.read(client, lock)
 }
 

@@ -176,7 +176,8 @@ mod tests {
 
     #[test]
     fn a_line_has_at_most_256_bytes() {
-        let line = |length: usize| [b"q 1 5 0 ".to_vec(), vec![b'n'; length - 8]].concat();
-        assert!(asked(&line(256)).is_some() && asked(&line(257)).is_none());
+        let line = |name: usize| [b"q 1 5 0 ".to_vec(), vec![b'n'; name]].concat();
+        let most = LONGEST - line(0).len();
+        assert!(asked(&line(most)).is_some() && asked(&line(most + 1)).is_none());
     }
 }

@@ -4,6 +4,7 @@
 //! only granted and denied locks can have a completion.
 
 use crate::Mode;
+use crate::layout::{VALUE_BYTES, Value};
 use std::collections::{BTreeMap, VecDeque};
 
 /// The state of a lock manager.
@@ -35,7 +36,7 @@ pub struct Resource {
     /// 1 to 64 bytes that no other resource has as its name.
     pub name: Vec<u8>,
     /// The value block.
-    pub value: [u8; 32],
+    pub value: Value,
     /// Whether the value block is valid.
     pub valid: bool,
     /// The grant chain.
@@ -79,6 +80,11 @@ pub enum Unread {
 }
 
 impl Lock {
+    /// A lock as a call makes it.
+    pub fn new(client: u8, standing: Standing) -> Lock {
+        Lock { client, standing }
+    }
+
     /// The resource that the lock stands on; a denied one stands on none.
     pub fn resource(&self) -> Option<u32> {
         match self.standing {
@@ -133,9 +139,9 @@ impl Lock {
 
 impl Resource {
     /// A resource as the first request for its name makes it.
-    pub(crate) fn new(name: &[u8]) -> Resource {
+    pub fn new(name: &[u8]) -> Resource {
         let empty = VecDeque::new;
-        Resource { name: name.to_vec(), value: [0; 32], valid: true, granted: empty(), converting: empty(), waiting: empty() }
+        Resource { name: name.to_vec(), value: [0; VALUE_BYTES], valid: true, granted: empty(), converting: empty(), waiting: empty() }
     }
 
     /// Its locks in grant, convert, wait order.

@@ -1,5 +1,6 @@
 //! States as words and slots, and back.
 
+use crate::layout::{self, NAME_BYTES, SLOT_BYTES, header, lock, lock_at, resource, resource_at, sizes_allowed, slot_at};
 use crate::{Lock, Mode, Resource, Standing, State, Unread};
 use std::collections::{BTreeMap, BTreeSet, VecDeque};
 
@@ -101,65 +102,21 @@ impl Flaw {
     ];
 }
 
-/// How many words R and L call for.
-pub(crate) fn words_for(resources: u32, locks: u32) -> usize {
-    8 + 8 * resources as usize + 9 * locks as usize
-}
-
-/// How many slot bytes R calls for.
-pub(crate) fn slots_for(resources: u32) -> usize {
-    96 * resources as usize
-}
-
-/// Whether start accepts these numbers of records.
-pub(crate) fn sizes_allowed(resources: u32, locks: u32) -> bool {
-    (1..=256).contains(&resources) && (1..=1024).contains(&locks)
-}
-
-/// Where things stand in the words and slots.
-#[derive(Clone, Copy)]
-struct Places {
-    resources: u32,
-}
-
-impl Places {
-    const FREE_RESOURCE: usize = 2;
-    const FREE_LOCK: usize = 3;
-    const DENIED: usize = 4;
-    const BLOCKED: usize = 5;
-    const NOTICE: usize = 6;
-
-    /// The first word of a resource's record.
-    fn resource(self, number: u32) -> usize {
-        8 + 8 * (number as usize - 1)
-    }
-
-    /// The first word of a lock's record.
-    fn lock(self, number: u32) -> usize {
-        8 + 8 * self.resources as usize + 9 * (number as usize - 1)
-    }
-
-    /// The first byte of a resource's slot.
-    fn slot(self, number: u32) -> usize {
-        96 * (number as usize - 1)
-    }
-}
-
 impl State {
     /// Every word and slot that document 01 prescribes for this state.
     pub fn to_tables(&self) -> (Vec<u32>, Vec<u8>) {
         let mut writer = Writer {
-            words: vec![0; words_for(self.most_resources, self.most_locks)],
-            slots: vec![0; slots_for(self.most_resources)],
-            places: Places { resources: self.most_resources },
+            words: vec![0; layout::words(self.most_resources, self.most_locks)],
+            slots: vec![0; layout::slots(self.most_resources)],
+            resources: self.most_resources,
         };
-        writer.words[0] = self.most_resources;
-        writer.words[1] = self.most_locks;
-        writer.free_resources(&self.free_resources);
-        writer.locks_chain(Places::FREE_LOCK, 0, &self.free_locks);
-        writer.locks_chain(Places::DENIED, 0, &self.denied);
-        writer.locks_chain(Places::BLOCKED, 1, &self.blocked);
-        writer.locks_chain(Places::NOTICE, 2, &self.notices);
+        writer.words[header::RESOURCES] = self.most_resources;
+        writer.words[header::LOCKS] = self.most_locks;
+        writer.chain(header::FREE_RESOURCE, |number| resource_at(number, resource::NEXT), &self.free_resources);
+        writer.locks_chain(header::FREE_LOCK, lock::HOME, &self.free_locks);
+        writer.locks_chain(header::DENIED, lock::HOME, &self.denied);
+        writer.locks_chain(header::BLOCKED, lock::BLOCKED, &self.blocked);
+        writer.locks_chain(header::NOTICE, lock::NOTICE, &self.notices);
         self.resources.iter().for_each(|(number, resource)| writer.resource(*number, resource));
         self.locks.iter().for_each(|(number, lock)| writer.lock(*number, lock));
         (writer.words, writer.slots)
@@ -187,7 +144,7 @@ impl State {
 struct Writer {
     words: Vec<u32>,
     slots: Vec<u8>,
-    places: Places,
+    resources: u32,
 }
 
 impl Writer {
@@ -200,36 +157,32 @@ impl Writer {
         }
     }
 
-    fn free_resources(&mut self, numbers: &VecDeque<u32>) {
-        let places = self.places;
-        self.chain(Places::FREE_RESOURCE, |number| places.resource(number), numbers);
-    }
-
     fn locks_chain(&mut self, head: usize, link: usize, numbers: &VecDeque<u32>) {
-        let places = self.places;
-        self.chain(head, |number| places.lock(number) + link, numbers);
+        let resources = self.resources;
+        self.chain(head, |number| lock_at(resources, number, link), numbers);
     }
 
     fn resource(&mut self, number: u32, resource: &Resource) {
-        let at = self.places.resource(number);
-        self.locks_chain(at + 1, 0, &resource.granted);
-        self.locks_chain(at + 2, 0, &resource.converting);
-        self.locks_chain(at + 3, 0, &resource.waiting);
-        self.words[at + 4] = resource.name.len() as u32;
-        self.words[at + 5] = u32::from(resource.valid);
-        let slot = self.places.slot(number);
-        self.slots[slot..slot + resource.name.len()].copy_from_slice(&resource.name);
-        self.slots[slot + 64..slot + 96].copy_from_slice(&resource.value);
+        self.locks_chain(resource_at(number, resource::GRANT), lock::HOME, &resource.granted);
+        self.locks_chain(resource_at(number, resource::CONVERT), lock::HOME, &resource.converting);
+        self.locks_chain(resource_at(number, resource::WAIT), lock::HOME, &resource.waiting);
+        self.words[resource_at(number, resource::NAME_LENGTH)] = resource.name.len() as u32;
+        self.words[resource_at(number, resource::VALIDITY)] = u32::from(resource.valid);
+        let slot = &mut self.slots[slot_at(number, 0)..][..SLOT_BYTES];
+        slot[..resource.name.len()].copy_from_slice(&resource.name);
+        slot[NAME_BYTES..].copy_from_slice(&resource.value);
     }
 
     fn lock(&mut self, number: u32, lock: &Lock) {
-        let at = self.places.lock(number);
-        self.words[at + 3] = lock.resource().unwrap_or(0);
-        self.words[at + 4] = u32::from(lock.client);
-        self.words[at + 5] = lock.state_number();
-        self.words[at + 6] = lock.held().map_or(0, Mode::number);
-        self.words[at + 7] = lock.asked().map_or(0, Mode::number);
-        self.words[at + 8] = lock.completion();
+        let fields = [
+            (lock::RESOURCE, lock.resource().unwrap_or(0)),
+            (lock::CLIENT, u32::from(lock.client)),
+            (lock::STATE, lock.state_number()),
+            (lock::HELD, lock.held().map_or(0, Mode::number)),
+            (lock::ASKED, lock.asked().map_or(0, Mode::number)),
+            (lock::COMPLETION, lock.completion()),
+        ];
+        fields.into_iter().for_each(|(field, word)| self.words[lock_at(self.resources, number, field)] = word);
     }
 }
 
@@ -269,52 +222,53 @@ fn check(right: bool, flaw: Flaw) -> Result<(), Flaw> {
     if right { Ok(()) } else { Err(flaw) }
 }
 
+/// Whether all words of a record are zero but for one, which may be anything.
+fn zero_but(record: &[u32], link: usize) -> bool {
+    record.iter().enumerate().all(|(at, word)| at == link || *word == 0)
+}
+
 /// Reads tables whose sizes and lengths are right.
 struct Reader<'a> {
     words: &'a [u32],
     slots: &'a [u8],
     resources: u32,
     locks: u32,
-    places: Places,
 }
 
 impl<'a> Reader<'a> {
     fn new(words: &'a [u32], slots: &'a [u8]) -> Result<Reader<'a>, Flaw> {
-        let [resources, locks, ..] = *words else {
-            return Err(Flaw::Sizes);
-        };
+        let word = |at: usize| words.get(at).copied().ok_or(Flaw::Sizes);
+        let (resources, locks) = (word(header::RESOURCES)?, word(header::LOCKS)?);
         check(sizes_allowed(resources, locks), Flaw::Sizes)?;
-        let right = words.len() == words_for(resources, locks) && slots.len() == slots_for(resources);
+        let right = words.len() == layout::words(resources, locks) && slots.len() == layout::slots(resources);
         check(right, Flaw::Lengths)?;
-        Ok(Reader { words, slots, resources, locks, places: Places { resources } })
+        Ok(Reader { words, slots, resources, locks })
     }
 
     fn resource_words(&self, number: u32) -> &'a [u32] {
-        let at = self.places.resource(number);
-        &self.words[at..at + 8]
+        &self.words[resource_at(number, 0)..][..resource::WIDTH]
     }
 
     fn lock_words(&self, number: u32) -> &'a [u32] {
-        let at = self.places.lock(number);
-        &self.words[at..at + 9]
+        &self.words[lock_at(self.resources, number, 0)..][..lock::WIDTH]
     }
 
     fn slot(&self, number: u32) -> &'a [u8] {
-        let at = self.places.slot(number);
-        &self.slots[at..at + 96]
+        &self.slots[slot_at(number, 0)..][..SLOT_BYTES]
     }
 
     /// The words given as zero, and the ranges of all indices.
     fn fixed_words(&self) -> Result<(), Flaw> {
         let resources: Vec<&[u32]> = (1..=self.resources).map(|number| self.resource_words(number)).collect();
         let locks: Vec<&[u32]> = (1..=self.locks).map(|number| self.lock_words(number)).collect();
-        check(self.words[7] == 0 && resources.iter().all(|record| record[6..8] == [0, 0]), Flaw::NotZero)?;
-        let a_resource = |index: &u32| *index <= self.resources;
-        let a_lock = |index: &u32| *index <= self.locks;
-        let heads = a_resource(&self.words[2]) && self.words[3..7].iter().all(a_lock);
-        let in_resources = resources.iter().all(|record| a_resource(&record[0]) && record[1..4].iter().all(a_lock));
-        let in_locks = locks.iter().all(|record| record[0..3].iter().all(a_lock) && a_resource(&record[3]));
-        check(heads && in_resources && in_locks, Flaw::Index)
+        let zeros = resources.iter().all(|record| resource::ZEROS.iter().all(|at| record[*at] == 0));
+        check(self.words[header::ZERO] == 0 && zeros, Flaw::NotZero)?;
+        let a_resource = |index: u32| index <= self.resources;
+        let of_locks = |words: &[u32], places: &[usize]| places.iter().all(|at| words[*at] <= self.locks);
+        let heads = a_resource(self.words[header::FREE_RESOURCE]) && of_locks(self.words, &header::LOCK_HEADS);
+        let in_resource = |record: &&[u32]| a_resource(record[resource::NEXT]) && of_locks(record, &resource::LOCK_HEADS);
+        let in_lock = |record: &&[u32]| a_resource(record[lock::RESOURCE]) && of_locks(record, &lock::LINKS);
+        check(heads && resources.iter().all(in_resource) && locks.iter().all(in_lock), Flaw::Index)
     }
 
     /// The numbers on a chain of at most so many records.
@@ -340,11 +294,11 @@ impl<'a> Reader<'a> {
             most_locks: self.locks,
             resources: BTreeMap::new(),
             locks: BTreeMap::new(),
-            free_resources: self.walk(self.words[Places::FREE_RESOURCE], self.resources, |r| self.resource_words(r)[0])?,
-            free_locks: self.walk_locks(self.words[Places::FREE_LOCK], 0)?,
-            denied: self.walk_locks(self.words[Places::DENIED], 0)?,
-            blocked: self.walk_locks(self.words[Places::BLOCKED], 1)?,
-            notices: self.walk_locks(self.words[Places::NOTICE], 2)?,
+            free_resources: self.walk(self.words[header::FREE_RESOURCE], self.resources, |r| self.resource_words(r)[resource::NEXT])?,
+            free_locks: self.walk_locks(self.words[header::FREE_LOCK], lock::HOME)?,
+            denied: self.walk_locks(self.words[header::DENIED], lock::HOME)?,
+            blocked: self.walk_locks(self.words[header::BLOCKED], lock::BLOCKED)?,
+            notices: self.walk_locks(self.words[header::NOTICE], lock::NOTICE)?,
         })
     }
 
@@ -354,7 +308,7 @@ impl<'a> Reader<'a> {
         let mut names = BTreeSet::new();
         for number in 1..=self.resources {
             if free.contains(&number) {
-                let empty = self.resource_words(number)[1..].iter().all(|word| *word == 0);
+                let empty = zero_but(self.resource_words(number), resource::NEXT);
                 check(empty && self.slot(number).iter().all(|byte| *byte == 0), Flaw::FreeResource)?;
             } else {
                 let resource = self.used_resource(number)?;
@@ -366,22 +320,21 @@ impl<'a> Reader<'a> {
     }
 
     fn used_resource(&self, number: u32) -> Result<Resource, Flaw> {
-        let &[next, granted, converting, waiting, length, valid, _, _] = self.resource_words(number) else {
-            unreachable!("a record of eight words")
-        };
-        check(next == 0, Flaw::UsedNext)?;
-        check((1..=64).contains(&length), Flaw::NameLength)?;
-        let (name_area, value) = self.slot(number).split_at(64);
-        let (name, rest) = name_area.split_at(length as usize);
+        let record = self.resource_words(number);
+        let (length, valid) = (record[resource::NAME_LENGTH] as usize, record[resource::VALIDITY]);
+        check(record[resource::NEXT] == 0, Flaw::UsedNext)?;
+        check((1..=NAME_BYTES).contains(&length), Flaw::NameLength)?;
+        let (name_area, value) = self.slot(number).split_at(NAME_BYTES);
+        let (name, rest) = name_area.split_at(length);
         check(rest.iter().all(|byte| *byte == 0), Flaw::AfterName)?;
         check(valid <= 1, Flaw::Validity)?;
         let resource = Resource {
             name: name.to_vec(),
-            value: value.try_into().expect("96 less 64 bytes"),
+            value: value.try_into().expect("what a slot has after the name's bytes"),
             valid: valid == 1,
-            granted: self.walk_locks(granted, 0)?,
-            converting: self.walk_locks(converting, 0)?,
-            waiting: self.walk_locks(waiting, 0)?,
+            granted: self.walk_locks(record[resource::GRANT], lock::HOME)?,
+            converting: self.walk_locks(record[resource::CONVERT], lock::HOME)?,
+            waiting: self.walk_locks(record[resource::WAIT], lock::HOME)?,
         };
         check(resource.locks().next().is_some(), Flaw::NoLocks)?;
         Ok(resource)
@@ -401,23 +354,22 @@ impl<'a> Reader<'a> {
 
     /// The lock of a record on a home chain, or none if that is the free chain.
     fn lock(&self, number: u32, home: Home) -> Result<Option<Lock>, Flaw> {
-        let &[_, _, _, resource, client, state, held, asked, completion] = self.lock_words(number) else {
-            unreachable!("a record of nine words")
-        };
-        check(state == home.state(), Flaw::State)?;
+        let record = self.lock_words(number);
+        let (resource, held, asked) = (record[lock::RESOURCE], record[lock::HELD], record[lock::ASKED]);
+        check(record[lock::STATE] == home.state(), Flaw::State)?;
         check(resource == home.resource(), Flaw::OtherResource)?;
         if home == Home::Free {
-            check(self.lock_words(number)[1..].iter().all(|word| *word == 0), Flaw::FreeLock)?;
+            check(zero_but(record, lock::HOME), Flaw::FreeLock)?;
             return Ok(None);
         }
-        let client = u8::try_from(client).ok().filter(|client| *client != 0).ok_or(Flaw::Client)?;
+        let client = u8::try_from(record[lock::CLIENT]).ok().filter(|client| *client != 0).ok_or(Flaw::Client)?;
         let held_mode = Mode::from_number(held).ok_or(Flaw::Mode)?;
         let asked_mode = Mode::from_number(asked).ok_or(Flaw::Mode)?;
         let holds = matches!(home, Home::Grant(_) | Home::Convert(_));
         let asks = matches!(home, Home::Convert(_) | Home::Wait(_));
         check(holds || held == 0, Flaw::Held)?;
         check(asks || asked == 0, Flaw::Asked)?;
-        let standing = match (home, completion) {
+        let standing = match (home, record[lock::COMPLETION]) {
             (Home::Denied, 2) => Standing::Denied,
             (Home::Grant(_), 0) => Standing::Granted { resource, held: held_mode, unread: None },
             (Home::Grant(_), 1) => Standing::Granted { resource, held: held_mode, unread: Some(Unread::Granted) },
@@ -441,8 +393,8 @@ impl<'a> Reader<'a> {
         check(same(&state.notices, &noticed), Flaw::Notices)?;
         for number in 1..=self.locks {
             let record = self.lock_words(number);
-            check(blocked.contains(&number) || record[1] == 0, Flaw::BlockedLink)?;
-            check(noticed.contains(&number) || record[2] == 0, Flaw::NoticeLink)?;
+            check(blocked.contains(&number) || record[lock::BLOCKED] == 0, Flaw::BlockedLink)?;
+            check(noticed.contains(&number) || record[lock::NOTICE] == 0, Flaw::NoticeLink)?;
         }
         Ok(())
     }

@@ -1,6 +1,7 @@
 //! What the model's calls do beyond what lockplay shows: values, validity, the orders of chains, and other table sizes. The bench sequences of
 //! document 01 are scripts of lockplay, in `examples/bench`.
 
+use model::layout::{VALUE_BYTES, slots, words};
 use model::{Answer, Polled, Refused, State};
 
 const NL: u32 = 0;
@@ -11,8 +12,7 @@ const PW: u32 = 4;
 const EX: u32 = 5;
 
 fn state(resources: u32, locks: u32) -> State {
-    let words = 8 + 8 * resources as usize + 9 * locks as usize;
-    State::start(resources, locks, words, 96 * resources as usize).expect("sizes in range")
+    State::start(resources, locks, words(resources, locks), slots(resources)).expect("sizes in range")
 }
 
 /// Each mode is requested on one name by a client of its own, 1 upward.
@@ -59,8 +59,8 @@ fn the_last_request_finds_no_record() {
 fn values_are_stored_and_made_not_valid() {
     let mut s = state(1, 4);
     requests(&mut s, &[EX, NL]);
-    let value = [9; 32];
-    assert_eq!(s.read(2, 2), Ok(([0; 32], true)));
+    let value = [9; VALUE_BYTES];
+    assert_eq!(s.read(2, 2), Ok(([0; VALUE_BYTES], true)));
     assert_eq!(s.convert(1, 1, PW, 1, &value[1..]), Err(Refused::VALUE));
     assert_eq!(s.convert(1, 1, PW, 1, &value), Ok(Answer::Granted));
     assert_eq!(s.read(2, 2), Ok((value, true)));
@@ -68,10 +68,10 @@ fn values_are_stored_and_made_not_valid() {
     assert_eq!(s.read(2, 2), Ok((value, true)));
     assert_eq!(s.convert(1, 1, CW, 2, b""), Ok(Answer::Granted));
     assert_eq!(s.read(2, 2), Ok((value, false)));
-    assert_eq!(s.convert(1, 1, EX, 1, &[1; 32]), Ok(Answer::Granted));
+    assert_eq!(s.convert(1, 1, EX, 1, &[1; VALUE_BYTES]), Ok(Answer::Granted));
     assert_eq!(s.read(2, 2), Ok((value, false)), "up isn't a smaller mode");
-    s.release(1, 1, 1, &[4; 32]).unwrap();
-    assert_eq!(s.read(2, 2), Ok(([4; 32], true)));
+    s.release(1, 1, 1, &[4; VALUE_BYTES]).unwrap();
+    assert_eq!(s.read(2, 2), Ok(([4; VALUE_BYTES], true)));
     assert_eq!(s.release(2, 2, 3, &value), Err(Refused::FLAGS));
     s.release(2, 2, 0, b"").unwrap();
     assert_eq!(s, state(1, 4).tap_free_locks(&[2, 1, 3, 4]), "a freed record keeps nothing");

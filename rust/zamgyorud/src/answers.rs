@@ -1,5 +1,6 @@
 //! Modes, flags, answers and refusals as types.
 
+use crate::layout::VALUE_BYTES;
 use std::error::Error;
 use std::fmt;
 use std::ops::BitOr;
@@ -143,7 +144,7 @@ pub struct Entry {
 #[derive(Clone, Copy, Debug, PartialEq, Eq)]
 pub struct Value {
     /// The 32 bytes.
-    pub bytes: [u8; 32],
+    pub bytes: [u8; VALUE_BYTES],
     /// Whether they are valid.
     pub valid: bool,
 }

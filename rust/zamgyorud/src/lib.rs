@@ -1,7 +1,8 @@
 //! Zamgyorud, a proved lock manager, from Rust.
 //!
 //! The manager itself is the library `libzamgyorud.a`, whose every entry is proved. This crate is a thin and safe cover: [`Tables`] owns the
-//! words and slots that the library works on, and gives its answers as types. [`raw`] has the C interface over slices.
+//! words and slots that the library works on, and gives its answers as types. [`raw`] has the C interface over slices,
+//! [`layout`] their lengths and what stands where.
 //!
 //! ```
 //! use zamgyorud::{Completion, Flags, Mode, Outcome, Refusal, Tables};
@@ -24,6 +25,7 @@
 #![warn(missing_docs)]
 
 mod answers;
+pub mod layout;
 pub mod raw;
 mod shown;
 mod tables;

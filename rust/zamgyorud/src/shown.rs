@@ -1,6 +1,7 @@
 //! Resources and their queues, shown as the guide's figures draw them (2.2 and 2.3.9).
 
 use crate::answers::{Entry, Mode, Queue, Refusal, Value};
+use crate::layout::{NAME_BYTES, SLOT_BYTES, header, lock, lock_at, resource, resource_at, slot_at};
 use crate::tables::Tables;
 use std::fmt;
 
@@ -32,34 +33,33 @@ impl Tables {
         if !self.is_sound() {
             return Err(Refusal::Unsound);
         }
-        let most = self.words()[0] as usize;
-        Ok((0..most).filter(|at| self.words()[8 + 8 * at + 4] != 0).map(|at| self.resource(at)).collect())
+        let used = |number: &u32| self.words()[resource_at(*number, resource::NAME_LENGTH)] != 0;
+        Ok((1..=self.words()[header::RESOURCES]).filter(used).map(|number| self.resource(number)).collect())
     }
 
-    /// The resource of a record, counted from 0, that is in use in sound tables.
-    fn resource(&self, at: usize) -> Resource {
-        let record = &self.words()[8 + 8 * at..16 + 8 * at];
-        let slot = &self.slots()[96 * at..96 * at + 96];
-        let queues = [(Queue::Granted, record[1]), (Queue::Converting, record[2]), (Queue::Waiting, record[3])];
+    /// A resource that is in use in sound tables.
+    fn resource(&self, number: u32) -> Resource {
+        let word = |field: usize| self.words()[resource_at(number, field)];
+        let (name, value) = self.slots()[slot_at(number, 0)..][..SLOT_BYTES].split_at(NAME_BYTES);
+        let queues = [(Queue::Granted, resource::GRANT), (Queue::Converting, resource::CONVERT), (Queue::Waiting, resource::WAIT)];
         Resource {
-            name: slot[..record[4] as usize].to_vec(),
-            value: Value { bytes: slot[64..].try_into().expect("96 less 64 bytes"), valid: record[5] == 1 },
-            locks: queues.into_iter().flat_map(|(queue, head)| self.chain(queue, head)).collect(),
+            name: name[..word(resource::NAME_LENGTH) as usize].to_vec(),
+            value: Value { bytes: value.try_into().expect("what a slot has after the name's bytes"), valid: word(resource::VALIDITY) == 1 },
+            locks: queues.into_iter().flat_map(|(queue, head)| self.chain(queue, word(head))).collect(),
         }
     }
 
     /// The locks of a queue.
     fn chain(&self, queue: Queue, head: u32) -> impl Iterator<Item = Entry> + '_ {
-        let first = 8 + 8 * self.words()[0] as usize;
-        let record = move |lock: u32| &self.words()[first + 9 * (lock as usize - 1)..][..9];
+        let word = move |lock: u32, field: usize| self.words()[lock_at(self.words()[header::RESOURCES], lock, field)];
         let at = |index: u32| (index != 0).then_some(index);
-        let numbers = std::iter::successors(at(head), move |lock| at(record(*lock)[0]));
+        let numbers = std::iter::successors(at(head), move |lock| at(word(*lock, lock::HOME)));
         numbers.map(move |lock| Entry {
             lock,
-            client: record(lock)[4],
+            client: word(lock, lock::CLIENT),
             queue,
-            held: Mode::from_number(record(lock)[6]).filter(|_| queue != Queue::Waiting),
-            asked: Mode::from_number(record(lock)[7]).filter(|_| queue != Queue::Granted),
+            held: Mode::from_number(word(lock, lock::HELD)).filter(|_| queue != Queue::Waiting),
+            asked: Mode::from_number(word(lock, lock::ASKED)).filter(|_| queue != Queue::Granted),
         })
     }
 }

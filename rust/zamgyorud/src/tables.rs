@@ -1,6 +1,7 @@
 //! Tables that own their words and slots, and the calls on them.
 
 use crate::answers::{Cancelled, Completion, Entry, Flags, Mode, Notice, Outcome, Queue, Refusal, Value};
+use crate::layout::{self, MOST_LOCKS, VALUE_BYTES, WORD_BYTES, header};
 use crate::raw;
 
 /// A lock manager's tables.
@@ -14,26 +15,30 @@ pub struct Tables {
 
 /// The lengths in words and slot bytes for numbers of records, if these are in range.
 fn lengths(resources: u32, locks: u32) -> Option<(usize, usize)> {
-    let in_range = (1..=256).contains(&resources) && (1..=1024).contains(&locks);
-    in_range.then_some((8 + 8 * resources as usize + 9 * locks as usize, 96 * resources as usize))
+    layout::sizes_allowed(resources, locks).then(|| (layout::words(resources, locks), layout::slots(resources)))
 }
 
 /// What can't be, by the library's contract.
-fn impossible(answer: impl Into<u64>) -> ! {
-    panic!("the library answered {:#x}, which its contract excludes", answer.into())
+fn impossible(answer: u32) -> ! {
+    panic!("the library answered {answer}, which its contract excludes")
 }
 
-/// An answer of one number.
-fn number(answer: u64) -> Result<u32, Refusal> {
-    if answer >> 63 != 0 {
-        return Err(Refusal::from_number(answer as u32).unwrap_or_else(|| impossible(answer)));
+/// An accepted call's answer, or the refusal of a number other than 0.
+fn unless_refused<T>(refusal: u32, answer: T) -> Result<T, Refusal> {
+    match refusal {
+        0 => Ok(answer),
+        number => Err(Refusal::from_number(number).unwrap_or_else(|| impossible(number))),
     }
-    u32::try_from(answer).map_err(|_| impossible(answer))
 }
 
-/// An answer of two numbers.
-fn pair(answer: u64) -> Result<(u32, u32), Refusal> {
-    if answer >> 63 != 0 { number(answer).map(|_| impossible(answer)) } else { Ok(((answer >> 32) as u32, answer as u32)) }
+/// A call's result.
+fn number(answer: raw::Answer) -> Result<u32, Refusal> {
+    unless_refused(answer.refusal(), answer.result())
+}
+
+/// A call's result and its lock.
+fn pair(answer: raw::Answer) -> Result<(u32, u32), Refusal> {
+    unless_refused(answer.refusal(), (answer.result(), answer.lock()))
 }
 
 fn outcome(number: u32) -> Outcome {
@@ -87,11 +92,11 @@ impl Tables {
     /// Tables of given words and slots, as [`Tables::into_parts`] gives them. Words and slots that aren't sound tables are refused.
     ///
     /// ```
-    /// # use zamgyorud::{Refusal, Tables};
+    /// # use zamgyorud::{Refusal, Tables, layout};
     /// # fn main() -> Result<(), Refusal> {
     /// let (mut words, slots) = Tables::start(4, 8)?.into_parts();
     /// assert_eq!(Tables::from_parts(words.clone(), slots.clone()), Tables::start(4, 8));
-    /// words[7] = 1;
+    /// words[layout::header::ZERO] = 1;
     /// assert_eq!(Tables::from_parts(words, slots), Err(Refusal::Unsound));
     /// # Ok(())
     /// # }
@@ -228,7 +233,7 @@ impl Tables {
 
     /// The value block of a granted or converting lock's resource.
     pub fn read(&self, client: u32, lock: u32) -> Result<Value, Refusal> {
-        let mut bytes = [0; 32];
+        let mut bytes = [0; VALUE_BYTES];
         let valid = number(raw::read(&self.words, &self.slots, client, lock, &mut bytes))?;
         Ok(Value { bytes, valid: valid == 1 })
     }
@@ -236,7 +241,7 @@ impl Tables {
     /// The locks on a granted or converting lock's resource, in the order of the grant, convert and wait queues.
     pub fn list(&self, client: u32, lock: u32) -> Result<Vec<Entry>, Refusal> {
         // No resource has more locks than there are; unsound tables are refused, whatever they say.
-        let most = self.words.get(1).map_or(0, |locks| (*locks).min(1024)) as usize;
+        let most = self.words.get(header::LOCKS).map_or(0, |locks| (*locks).min(MOST_LOCKS)) as usize;
         let mut entries = vec![raw::Entry::default(); most];
         let count = number(raw::list(&self.words, &self.slots, client, lock, &mut entries))?;
         Ok(entries.into_iter().take(count as usize).map(entry).collect())
@@ -257,7 +262,7 @@ impl Tables {
     /// # }
     /// ```
     pub fn image(&self) -> Result<Vec<u8>, Refusal> {
-        let mut area = vec![0; 4 * self.words.len() + self.slots.len()];
+        let mut area = vec![0; layout::image(self.words.len(), self.slots.len())];
         number(raw::image(&self.words, &self.slots, &mut area)).map(|_| area)
     }
 
@@ -276,15 +281,13 @@ impl Tables {
 
 /// The lengths of tables that an image's own numbers call for.
 fn lengths_of_image(image: &[u8]) -> Option<(usize, usize)> {
-    let ([resources, locks, ..], _) = image.as_chunks::<4>() else { return None };
-    lengths(u32::from_le_bytes(*resources), u32::from_le_bytes(*locks))
+    let (words, _) = image.as_chunks::<WORD_BYTES>();
+    let word = |at: usize| words.get(at).map(|bytes| u32::from_le_bytes(*bytes));
+    lengths(word(header::RESOURCES)?, word(header::LOCKS)?)
 }
 
 /// The client that holds EX on a name in an image, if one does.
 pub fn holder(image: &[u8], name: &[u8]) -> Result<Option<u32>, Refusal> {
-    match raw::holder(image, name) {
-        0 => Ok(None),
-        client @ 1..=255 => Ok(Some(client)),
-        other => Err(other.checked_sub(256).and_then(Refusal::from_number).unwrap_or_else(|| impossible(other))),
-    }
+    let held = raw::holder(image, name);
+    unless_refused(held.refusal(), held.client()).map(|client| (client != 0).then_some(client))
 }

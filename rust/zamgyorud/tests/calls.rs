@@ -1,5 +1,6 @@
 //! The wrapper over the library: every call, its answers and its refusals.
 
+use zamgyorud::layout::{self, MOST_LOCKS, MOST_RESOURCES, NAME_BYTES, VALUE_BYTES};
 use zamgyorud::{Cancelled, Completion, Flags, Mode, Notice, Outcome, Queue, Refusal, Tables, holder};
 
 fn tables() -> Tables {
@@ -64,15 +65,16 @@ RES-A (value valid)
 #[test]
 fn values() {
     let mut t = requested(&[Mode::Ex, Mode::Nl]);
-    assert_eq!(t.convert(1, 1, Mode::Pw, Flags::STORE_VALUE, &[3; 31]), Err(Refusal::Value));
-    assert_eq!(t.convert(1, 1, Mode::Pw, Flags::STORE_VALUE, &[3; 32]), Ok(Outcome::Granted));
+    let stored = [3; VALUE_BYTES];
+    assert_eq!(t.convert(1, 1, Mode::Pw, Flags::STORE_VALUE, &stored[1..]), Err(Refusal::Value));
+    assert_eq!(t.convert(1, 1, Mode::Pw, Flags::STORE_VALUE, &stored), Ok(Outcome::Granted));
     let value = t.read(2, 2).expect("accepted");
-    assert_eq!((value.bytes, value.valid), ([3; 32], true));
+    assert_eq!((value.bytes, value.valid), (stored, true));
     assert_eq!(t.release(1, 1, Flags::INVALIDATE_VALUE, b""), Ok(()));
     let value = t.read(2, 2).expect("accepted");
-    assert_eq!((value.bytes, value.valid), ([3; 32], false));
+    assert_eq!((value.bytes, value.valid), (stored, false));
     assert!(t.to_string().starts_with("RES-A (value not valid)"));
-    assert_eq!(t.release(2, 2, Flags::STORE_VALUE | Flags::INVALIDATE_VALUE, &[3; 32]), Err(Refusal::Flags));
+    assert_eq!(t.release(2, 2, Flags::STORE_VALUE | Flags::INVALIDATE_VALUE, &stored), Err(Refusal::Flags));
 }
 
 #[test]
@@ -128,15 +130,15 @@ fn images() {
 
 #[test]
 fn sizes_and_refusals() {
-    for (resources, locks) in [(0, 1), (1, 0), (257, 1), (1, 1025), (u32::MAX, u32::MAX)] {
+    for (resources, locks) in [(0, 1), (1, 0), (MOST_RESOURCES + 1, 1), (1, MOST_LOCKS + 1), (u32::MAX, u32::MAX)] {
         assert_eq!(Tables::start(resources, locks), Err(Refusal::Sizes));
     }
-    let mut t = Tables::start(256, 1024).expect("sizes in range");
+    let mut t = Tables::start(MOST_RESOURCES, MOST_LOCKS).expect("sizes in range");
     assert!(t.is_sound());
     assert_eq!(t.request(0, Mode::Nl, Flags::NONE, b"a"), Err(Refusal::Client));
     assert_eq!(t.request(1, Mode::Nl, Flags::from_bits(8), b"a"), Err(Refusal::Flags));
-    assert_eq!(t.request(1, Mode::Nl, Flags::NONE, &[1; 65]), Err(Refusal::Name));
-    assert_eq!(t.request(1, Mode::Nl, Flags::NONE, &[1; 64]), Ok((Outcome::Granted, 1)));
+    assert_eq!(t.request(1, Mode::Nl, Flags::NONE, &[1; NAME_BYTES + 1]), Err(Refusal::Name));
+    assert_eq!(t.request(1, Mode::Nl, Flags::NONE, &[1; NAME_BYTES]), Ok((Outcome::Granted, 1)));
     let mut one = Tables::start(1, 1).expect("sizes in range");
     one.request(1, Mode::Nl, Flags::NONE, b"a").expect("accepted");
     assert_eq!(one.request(1, Mode::Nl, Flags::NONE, b"b"), Err(Refusal::NoResource));
@@ -146,7 +148,7 @@ fn sizes_and_refusals() {
 /// The words and slots of fresh tables with one word changed, which no sound tables have.
 fn damaged_parts() -> (Vec<u32>, Vec<u8>) {
     let (mut words, slots) = tables().into_parts();
-    words[7] = 1;
+    words[layout::header::ZERO] = 1;
     (words, slots)
 }
 
@@ -200,7 +202,7 @@ fn unsound_parts_are_refused() {
     assert_eq!(Tables::from_parts(words.clone(), slots[1..].to_vec()), Err(Refusal::Unsound));
     // Two locks held in modes that exclude each other.
     let (mut held, slots) = requested(&[Mode::Ex, Mode::Nl]).into_parts();
-    let second_lock = 8 + 8 * 4 + 9;
-    held[second_lock + 6] = Mode::Cr.number();
+    let second_held = layout::lock_at(held[layout::header::RESOURCES], 2, layout::lock::HELD);
+    held[second_held] = Mode::Cr.number();
     assert_eq!(Tables::from_parts(held, slots), Err(Refusal::Unsound));
 }

@@ -8,6 +8,7 @@ zamgyorud-break-spec =
     tie.close
     (tie.spec
     (λ c κs. search needs)
+    (λ c κs. search needs)
     (λ c κs. search carrying)
     (λ c. search needs)
     (λ c. search carrying))

@@ -9,5 +9,6 @@ zamgyorud-image-spec =
     (tie.spec
     (λ c κs. search needs)
     (λ c κs. search needs)
+    (λ c κs. search carrying)
     (λ c. search needs)
     (λ c. search carrying))

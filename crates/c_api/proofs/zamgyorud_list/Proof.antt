@@ -40,8 +40,9 @@ use denote.Signature.{plain}
 use Rattle.tables.specs.declared.LockEntry.{LockEntry}
 use Rattle.tables.proofs.LockEntry as T
 use Rattle.rules.specs.Entries.{list-entry}
+use Rattle.rules.specs.Numbers.{Small}
 use Rattle.answers.specs.declared.Listed.{Listed}
-use Rattle.rules.specs.Calls.{Said}
+use Rattle.rules.specs.declared.Said.{Said}
 use Rattle.answers.specs.Answers.{list-said}
 use Rattle.answers.proofs.Listed as S
 use Rattle.answers.proofs.Listed.Laws as S′
@@ -52,10 +53,11 @@ use Rattle.entry_list.proofs.list.Symbol as list-def
 use Rattle.entry_list.proofs.list.Symbol.{name as #entry-list·list}
 use Rattle.entry_list.proofs.list.Met as list-thm
 use Rattle.c_answers.specs.PackedAnswers.{unpacked}
-use Rattle.c_answers.proofs.listed as listed
-use Rattle.c_answers.proofs.listed.Symbol as listed-def
-use Rattle.c_answers.proofs.listed.Symbol.{name as #c-answers·listed}
-use Rattle.c_answers.proofs.listed.Met as listed-thm
+use Rattle.c_api.proofs.PackedContracts.{list-small}
+use Rattle.c_api.proofs.packed_list as packed-list
+use Rattle.c_api.proofs.packed_list.Symbol as packed-list-def
+use Rattle.c_api.proofs.packed_list.Symbol.{name as #c-api·packed-list}
+use Rattle.c_api.proofs.packed_list.Met as packed-list-thm
 use Rattle.c_api.proofs.zamgyorud_list.Key.{name as #c-api·zamgyorud-list}
 use Rattle.c_api.proofs.zamgyorud_list as this
 use Rattle.c_api.proofs.zamgyorud_list.Statement as stated
@@ -75,7 +77,7 @@ module _ {M : Type 1} (𝓤 : URA M) (H : Heap 𝓤) (A : Atoms 𝓤) (mem : Mem
   Listing = tripleOf 𝓤 H A list.signature (list.spec 𝓤 H A mem run)
 
   abbrev Packs : Contract 𝓤
-  Packs = tripleOf 𝓤 H A listed.signature (listed.spec 𝓤 H A mem run)
+  Packs = tripleOf 𝓤 H A packed-list.signature (packed-list.spec 𝓤 H A mem run)
 
 module _ {M : Type 1} (𝓤 : URA M) (H : Heap 𝓤) (A : Atoms 𝓤) (W : Given 𝓤 H A) (mem : Memory → SProp 𝓤) (run : Routine → Fun 𝓤) (κ κ′ κ″ : Lft) (q q′ q″ : Share) (w z : RefT (List ℕ)) (c k : ℕ) (c-fits : c < 2 ^ 32) (k-fits : k < 2 ^ 32) (b o : ℕ) (γ : GName) (ys : List LockEntry) where
   abbrev ws : List ℕ
@@ -156,16 +158,16 @@ module _ {M : Type 1} (𝓤 : URA M) (H : Heap 𝓤) (A : Atoms 𝓤) (W : Given
   abbrev to-packs : Listed → Val → Packs 𝓤 H A mem run .Ghost
   to-packs y u = ((tt, tt, tt, (y, tt), (u ∷ [], tt)), tt)
 
-  asks-packs : (y : Listed) (u : Val) → Is S.the-row y (u ∷ []) → ent 𝓤 (⋆ 𝓤 H A (‵ ftrue ∷ [])) (Packs 𝓤 H A mem run .pre (to-packs y u))
-  asks-packs y u is = qed W (‵ ftrue ∷ []) ∵ nothing ! $ owned ! S.the-row (Is S.the-row) (EL.makes S.the-type S′.the-plain 𝓤 H A) y _ is $ fjoin ! $ move ! (1 ∷ 0 ∷ []) $ join ! $ frame ! $ done !
+  asks-packs : (y : Listed) (u : Val) → Is S.the-row y (u ∷ []) → Small (list-said y) → ent 𝓤 (⋆ 𝓤 H A (‵ ftrue ∷ [])) (Packs 𝓤 H A mem run .pre (to-packs y u))
+  asks-packs y u is small = qed W (‵ ftrue ∷ []) ∵ says ! small $ frame ! $ nothing ! $ owned ! S.the-row (Is S.the-row) (EL.makes S.the-type S′.the-plain 𝓤 H A) y _ is $ fjoin ! $ done !
 
   abbrev Says : Listed → ℕ → Type 0
   Says y m = unpacked m ≡ list-said y
 
-  packs-said : (y : Listed) (m : ℕ) → ent 𝓤 (ensured 𝓤 H A listed.ended (listed.clauses 𝓤 H A mem run) tt (y, tt) tt m) (fact 𝓤 (Says y m))
-  packs-said y m = exE 𝓤 _ (λ us. snd∗ 𝓤 (sem 𝓤 H A (lasts listed.ended tt (y, tt) us)) (fact 𝓤 (Says y m)))
+  packs-said : (y : Listed) (m : ℕ) → ent 𝓤 (ensured 𝓤 H A packed-list.ended (packed-list.clauses 𝓤 H A mem run) tt (y, tt) tt m) (fact 𝓤 (Says y m))
+  packs-said y m = exE 𝓤 _ (λ us. snd∗ 𝓤 (sem 𝓤 H A (lasts packed-list.ended tt (y, tt) us)) (fact 𝓤 (Says y m)))
 
-  module _ (C : Calls 𝓤 H) (Λ : Loops 𝓤 H) (fm : FmC 𝓤 H (W .laws) C) (known-list : Triple 𝓤 (C #entry-list·list) (Listing 𝓤 H A mem run)) (known-packs : Triple 𝓤 (C #c-answers·listed) (Packs 𝓤 H A mem run)) (room : Room T.the-row (length ys)) where
+  module _ (C : Calls 𝓤 H) (Λ : Loops 𝓤 H) (fm : FmC 𝓤 H (W .laws) C) (known-list : Triple 𝓤 (C #entry-list·list) (Listing 𝓤 H A mem run)) (known-packs : Triple 𝓤 (C #c-api·packed-list) (Packs 𝓤 H A mem run)) (room : Room T.the-row (length ys)) where
     walk : Is (ShrSlice (named 0) κ u32) w (v ∷ []) → Is (ShrSlice (named 1) κ′ u8) z (v′ ∷ []) → ent 𝓤 (onEntry 𝓤 H A this.signature (κ, (κ′, (κ″, tt))) (q, (q′, (q″, tt))) a vals) (WpFn 𝓤 H C Λ code.function (v ∷ v′ ∷ vint w32 c ∷ vint w32 k ∷ s ∷ []) Post)
     walk is-v is-z =
         qed W ((‵ (flft κ q) ⊛ (‵ (flft κ′ q′) ⊛ (‵ (flft κ″ q″) ⊛ ‵ ftrue))) ∷ ‵ (owns (ShrSlice (named 0) κ u32 ∷ ShrSlice (named 1) κ′ u8 ∷ u32 ∷ u32 ∷ MutSlice (named 2) κ″ T.the-row ∷ []) a vals) ∷ []) ∵ enter ! C Λ code.function (v ∷ v′ ∷ vint w32 c ∷ vint w32 k ∷ s ∷ []) _ $
@@ -185,9 +187,9 @@ module _ {M : Type 1} (𝓤 : URA M) (H : Heap 𝓤) (A : Atoms 𝓤) (W : Given
         move ! (6 ∷ []) $ split ! $ split ! $ move ! (1 ∷ []) $ split ! $ move ! (1 ∷ []) $ split ! $ move ! (1 ∷ []) $ drop ! $ move ! (3 ∷ []) $ peeks ! S.the-row (Is S.the-row) (shows 𝓤 H A S.the-row) y (u ∷ []) (λ is-y.
         land ! (from ! (stop !)) (init ! 16 refl (EL.lawful S.the-type S′.the-laws 𝓤 H A W tt .typed y (u ∷ []) is-y .0)) $ drop ! $
         -- what it says is packed
-        nothing ! $ use1 W (raw (Packs 𝓤 H A mem run .pre (to-packs y u))) (asks-packs y u is-y) $
+        nothing ! $ use1 W (raw (Packs 𝓤 H A mem run .pre (to-packs y u))) (asks-packs y u is-y (list-small ws ss c k ys (last zs) y told)) $
         calls-at ! fm (Packs 𝓤 H A mem run) known-packs (to-packs y u) (and-then ! (load ! (from ! (stop !)) (look ! 16 refl)) (no-more !)) (λ u′.
-        use1 W (later (some (λ (m : ℕ). (‵ ftrue ⊛ ‵ (u64 .own m (u′ ∷ []))) ⊛ raw (ensured 𝓤 H A listed.ended (listed.clauses 𝓤 H A mem run) tt (y, tt) tt m)))) (id⊢ 𝓤 _) $ await ! tt $ pick ! (λ m.
+        use1 W (later (some (λ (m : ℕ). (‵ ftrue ⊛ ‵ (u64 .own m (u′ ∷ []))) ⊛ raw (ensured 𝓤 H A packed-list.ended (packed-list.clauses 𝓤 H A mem run) tt (y, tt) tt m)))) (id⊢ 𝓤 _) $ await ! tt $ pick ! (λ m.
         split ! $ move ! (1 ∷ []) $ use1 W (raw (fact 𝓤 (Says y m))) (packs-said y m) $ heard ! (Says y m) (λ said. split ! $ drop ! $
         peeks ! u64 (Is u64) (shows 𝓤 H A u64) m (u′ ∷ []) (λ is-m.
         land ! (from ! (stop !)) (init ! 28 refl (uint-lawful 𝓤 H A W w64 .typed m _ is-m .0)) $
@@ -197,7 +199,7 @@ module _ {M : Type 1} (𝓤 : URA M) (H : Heap 𝓤) (A : Atoms 𝓤) (W : Given
         keep ! (2 ∷ 1 ∷ 0 ∷ 10 ∷ 9 ∷ 3 ∷ []) $ by ! (exits m (last zs) (is-m .1) (ap (λ (n : Said). listing n (last zs)) said ∙ told) len))))))))))))))))))))
 
 module _ {M : Type 1} (𝓤 : URA M) (H : Heap 𝓤) (A : Atoms 𝓤) (W : Given 𝓤 H A) (mem : Memory → SProp 𝓤) (run : Routine → Fun 𝓤) where
-  zamgyorud-list-walks : (C : Calls 𝓤 H) (Λ : Loops 𝓤 H) → FmC 𝓤 H (W .laws) C → Triple 𝓤 (C #entry-list·list) (Listing 𝓤 H A mem run) → Triple 𝓤 (C #c-answers·listed) (Packs 𝓤 H A mem run)
+  zamgyorud-list-walks : (C : Calls 𝓤 H) (Λ : Loops 𝓤 H) → FmC 𝓤 H (W .laws) C → Triple 𝓤 (C #entry-list·list) (Listing 𝓤 H A mem run) → Triple 𝓤 (C #c-api·packed-list) (Packs 𝓤 H A mem run)
       → Walks 𝓤 H A this.ended stayed (WpFn 𝓤 H C Λ code.function) (this.clauses 𝓤 H A mem run)
   zamgyorud-list-walks C Λ fm known-list known-packs = walked 𝓤 H A this.ended stayed (this.clauses 𝓤 H A mem run) (WpFn 𝓤 H C Λ code.function)
       (λ κs. (slice-vals, (slice-vals, (uint-vals w32, (uint-vals w32, (slice-vals, tt))))))
@@ -206,7 +208,7 @@ module _ {M : Type 1} (𝓤 : URA M) (H : Heap 𝓤) (A : Atoms 𝓤) (W : Given
       (walk 𝓤 H A W mem run (κs .0) (κs .1 .0) (κs .1 .1 .0) (qs .0) (qs .1 .0) (qs .1 .1 .0) (a .0) (a .1 .0) (a .1 .1 .0) (a .1 .1 .1 .0) (are .1 .1 .0 .1) (are .1 .1 .1 .0 .1) (a .1 .1 .1 .1 .0 .ptr .0) (a .1 .1 .1 .1 .0 .ptr .1) (a .1 .1 .1 .1 .0 .name) (a .1 .1 .1 .1 .0 .now) C Λ fm known-list known-packs (are .1 .1 .1 .1 .0 .0 .1) (are .0) (are .1 .0)))
 
 zamgyorud-list-meets : {M : Type 1} (𝓤 : URA M) (H : Heap 𝓤) (A : Atoms 𝓤) → Given 𝓤 H A → (mem : Memory → SProp 𝓤) (run : Routine → Fun 𝓤) (𝓣 : Tables 𝓤 H)
-    → Triple 𝓤 (𝓣 .C #entry-list·list) (Listing 𝓤 H A mem run) → Triple 𝓤 (𝓣 .C #c-answers·listed) (Packs 𝓤 H A mem run)
+    → Triple 𝓤 (𝓣 .C #entry-list·list) (Listing 𝓤 H A mem run) → Triple 𝓤 (𝓣 .C #c-api·packed-list) (Packs 𝓤 H A mem run)
     → Meets 𝓤 H A this.signature (WpFn 𝓤 H (𝓣 .C) (𝓣 .Λ) code.function) (this.spec 𝓤 H A mem run)
 zamgyorud-list-meets 𝓤 H A W mem run 𝓣 known-list known-packs =
     walk-meets 𝓤 H A this.ended stayed W (goes-none-slice 𝓤 H A W 3 (0 ∷ []) tt (plain (λ _. u32)) yes, (goes-none-slice 𝓤 H A W 3 (1 ∷ []) tt (plain (λ _. u8)) yes, (goes-none 𝓤 H A W 3 (λ _. u32) yes (λ κs x f. refl), (goes-none 𝓤 H A W 3 (λ _. u32) yes (λ κs x f. refl), (goes-gave-slice 𝓤 H A W 3 2 tt (plain (λ _. T.the-row)), tt))))) (this.clauses 𝓤 H A mem run)
@@ -219,4 +221,4 @@ zamgyorud-list-spec 𝓤 H 𝓜 𝓖 𝓡 =
     (tables 𝓤 H 𝓜 𝓡 code.env .C) (tables 𝓤 H 𝓜 𝓡 code.env .Λ) #c-api·zamgyorud-list code.function (code.unfolded 𝓤 H 𝓜 𝓡)
     (zamgyorud-list-meets 𝓤 H (𝓖 .A) (givenOf 𝓤 H 𝓜 𝓖) (𝓜 .mem) (𝓡 .run) (tablesOf 𝓤 H 𝓜 (tables 𝓤 H 𝓜 𝓡 code.env))
     (cited 𝓤 H (Listing 𝓤 H (𝓖 .A) (𝓜 .mem) (𝓡 .run)) 𝓜 𝓡 code.env #entry-list·list list-def.routine code.calls-entry-list·list (list-thm.met 𝓤 H 𝓜 𝓖 𝓡))
-    (cited 𝓤 H (Packs 𝓤 H (𝓖 .A) (𝓜 .mem) (𝓡 .run)) 𝓜 𝓡 code.env #c-answers·listed listed-def.routine code.calls-c-answers·listed (listed-thm.met 𝓤 H 𝓜 𝓖 𝓡)))
+    (cited 𝓤 H (Packs 𝓤 H (𝓖 .A) (𝓜 .mem) (𝓡 .run)) 𝓜 𝓡 code.env #c-api·packed-list packed-list-def.routine code.calls-c-api·packed-list (packed-list-thm.met 𝓤 H 𝓜 𝓖 𝓡)))

@@ -9,8 +9,10 @@ zamgyorud-read-spec =
     (tie.spec
     (λ c κs. search needs)
     (λ c κs. search needs)
+    (λ c κs. search carrying)
     (λ c. search carrying)
     (λ c κs. search needs)
     (λ c κs. search needs)
+    (λ c κs. search carrying)
     (λ c. search needs)
     (λ c. search carrying))

@@ -1,7 +1,7 @@
 -- what is met, and what is left of the chain from there on, is the whole
 use Prim.Native.Nat.{_≤_, _-_}
 use mathlib.Core.Path.{_≡_}
-use Rattle.tables.specs.Layout.{of-header, of-lock, word-in}
+use Rattle.tables.specs.Layout.{of-header, word-in, lock-link}
 use Rattle.check_laws.specs.Check.{stands, home-steps}
 use Rattle.check_chains.specs.Walks.{steps-left}
 use Rattle.check_chains.proofs.ChainWalk.{walk-loop}
@@ -11,7 +11,7 @@ use Rattle.check_chains.proofs.denied_met.Statement.{statement}
 use Rattle.check_chains.proofs.denied_met.Tie as tie
 
 abbrev Inv-loop : tie.InvT-loop
-Inv-loop words n k₀ met₀ k met = (met ≤ n) × (home-steps words 4 0 (word-in words (of-header 4)) ≡ steps-left (λ j. word-in words (of-lock j 0)) (stands words 4 0) n met k)
+Inv-loop words n k₀ met₀ k met = (met ≤ n) × (home-steps words 4 0 (word-in words (of-header 4)) ≡ steps-left (lock-link words 0) (stands words 4 0) n met k)
 
 abbrev μ-loop : tie.MeasureT-loop
 μ-loop words n k₀ met₀ k met = n - met

@@ -1,4 +1,4 @@
-use Rattle.check_queues.specs.QueueWalks.{fits-beside}
+use Rattle.check_laws.specs.Check.{fits-beside}
 use borrow.Author.Needs.{needs}
 use Rattle.check_queues.proofs.fits_beside.Statement.{statement}
 use Rattle.check_queues.proofs.fits_beside.Tie as tie

@@ -1,8 +1,8 @@
 -- what is met, and what is left of the chain from there on with the set so far, is the whole
 use Prim.Native.Nat.{_<_, _≤_, _-_}
 use mathlib.Core.Path.{_≡_}
-use Rattle.check_laws.specs.Check.{tail-steps}
-use Rattle.check_queues.specs.QueueWalks.{modes-left, fits-beside}
+use Rattle.check_laws.specs.Check.{fits-beside, tail-steps}
+use Rattle.check_queues.specs.QueueWalks.{modes-left}
 use Rattle.check_queues.proofs.HolderWalks.{tail-start, stands-held, modes-end, modes-long, modes-off, modes-other, modes-clash, modes-on}
 use borrow.Author.Needs.{needs}
 use native.Mathlib.Omega.{arith}

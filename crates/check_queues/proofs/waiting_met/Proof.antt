@@ -1,58 +1,11 @@
--- what is met, and what is left of the chain from there on, is the whole; within a run there is something left
-use Prim.Native.Nat.{_≤_, _-_}
-use mathlib.Core.Path.{_≡_}
-use Rattle.tables.specs.Layout.{of-resource, of-lock, word-in}
-use Rattle.check_laws.specs.Check.{stands, home-steps}
-use Rattle.check_chains.specs.Walks.{steps-left}
-use Rattle.check_chains.proofs.ChainWalk.{walk-other, walk-loop}
-use Rattle.check_chains.proofs.WalkStarts.{starts}
-use native.Mathlib.Omega.{arith}
-use borrow.Author.Needs.{needs}
+use Rattle.check_chains.proofs.WalkStarts.{chains}
 use Rattle.check_queues.proofs.waiting_met.Statement.{statement}
 use Rattle.check_queues.proofs.waiting_met.Tie as tie
-
-abbrev Inv-loop : tie.InvT-loop
-Inv-loop words r n k₀ met₀ k met = (met ≤ n) × (home-steps words 3 r (word-in words (of-resource r 3)) ≡ steps-left (λ j. word-in words (of-lock j 0)) (stands words 3 r) n met k)
-
-abbrev μ-loop : tie.MeasureT-loop
-μ-loop words r n k₀ met₀ k met = n - met
-
-abbrev Inv-loop2 : tie.InvT-loop2
-Inv-loop2 words r n k₀ met₀ k met = (met₀ ≤ met) × (k ≡ 0 → ⊥) × Inv-loop words r n k₀ met₀ k met
-
-abbrev μ-loop2 : tie.MeasureT-loop2
-μ-loop2 words r n k₀ met₀ k met = n - met
-
-stands-waiting-requires : tie.Need-stands-waiting-requires Inv-loop2 μ-loop2 Inv-loop μ-loop
-stands-waiting-requires c κs = (search needs, ((omega arith, omega arith), (search needs, search needs)))
-
-loop2-again : tie.Need-loop2-again Inv-loop2 μ-loop2 Inv-loop μ-loop
-loop2-again c = (omega arith, (λ e. omega arith), (omega arith, rw (← c .if4 .left) (search walk-loop)))
 
 pub waiting-met-spec : {M : Type 1} → statement M
 waiting-met-spec =
     tie.close
     (tie.spec
-    Inv-loop2
-    μ-loop2
-    Inv-loop
-    μ-loop
-    (λ c. search walk-loop)
-    (λ c κs. search walk-loop)
-    (λ c. search starts)
-    (λ c. search walk-loop)
-    (λ c. search walk-loop)
-    (λ c. (search walk-loop, omega arith))
-    (λ c. search walk-loop)
-    (λ c. (search walk-loop, omega arith))
-    stands-waiting-requires
-    (λ c. search walk-loop)
-    (λ c. (search walk-other, omega arith))
-    (λ c. search walk-loop)
-    (λ c κs. search walk-loop)
-    (λ c. search walk-loop)
-    (λ c. search walk-loop)
-    (λ c. search walk-loop)
-    (λ c. search walk-loop)
-    loop2-again
-    (λ c. (search walk-loop, omega arith)))
+    (λ c κs. search chains)
+    (λ c κs. search chains)
+    (λ c. (search chains, search chains)))

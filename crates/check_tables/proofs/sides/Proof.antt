@@ -1,5 +1,5 @@
 use Rattle.check_tables.specs.Chains.{sides-fine}
-use Rattle.check_resources.proofs.NumberRuns.{and-chain}
+use Rattle.check_tables.proofs.CheckPasses.{and-chain}
 use borrow.Author.Needs.{needs}
 use Rattle.check_tables.proofs.sides.Statement.{statement}
 use Rattle.check_tables.proofs.sides.Tie as tie

@@ -1,5 +1,5 @@
 use Rattle.deadlock_prune.proofs.BusyOwners.{busy-laws, BusyBefore}
-use Rattle.deadlock_graph.specs.Chained.{onward}
+use Rattle.tables.specs.Layout.{onward}
 use lib.ListN.{length}
 use Rattle.deadlock_prune.proofs.busy_owners.Statement.{statement}
 use Rattle.deadlock_prune.proofs.busy_owners.Tie as tie

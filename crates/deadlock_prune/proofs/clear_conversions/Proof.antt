@@ -1,6 +1,6 @@
 use Rattle.deadlock_prune.proofs.ClearedLines.{converts-laws, Passing}
 use Rattle.deadlock_graph.specs.Contracts.{seen}
-use Rattle.deadlock_graph.specs.Chained.{onward}
+use Rattle.tables.specs.Layout.{onward}
 use lib.ListN.{length}
 use Rattle.tables.specs.State.{resource}
 use Rattle.deadlock_prune.proofs.clear_conversions.Statement.{statement}

@@ -1,8 +1,8 @@
 use Rattle.deadlock_prune.proofs.ClearedLines.{waits-laws, Passing, waits-again}
-use Rattle.deadlock_graph.proofs.ChainWalks.{walk-sized, walk-low, walk-high}
+use Rattle.table_chains.proofs.ChainWalks.{walk-sized, walk-low, walk-high}
 use borrow.Author.Needs.{needs}
 use Rattle.deadlock_graph.specs.Contracts.{seen}
-use Rattle.deadlock_graph.specs.Chained.{onward}
+use Rattle.tables.specs.Layout.{onward}
 use lib.ListN.{length}
 use Rattle.tables.specs.Validity.{line}
 use Rattle.deadlock_prune.proofs.clear_waits.Statement.{statement}

@@ -1,5 +1,5 @@
 use Rattle.deadlock_prune.proofs.LocksLeft.{count-laws, Counting}
-use Rattle.deadlock_graph.specs.Chained.{onward}
+use Rattle.tables.specs.Layout.{onward}
 use lib.ListN.{length}
 use Rattle.deadlock_prune.proofs.count_left.Statement.{statement}
 use Rattle.deadlock_prune.proofs.count_left.Tie as tie

@@ -1,5 +1,5 @@
 use Rattle.deadlock_prune.proofs.OwnersInTheWay.{hindering-laws, Hindering}
-use Rattle.deadlock_graph.specs.Chained.{onward}
+use Rattle.tables.specs.Layout.{onward}
 use lib.ListN.{length}
 use Rattle.deadlock_prune.proofs.hindered_from.Statement.{statement}
 use Rattle.deadlock_prune.proofs.hindered_from.Tie as tie

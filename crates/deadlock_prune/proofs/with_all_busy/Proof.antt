@@ -1,5 +1,5 @@
 use Rattle.deadlock_prune.proofs.OwnersInTheWay.{gathering-laws, Gathering}
-use Rattle.deadlock_graph.specs.Chained.{onward}
+use Rattle.tables.specs.Layout.{onward}
 use lib.ListN.{length}
 use Rattle.deadlock_prune.proofs.with_all_busy.Statement.{statement}
 use Rattle.deadlock_prune.proofs.with_all_busy.Tie as tie

@@ -1,5 +1,5 @@
 use Rattle.deadlock_search.proofs.FirstVictim.{seek-laws, Seeking}
-use Rattle.deadlock_graph.specs.Chained.{onward}
+use Rattle.tables.specs.Layout.{onward}
 use lib.ListN.{length}
 use Rattle.deadlock_search.proofs.first_on_cycle.Statement.{statement}
 use Rattle.deadlock_search.proofs.first_on_cycle.Tie as tie

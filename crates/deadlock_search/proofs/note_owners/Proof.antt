@@ -1,5 +1,5 @@
 use Rattle.deadlock_search.proofs.NotedOwners.{note-laws, Noting}
-use Rattle.deadlock_graph.specs.Chained.{onward}
+use Rattle.tables.specs.Layout.{onward}
 use lib.ListN.{length}
 use Rattle.deadlock_search.proofs.note_owners.Statement.{statement}
 use Rattle.deadlock_search.proofs.note_owners.Tie as tie

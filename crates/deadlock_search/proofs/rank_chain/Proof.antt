@@ -1,5 +1,5 @@
 use Rattle.deadlock_search.proofs.RankedLines.{chain-laws, Numbering}
-use Rattle.deadlock_graph.specs.Chained.{onward}
+use Rattle.tables.specs.Layout.{onward}
 use lib.ListN.{length}
 use Rattle.deadlock_search.proofs.rank_chain.Statement.{statement}
 use Rattle.deadlock_search.proofs.rank_chain.Tie as tie

@@ -1,15 +1,16 @@
 use lib.ListN.{length}
-use Rattle.rules.specs.Images.{image-words}
-use Rattle.queues.specs.Holders.{locks-from}
-use Rattle.entry_holder.proofs.ExclusiveLock.{Seeking, seeking}
+use Rattle.tables.specs.Layout.{onward}
+use Rattle.rules.specs.Images.{image-words, ex}
+use Rattle.table_chains.proofs.ChainWalks.{Seeking}
+use Rattle.entry_holder.proofs.ExclusiveLock.{seeking}
 use Rattle.entry_holder.proofs.ex_from.Statement.{statement}
 use Rattle.entry_holder.proofs.ex_from.Tie as tie
 
 abbrev Inv-loop : tie.InvT-loop
-Inv-loop image first k₀ k = Seeking (image-words image) first k
+Inv-loop image first k₀ k = Seeking (image-words image) 0 6 ex first k
 
 abbrev μ-loop : tie.MeasureT-loop
-μ-loop image first k₀ k = length (locks-from (image-words image) k)
+μ-loop image first k₀ k = length (onward (image-words image) 0 k)
 
 pub ex-from-spec : {M : Type 1} → statement M
 ex-from-spec =

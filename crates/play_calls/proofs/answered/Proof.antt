@@ -1,5 +1,5 @@
 -- `answered`: accepted, or refused.
-use Rattle.play_calls.proofs.AnswerNumbers.{answer-rules}
+use Rattle.play_calls.proofs.AnsweredLines.{answer-rules}
 use Rattle.play_calls.proofs.answered.Statement.{statement}
 use Rattle.play_calls.proofs.answered.Tie as tie
 

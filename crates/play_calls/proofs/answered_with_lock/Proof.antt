@@ -1,5 +1,5 @@
 -- `answered_with_lock`: accepted, or refused.
-use Rattle.play_calls.proofs.AnswerNumbers.{answer-rules}
+use Rattle.play_calls.proofs.AnsweredLines.{answer-rules}
 use Rattle.play_calls.proofs.answered_with_lock.Statement.{statement}
 use Rattle.play_calls.proofs.answered_with_lock.Tie as tie
 

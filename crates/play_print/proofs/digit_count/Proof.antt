@@ -8,9 +8,10 @@ use Rattle.play_print.specs.Decimal.{decimal}
 use Rattle.play_print.proofs.Digits.{decimal-ten, decimal-longer, decimal-short}
 use Rattle.play_print.proofs.digit_count.Statement.{statement}
 use Rattle.play_print.proofs.digit_count.Tie as tie
+use Rattle.play_print.specs.PrintedLines.{number-width}
 
 abbrev Inv-loop : tie.InvT-loop
-Inv-loop n m₀ k₀ m k = (k + length (decimal m) ≡ 1 + length (decimal n)) × (length (decimal n) ≤ 10)
+Inv-loop n m₀ k₀ m k = (k + length (decimal m) ≡ 1 + length (decimal n)) × (length (decimal n) ≤ number-width)
 
 abbrev μ-loop : tie.MeasureT-loop
 μ-loop n m₀ k₀ m k = m

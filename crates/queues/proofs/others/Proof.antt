@@ -1,9 +1,12 @@
-use Rattle.queues.proofs.QueueReads.{others-converting, others-laws}
+use Rattle.table_chains.proofs.ChainWalks.{here-converts}
+use Rattle.queues.proofs.QueueReads.{others-few, others-laws}
 use Rattle.queues.proofs.others.Statement.{statement}
 use Rattle.queues.proofs.others.Tie as tie
 
 with-holders-requires-2 : tie.Need-with-holders-requires-2
-with-holders-requires-2 c κs = others-converting _ _ _ _ (c .before .before .resource-word .ensures) _ (c .before .with-holders .ensures) _ (c .resource-word2 .ensures) (c .before .before .before .before .pre)
+with-holders-requires-2 c κs =
+    let s = c .before .before .before .before .pre in
+    (here-converts _ _ s (c .resource-word2 .ensures), others-few _ _ _ _ (c .before .before .resource-word .ensures) _ (c .before .with-holders .ensures) s)
 
 pub others-spec : {M : Type 1} → statement M
 others-spec =

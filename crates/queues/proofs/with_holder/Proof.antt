@@ -1,5 +1,4 @@
 use Rattle.queues.proofs.HolderWalk.{joined-laws}
-use borrow.Author.Needs.{needs}
 use Rattle.queues.proofs.with_holder.Statement.{statement}
 use Rattle.queues.proofs.with_holder.Tie as tie
 
@@ -8,6 +7,6 @@ with-holder-spec =
     tie.close
     (tie.spec
     (λ c. search joined-laws)
-    (λ c κs. search needs)
-    (λ c κs. search needs)
+    (λ c κs. search joined-laws)
+    (λ c κs. search joined-laws)
     (λ c. search joined-laws))

@@ -1,5 +1,5 @@
 use lib.ListN.{length}
-use Rattle.queues.specs.Holders.{locks-from}
+use Rattle.tables.specs.Layout.{onward}
 use Rattle.queues.proofs.HolderWalk.{Adding, adding-laws}
 use Rattle.queues.proofs.with_holders.Statement.{statement}
 use Rattle.queues.proofs.with_holders.Tie as tie
@@ -8,7 +8,7 @@ abbrev Inv-loop : tie.InvT-loop
 Inv-loop words set first k held₀ j₀ held j = Adding words set first k held j
 
 abbrev μ-loop : tie.MeasureT-loop
-μ-loop words set first k held₀ j₀ held j = length (locks-from words j)
+μ-loop words set first k held₀ j₀ held j = length (onward words 0 j)
 
 pub with-holders-spec : {M : Type 1} → statement M
 with-holders-spec =
