@@ -14,7 +14,7 @@ use Rattle.modes.specs.declared.Mode as declared
 use Rattle.modes.specs.Modes.{matrix, compatible, all-modes, down}
 use Rattle.modes.specs.Sets.{in-set, fits-set, FitsRow, with-mode}
 use Rattle.modes.specs.Made.{MadeNumbers, made-numbers, made}
-use Rattle.modes.proofs.Table.{parts, by-range, same, same-true, upto, below, below2, agree2, agree3}
+use Rattle.modes.proofs.Table.{parts, by-range, below, below2, agree2, agree3, entries, entry-at}
 
 -- a number above 5 goes with none, held or asked
 pub none-held : (a b : ℕ) → 6 ≤ a → compatible a b ≡ false
@@ -66,13 +66,12 @@ pub fits-none : (a : ℕ) → a < 6 → fits-set 0 a ≡ true
 unfolding fits-set in-set all-modes compatible matrix
 fits-none a h = below (λ x. fits-set 0 x) 6 refl a h
 
--- a row is that of its set if its entries pass a computed test, and each row of a table if all of the table's do
-pub row-of : (row : List Bool) (s : ℕ) → upto 6 (λ a. same (getD row a false) (fits-set s a)) ≡ true → FitsRow s row
-row-of row s t = record { entry = λ a h. same-true (getD row a false) (fits-set s a) (below (λ a. same (getD row a false) (fits-set s a)) 6 t a h) }
+-- a row of six entries is that of its set if these are the rule's, and each row of a table if all of the table's are
+pub row-of : (row : List Bool) (s : ℕ) → row ≡ entries 6 (fits-set s) → FitsRow s row
+row-of row s e = record { entry = λ a h. rw e (entry-at 6 (fits-set s) a false h) }
 
-pub row-in : (table : List (List Bool)) → upto 64 (λ s. upto 6 (λ a. same (getD (getD table s []) a false) (fits-set s a))) ≡ true → (s : ℕ) → s < 64
-    → FitsRow s (getD table s [])
-row-in table t s h = row-of (getD table s []) s (below (λ s. upto 6 (λ a. same (getD (getD table s []) a false) (fits-set s a))) 64 t s h)
+pub row-in : (table : List (List Bool)) → table ≡ entries 64 (λ s. entries 6 (fits-set s)) → (s : ℕ) → s < 64 → FitsRow s (getD table s [])
+row-in table e s h = row-of (getD table s []) s (rw e (entry-at 64 (λ s. entries 6 (fits-set s)) s [] h))
 
 pub with-mode-small : (s m : ℕ) → s < 64 → m < 6 → with-mode s m < 64
 unfolding with-mode in-set

@@ -3,9 +3,11 @@
 use mathlib.Core.Path.{_≡_, refl, subst, sym}
 use mathlib.Core.Bool.{Bool, true, false, _&&_}
 use mathlib.Core.Logic.{⊎-elim}
+use mathlib.Core.List.{List, [], _∷_}
 use Prim.Native.Nat.{ℕ, zero, suc, _≤_, _<_}
 use native.Mathlib.Nat.{eq-or-lt-of-le, le-of-suc-le-suc, not-suc-le-zero}
 use lib.Dec.{ltb}
+use lib.ListN.{getD}
 use borrow.Author.Tests.{ltb-true, ltb-false}
 
 pub and-left : (a b : Bool) → (a && b) ≡ true → a ≡ true
@@ -67,3 +69,13 @@ agree2 f g n m t a b ha hb = same-true (f a b) (g a b) (below2 (λ a b. same (f 
 pub agree3 : (f g : ℕ → ℕ → ℕ → Bool) (n m l : ℕ) → upto n (λ a. upto m (λ b. upto l (λ d. same (f a b d) (g a b d)))) ≡ true → (a b d : ℕ)
     → a < n → b < m → d < l → f a b d ≡ g a b d
 agree3 f g n m l t a b d ha hb hd = same-true (f a b d) (g a b d) (below3 (λ a b d. same (f a b d) (g a b d)) n m l t a b d ha hb hd)
+
+-- the rule's values at the n numbers from 0 on: a table of the code is compared with it, each entry once
+abbrev pub entries : {A : Type 0} → ℕ → (ℕ → A) → List A
+entries zero f = []
+entries (suc n) f = f 0 ∷ entries n (λ k. f (suc k))
+
+pub entry-at : {A : Type 0} (n : ℕ) (f : ℕ → A) (k : ℕ) (d : A) → k < n → getD (entries n f) k d ≡ f k
+entry-at zero f k d h = absurd (not-suc-le-zero h)
+entry-at (suc n) f zero d h = refl
+entry-at (suc n) f (suc k) d h = entry-at n (λ k. f (suc k)) k d (le-of-suc-le-suc h)

@@ -1,5 +1,5 @@
--- `modes::fits_row` meets its contract: every mode is compatible with those of the empty set, and one computed test goes
--- over the 384 entries of the code's table. Assumes nothing.
+-- `modes::fits_row` meets its contract: every mode is compatible with those of the empty set, and the 384 entries of the
+-- code's table are the rule's, by computing. Assumes nothing.
 use mathlib.Core.Path.{refl}
 use borrow.Author.Needs.{needs}
 use Rattle.modes.specs.Modes.{matrix, compatible, all-modes}
