@@ -9,6 +9,19 @@
 
 #define R 4
 #define L 8
+
+/* Document 01's layout: words of the header, of a resource and of a lock, bytes of a slot. */
+#define HEADER_WORDS 8
+#define RESOURCE_WORDS 8
+#define LOCK_WORDS 9
+#define SLOT_BYTES 96
+#define WORD_BYTES 4
+
+/* One more than document 01 allows. */
+#define TOO_MANY_RESOURCES 257
+#define TOO_MANY_LOCKS 1025
+#define TOO_HIGH_CLIENT 256
+
 #define WORDS ZAMGYORUD_WORDS_LEN(R, L)
 #define SLOTS ZAMGYORUD_SLOTS_LEN(R, L)
 #define IMAGE ZAMGYORUD_IMAGE_LEN(R, L)
@@ -98,13 +111,13 @@ static struct zamgyorud_answer release(uint32_t client, uint32_t lock, uint32_t 
 /* Lengths, and tables in memory. Constants and functions say the same; where there are no tables, the functions say 0. */
 static void test_lengths(void)
 {
-    static const uint32_t wrong[][2] = {{0, L}, {R, 0}, {257, L}, {R, 1025}, {UINT32_MAX, L}, {R, UINT32_MAX}, {0, 0}};
+    static const uint32_t wrong[][2] = {{0, L}, {R, 0}, {TOO_MANY_RESOURCES, L}, {R, TOO_MANY_LOCKS}, {UINT32_MAX, L}, {R, UINT32_MAX}, {0, 0}};
     struct zamgyorud_tables none;
 
-    IS(WORDS, 112);
-    IS(SLOTS, 384);
-    IS(IMAGE, 832);
-    IS(MEMORY, 208);
+    IS(WORDS, HEADER_WORDS + RESOURCE_WORDS * R + LOCK_WORDS * L);
+    IS(SLOTS, SLOT_BYTES * R);
+    IS(IMAGE, WORD_BYTES * WORDS + SLOTS);
+    IS(MEMORY, WORDS + SLOTS / WORD_BYTES);
     IS(zamgyorud_words_len(R, L), WORDS);
     IS(zamgyorud_slots_len(R, L), SLOTS);
     IS(zamgyorud_image_len(R, L), IMAGE);
@@ -135,21 +148,21 @@ static void test_lengths(void)
 /* Started tables: all records free, chained upward. */
 static void test_start(void)
 {
-    static const uint32_t header[8] = {R, L, 1, 1, 0, 0, 0, 0};
+    static const uint32_t header[HEADER_WORDS] = {R, L, 1, 1, 0, 0, 0, 0};
     uint32_t expected[MEMORY] = {0};
 
     start_afresh();
     memcpy(expected, header, sizeof header);
     for (uint32_t r = 1; r < R; r++)
-        expected[8 + 8 * (r - 1)] = r + 1;
+        expected[HEADER_WORDS + RESOURCE_WORDS * (r - 1)] = r + 1;
     for (uint32_t k = 1; k < L; k++)
-        expected[8 + 8 * R + 9 * (k - 1)] = k + 1;
+        expected[HEADER_WORDS + RESOURCE_WORDS * R + LOCK_WORDS * (k - 1)] = k + 1;
     SAME(memory, expected, sizeof memory);
     IS(zamgyorud_tables_sound(&tables), 1);
 
     keep();
     REFUSES(zamgyorud_tables_start(&tables, 0, L), ZAMGYORUD_REFUSAL_SIZES);
-    REFUSES(zamgyorud_tables_start(&tables, R, 1025), 2);
+    REFUSES(zamgyorud_tables_start(&tables, R, TOO_MANY_LOCKS), 2);
     REFUSES(zamgyorud_start(tables.words, WORDS - 1, tables.slots, SLOTS, R, L), 2);
     REFUSES(zamgyorud_start(tables.words, WORDS, tables.slots, SLOTS - 1, R, L), 2);
     unchanged();
@@ -179,13 +192,13 @@ static void test_refusals(void)
     memset(name, 'n', sizeof name);
     name[65] = 0;
     REFUSES(request(0, ZAMGYORUD_MODE_NL, 0, "a"), ZAMGYORUD_REFUSAL_CLIENT);
-    REFUSES(request(256, ZAMGYORUD_MODE_NL, 0, "a"), 3);
+    REFUSES(request(TOO_HIGH_CLIENT, ZAMGYORUD_MODE_NL, 0, "a"), 3);
     REFUSES(request(1, 6, 0, "a"), ZAMGYORUD_REFUSAL_MODE);
     REFUSES(request(1, ZAMGYORUD_MODE_EX, ZAMGYORUD_FLAG_STORE_VALUE, "a"), ZAMGYORUD_REFUSAL_FLAGS);
     REFUSES(request(1, ZAMGYORUD_MODE_EX, 0, ""), ZAMGYORUD_REFUSAL_NAME);
     REFUSES(request(1, ZAMGYORUD_MODE_EX, 0, name), 6);
     REFUSES(zamgyorud_tables_purge(&tables, 0), 3);
-    REFUSES(zamgyorud_tables_poll(&tables, 256), 3);
+    REFUSES(zamgyorud_tables_poll(&tables, TOO_HIGH_CLIENT), 3);
     unchanged();
     name[ZAMGYORUD_NAME_BYTES] = 0;
     GIVES(request(ZAMGYORUD_MOST_CLIENT, ZAMGYORUD_MODE_EX, 0, name), 1, 1);

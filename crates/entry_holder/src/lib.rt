@@ -159,13 +159,12 @@ fn ex_holder(image: &[u8], slots: &[u8], name: &[u8]) -> u32
 pub fn holder(image: &[u8], name: &[u8]) -> u32
     ensures { λ r. ⌜ r ≡ holder-entry (now (image .entry)) (now (name .entry)) ⌝ }
 {
-    let n = words_in(image);
-    if !sound_image(image, n) {
+    if !sound_image(image) {
         return REFUSED + NO_IMAGE;
     }
     if !call_arguments::name_right(name) {
         return REFUSED + NAME;
     }
-    let start = WORD_BYTES * n;
+    let start = WORD_BYTES * words_in(image);
     ex_holder(image, &image[start..], name)
 }

@@ -9,7 +9,6 @@ use table_bytes::encode;
 use table_bytes::word_at;
 use table_fields::wide;
 ghost use mathlib.Core.Path.{_≡_};
-ghost use lib.ListN.{length};
 ghost use Rattle.rules.specs.Images.{«image-sound», «image-entry», «load-entry»};
 ghost use Rattle.rules.specs.Entries.{lent, outcome};
 ghost use Rattle.answers.specs.Answers.{done};
@@ -90,18 +89,6 @@ fn is_sound(image: &[u8], decoded: &[u32]) -> bool
     sound(decoded, &image[start..])
 }
 
-// The words d become the words s, which are as many.
-pub fn copy_words(d: &mut [u32], s: &[u32])
-    requires { ⌜ length (now d) ≡ length (now s) ⌝ }
-    ensures { λ _. ⌜ now (d .exit) ≡ now (s .entry) ⌝ }
-{
-    let mut i = 0;
-    while i < s.len() {
-        d[i] = s[i];
-        i += 1;
-    }
-}
-
 // The tables, which may hold anything before, become those of the image, whose words `decoded` holds. Nothing lent changes
 // where it is refused.
 fn load_from(image: &[u8], decoded: &[u32], words: &mut [u32], slots: &mut [u8]) -> Done
@@ -115,7 +102,7 @@ fn load_from(image: &[u8], decoded: &[u32], words: &mut [u32], slots: &mut [u8])
     if !((words.len() == decoded.len()) & (slots.len() == image.len() - start)) {
         return Done::Refused(LENGTHS);
     }
-    copy_words(words, decoded);
+    table_names::copy_words(words, decoded);
     table_names::copy(slots, &image[start..]);
     Done::Accepted
 }
@@ -152,12 +139,12 @@ pub fn load(image: &[u8], words: &mut [u32], slots: &mut [u8]) -> Done
     load_large(image, words, slots)
 }
 
-// Whether it is an image of sound tables; n is how many words it has. A large image is loaded into empty tables: their
-// lengths are wrong, and they are refused for that only if the image is sound.
-pub fn sound_image(image: &[u8], n: usize) -> bool
-    requires { ⌜ Measured (now image) n ⌝ }
+// Whether it is an image of sound tables. A large image is loaded into empty tables: their lengths are wrong, and they
+// are refused for that only if the image is sound.
+pub fn sound_image(image: &[u8]) -> bool
     ensures { λ x. ⌜ x ≡ image-sound (now (image .entry)) ⌝ }
 {
+    let n = words_in(image);
     if n <= SMALL_WORDS {
         let mut buffer = [0; SMALL_WORDS];
         decode(image, &mut buffer[..n]);

@@ -1,4 +1,4 @@
-// Names and value blocks: bytes, and the slots of the lock manager's table. Widths stand here alone.
+// Names and value blocks: bytes, and the slots of the lock manager's table. Widths stand here alone. Also the copying of words.
 use table_bytes::WORD_BYTES;
 use table_bytes::word_at;
 use table_fields::RESOURCE_NAME_LENGTH;
@@ -111,7 +111,19 @@ pub fn clear(a: &mut [u8])
     }
 }
 
+// The bytes d become the bytes s, which are as many; and the same for words.
 pub fn copy(d: &mut [u8], s: &[u8])
+    requires { ⌜ length (now d) ≡ length (now s) ⌝ }
+    ensures { λ _. ⌜ now (d .exit) ≡ now (s .entry) ⌝ }
+{
+    let mut i = 0;
+    while i < s.len() {
+        d[i] = s[i];
+        i += 1;
+    }
+}
+
+pub fn copy_words(d: &mut [u32], s: &[u32])
     requires { ⌜ length (now d) ≡ length (now s) ⌝ }
     ensures { λ _. ⌜ now (d .exit) ≡ now (s .entry) ⌝ }
 {

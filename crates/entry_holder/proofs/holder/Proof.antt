@@ -8,12 +8,12 @@ holder-spec =
     tie.close
     (tie.spec
     (λ c κs. search needs)
-    (λ c κs. search needs)
     (λ c. search needs)
     (λ c. search answering)
     (λ c κs. search needs)
     (λ c. search needs)
     (λ c. search answering)
+    (λ c κs. search needs)
     (λ c. search answering)
     (λ c. search answering)
     (λ c. search needs)

@@ -8,6 +8,7 @@ pub sound-image-spec : {M : Type 1} → statement M
 sound-image-spec =
     tie.close
     (tie.spec
+    (λ c κs. search needs)
     (λ c. search needs)
     (λ c. search lending)
     (λ c κs. search lending)

@@ -3,9 +3,9 @@ use mathlib.Core.Path.{_≡_}
 use mathlib.Core.List.{_++_}
 use Prim.Native.Nat.{_≤_, _-_}
 use lib.ListN.{length, take, drop}
 use Rattle.table_names.proofs.Spans.{copy-loop}
-use Rattle.entry_image.proofs.copy_words.Statement.{statement}
-use Rattle.entry_image.proofs.copy_words.Tie as tie
+use Rattle.table_names.proofs.copy_words.Statement.{statement}
+use Rattle.table_names.proofs.copy_words.Tie as tie
 
 abbrev Inv-loop : tie.InvT-loop
 Inv-loop d₀ s i₀ d i = (length d ≡ length d₀) × ((i ≤ length s) × (d ≡ take i s ++ drop i d₀))
