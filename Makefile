@@ -56,19 +56,23 @@ target/bin/lockplay: $(SOURCES)
 lib: target/lib/libzamgyorud.a target/lib/zamgyorud.h
 	@echo 'target/lib has libzamgyorud.a and zamgyorud.h, version $(VERSION)' >&2
 
-# `rt staticlib` proves what c_api uses one crate after the other. `rt check` does it two or more at a time.
+# The crates that C can call. Each gives the library one object, whose only global names are the header's functions.
+# `rt staticlib` proves what a crate uses one crate after the other. `rt check` does it two or more at a time.
+C_CRATES := c_calls c_reads c_images
 target/lib/libzamgyorud.a: $(SOURCES)
 	@$(call want,rt)
-	@rt check $(shell sed -n 's/^c_api: *//p' crates.txt) >&2
-	@rt staticlib c_api >&2
-	@mkdir -p target/lib
-	@cp target/staticlib/libc_api.a $@
+	@$(call want,$(AR))
+	@rt check $(foreach c,$(C_CRATES),$(shell sed -n 's/^$(c): *//p' crates.txt)) >&2
+	@rm -rf target/objects $@
+	@mkdir -p target/objects target/lib
+	@for c in $(C_CRATES); do rt staticlib $$c >&2 && (cd target/objects && $(AR) x ../staticlib/lib$$c.a) || exit 1; done
+	@$(AR) rcs $@ $(C_CRATES:%=target/objects/%.o)
 
 target/lib/zamgyorud.h: include/zamgyorud.h
 	@mkdir -p target/lib
 	@cp $< $@
 
-# The same objects, which are position-independent, as a shared library. Their only global names are the header's functions.
+# The same objects, which are position-independent, as a shared library.
 SHARED := target/lib/libzamgyorud.so.$(VERSION)
 $(SHARED): target/lib/libzamgyorud.a
 	@$(call want,$(CC))

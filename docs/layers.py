@@ -20,7 +20,7 @@ Layer = namedtuple('Layer', 'title fill shade rows')
 # From top to bottom. A storey has layers over the whole width, or layers on its left and on its right side, one below the other. The cells of a row
 # divide the width evenly; - is an empty one. A crate stands above those that it uses, or in one row to the right of them.
 STOREYS = [
-    {'left': [Layer('C', '#f6dcee', '#9b2f7c', ['c_api', 'c_answers'])],
+    {'left': [Layer('C', '#f6dcee', '#9b2f7c', ['c_images c_reads c_calls', '- c_answers -'])],
      'right': [Layer('lockplay', '#d2ecec', '#1d7777', [
          'play_calls play_session lockplay', 'play_print play_commands play_lines', '- play_numbers -'])]},
     {'all': [Layer('entries', '#f7d3d3', '#b03030', [

@@ -1,1 +1,3 @@
+pub mod LentAreas
 pub mod PackedAnswers
+pub mod PackedContracts

@@ -1,0 +1,14 @@
+use Rattle.c_calls.proofs.CallNumbers.{call-laws}
+use borrow.Author.Needs.{needs}
+use Rattle.c_calls.proofs.zamgyorud_break.Statement.{statement}
+use Rattle.c_calls.proofs.zamgyorud_break.Tie as tie
+
+pub zamgyorud-break-spec : {M : Type 1} → statement M
+zamgyorud-break-spec =
+    tie.close
+    (tie.spec
+    (λ c κs. search needs)
+    (λ c κs. search needs)
+    (λ c κs. search call-laws)
+    (λ c. search needs)
+    (λ c. search call-laws))

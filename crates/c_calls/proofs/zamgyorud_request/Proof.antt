@@ -1,0 +1,15 @@
+use Rattle.c_calls.proofs.CallNumbers.{call-laws}
+use borrow.Author.Needs.{needs}
+use Rattle.c_calls.proofs.zamgyorud_request.Statement.{statement}
+use Rattle.c_calls.proofs.zamgyorud_request.Tie as tie
+
+pub zamgyorud-request-spec : {M : Type 1} → statement M
+zamgyorud-request-spec =
+    tie.close
+    (tie.spec
+    (λ c κs. search needs)
+    (λ c κs. search needs)
+    (λ c κs. search call-laws)
+    (λ c. search needs)
+    (λ c. search needs)
+    (λ c. search call-laws))

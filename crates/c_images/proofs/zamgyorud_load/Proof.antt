@@ -1,0 +1,15 @@
+use Rattle.c_images.proofs.PackedImages.{load-laws}
+use borrow.Author.Needs.{needs}
+use Rattle.c_images.proofs.zamgyorud_load.Statement.{statement}
+use Rattle.c_images.proofs.zamgyorud_load.Tie as tie
+
+pub zamgyorud-load-spec : {M : Type 1} → statement M
+zamgyorud-load-spec =
+    tie.close
+    (tie.spec
+    (λ c κs. search needs)
+    (λ c κs. search needs)
+    (λ c κs. search load-laws)
+    (λ c. search needs)
+    (λ c. search needs)
+    (λ c. search load-laws))

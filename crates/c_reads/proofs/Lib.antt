@@ -1,0 +1,2 @@
+pub mod AreaFronts
+pub mod PackedReads
