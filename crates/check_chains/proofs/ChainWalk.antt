@@ -1,31 +1,17 @@
 -- A walk along a chain: what is met, and what is left of it, is the whole.
-use mathlib.Core.Path.{_≡_, refl, _∙_}
+use mathlib.Core.Path.{_≡_, _∙_}
 use mathlib.Core.Bool.{Bool, true, false, not, cond}
-use Prim.Native.Nat.{ℕ, zero, suc, _+_, _-_, _≤_, _<_}
+use Prim.Native.Nat.{ℕ, suc, _+_, _-_, _≤_, _<_}
 use native.Mathlib.Nat.{sub-zero}
 use native.Mathlib.Omega.{arith}
 use borrow.Author.Needs.{needs}
 use borrow.Author.Tests.{not-true, not-false, le-leb, lt-leb}
 use Rattle.check_laws.specs.Check.{steps}
+use Rattle.check_laws.proofs.ChainSteps.{steps-zero, steps-none, steps-turn}
 use Rattle.check_chains.specs.Walks.{guarded, steps-left}
-
-pub steps-zero : (link : ℕ → ℕ) (t : ℕ → Bool) (n : ℕ) → steps link t n 0 ≡ 0
-unfolding steps
-steps-zero link t zero = refl
-steps-zero link t (suc n) = refl
 
 -- it ends; it is too long; it leaves the table; it meets what doesn't pass; it goes on
 module _ (link : ℕ → ℕ) (q : ℕ → Bool) where
-  steps-none : (t : ℕ → Bool) (k : ℕ) → (k ≡ 0 → ⊥) → steps link t 0 k ≡ 1
-  unfolding steps
-  steps-none t zero e = absurd (e refl)
-  steps-none t (suc k) e = refl
-
-  steps-suc : (t : ℕ → Bool) (n k : ℕ) → (k ≡ 0 → ⊥) → steps link t (suc n) k ≡ cond (t k) (suc (steps link t n (link k))) (suc (suc n))
-  unfolding steps
-  steps-suc t n zero e = absurd (e refl)
-  steps-suc t n (suc k) e = refl
-
   pub walk-end : (n : ℕ) {m k whole : ℕ} → whole ≡ steps-left link q n m k → k ≡ 0 → m ≡ whole
   unfolding steps-left
   walk-end n {m} {k} {whole} i e = let w : whole ≡ m + 0 = i ∙ rw (e, steps-zero link (guarded n q) (n - m)) in omega arith
@@ -34,16 +20,16 @@ module _ (link : ℕ → ℕ) (q : ℕ → Bool) where
   unfolding steps-left
   walk-long {n} {m} {k} {whole} i l e h =
       let z : n - m ≡ 0 = omega arith in
-      let w : whole ≡ m + 1 = i ∙ rw (z, steps-none (guarded n q) k e) in
+      let w : whole ≡ m + 1 = i ∙ rw (z, steps-none link (guarded n q) k e) in
       omega arith
 
-  steps-at : (n m k : ℕ) → (k ≡ 0 → ⊥) → m < n → steps link (guarded n q) (n - m) k ≡ cond (guarded n q k) (suc (steps link (guarded n q) (n - (m + 1)) (link k))) (suc (suc (n - (m + 1))))
-  steps-at n m k e h = let z : n - m ≡ suc (n - (m + 1)) = omega arith in rw (z, steps-suc (guarded n q) (n - (m + 1)) k e)
+  steps-at : (n m k : ℕ) → (k ≡ 0 → ⊥) → m < n → steps link (guarded n q) (n - m) k ≡ cond (guarded n q k) (suc (steps link (guarded n q) (n - (m + 1)) (link k))) (suc (n - m))
+  steps-at n m k e h = let z : n - m - 1 ≡ n - (m + 1) = omega arith in rw (steps-turn link (guarded n q) (n - m) k (omega arith) e, z)
 
   walk-fail : (n m : ℕ) {k whole : ℕ} → m < n → whole ≡ steps-left link q n m k → (k ≡ 0 → ⊥) → guarded n q k ≡ false → n + 1 ≡ whole
   unfolding steps-left
   walk-fail n m {k} {whole} h i e f =
-      let w : whole ≡ m + suc (suc (n - (m + 1))) = i ∙ rw (steps-at n m k e h, f) in
+      let w : whole ≡ m + suc (n - m) = i ∙ rw (steps-at n m k e h, f) in
       omega arith
 
   pub walk-off : {n m k whole : ℕ} → whole ≡ steps-left link q n m k → (k ≡ 0 → ⊥) → m < n → n < k → n + 1 ≡ whole
@@ -60,16 +46,9 @@ module _ (link : ℕ → ℕ) (q : ℕ → Bool) where
       let w : whole ≡ m + suc (steps link (guarded n q) (n - (m + 1)) x) = i ∙ rw (steps-at n m k e h, le-leb k n o, ← t, not-false r f, g) in
       omega arith
 
--- a walk starts: two tests that agree walk alike
-pub steps-alike : (link : ℕ → ℕ) (s t : ℕ → Bool) → ((k : ℕ) → s k ≡ t k) → (n k : ℕ) → steps link s n k ≡ steps link t n k
-unfolding steps
-steps-alike link s t e zero zero = refl
-steps-alike link s t e zero (suc k) = refl
-steps-alike link s t e (suc n) zero = refl
-steps-alike link s t e (suc n) (suc k) = rw (e (suc k), steps-alike link s t e n (link (suc k)))
-
-pub walk-start : (link : ℕ → ℕ) (s q : ℕ → Bool) (n k : ℕ) → ((k : ℕ) → s k ≡ guarded n q k) → steps link s n k ≡ steps-left link q n 0 k
+-- a walk starts
+pub walk-start : (link : ℕ → ℕ) (q : ℕ → Bool) (n k : ℕ) → steps link (guarded n q) n k ≡ steps-left link q n 0 k
 unfolding steps-left
-walk-start link s q n k e = rw (sub-zero n, steps-alike link s (guarded n q) e n k) (omega arith)
+walk-start link q n k = rw (sub-zero n) (omega arith)
 
 pub ruleset walk-loop = (needs, walk-end, walk-long, walk-off, walk-other, walk-on)

@@ -11,22 +11,22 @@ use Rattle.tables.specs.declared.Lock.{Lock}
 use Rattle.tables.specs.State.{blocked-lock, noticed, state-free, state-waiting}
 use Rattle.tables.specs.Layout.{of-header, of-resource, resources-in, locks-in, word-in, lock-link, read-lock}
 use Rattle.table_names.specs.Names.{named}
-use Rattle.check_laws.specs.Check.{steps, free-resource-on, blocked-on, blocked-fine, notice-on, notices-fine, stands, home-on, home-steps}
+use Rattle.check_laws.specs.Check.{free-resource-on, blocked-on, blocked-fine, notice-on, notices-fine, stands, home-on, home-steps}
 use Rattle.check_resources.specs.Passes.{blocked-count, noticed-count}
 use Rattle.check_chains.specs.Walks.{guarded, steps-left, free-met, free-chain, blocked-chain, notice-chain, wait-chain, belongs-on, OnUsed, locks-met}
-use Rattle.check_chains.proofs.ChainWalk.{steps-alike, walk-start}
+use Rattle.check_chains.proofs.ChainWalk.{walk-start}
 
 pub free-start : (ws : List ℕ) → free-met ws ≡ steps-left (λ r. word-in ws (of-resource r 0)) (λ r. not (named ws r)) (resources-in ws) 0 (word-in ws (of-header 2))
 unfolding free-met free-resource-on guarded
-free-start ws = walk-start (λ r. word-in ws (of-resource r 0)) (free-resource-on ws) (λ r. not (named ws r)) (resources-in ws) (word-in ws (of-header 2)) (λ r. refl)
+free-start ws = walk-start (λ r. word-in ws (of-resource r 0)) (λ r. not (named ws r)) (resources-in ws) (word-in ws (of-header 2))
 
 pub home-start : (ws : List ℕ) (s r head : ℕ) {k : ℕ} → k ≡ head → home-steps ws s r head ≡ steps-left (lock-link ws 0) (stands ws s r) (locks-in ws) 0 k
 unfolding home-steps home-on guarded
-home-start ws s r head e = rw e (walk-start (lock-link ws 0) (home-on ws s r) (stands ws s r) (locks-in ws) head (λ k. refl))
+home-start ws s r head e = rw e (walk-start (lock-link ws 0) (stands ws s r) (locks-in ws) head)
 
 pub locks-start : (ws : List ℕ) (c r f k : ℕ) → locks-met ws c r f k ≡ steps-left (lock-link ws f) (belongs-on ws c r) (locks-in ws) 0 k
 unfolding locks-met
-locks-start ws c r f k = walk-start (lock-link ws f) (guarded (locks-in ws) (belongs-on ws c r)) (belongs-on ws c r) (locks-in ws) k (λ j. refl)
+locks-start ws c r f k = walk-start (lock-link ws f) (belongs-on ws c r) (locks-in ws) k
 
 pub ruleset starts = (needs, free-start, home-start, locks-start)
 
@@ -76,25 +76,21 @@ module _ (ws : List ℕ) (r : ℕ) where
   pub wait-walked : (1 ≤ r) × (r ≤ resources-in ws) → named ws r ≡ true → OnUsed ws wait-chain r
   wait-walked i h = record { used = λ n m o. (i .0, i .1, h) }
 
-locks-alike : (ws : List ℕ) (c r f k : ℕ) (test : ℕ → Bool) → ((j : ℕ) → guarded (locks-in ws) (belongs-on ws c r) j ≡ test j) → locks-met ws c r f k ≡ steps (lock-link ws f) test (locks-in ws) k
-unfolding locks-met
-locks-alike ws c r f k test same = steps-alike (lock-link ws f) (guarded (locks-in ws) (belongs-on ws c r)) test same (locks-in ws) k
-
 module _ (ws : List ℕ) {x : ℕ} where
   pub free-are : x ≡ locks-met ws free-chain 0 0 (word-in ws (of-header 3)) → x ≡ home-steps ws state-free 0 (word-in ws (of-header 3))
-  unfolding home-steps home-on guarded belongs-on
-  free-are e = e ∙ locks-alike ws 0 0 0 (word-in ws (of-header 3)) (home-on ws 0 0) (λ k. refl)
+  unfolding locks-met home-steps home-on guarded belongs-on
+  free-are e = e
 
   pub waiting-are : {k : ℕ} (r : ℕ) → k ≡ word-in ws (of-resource r 3) → x ≡ locks-met ws wait-chain r 0 k → x ≡ home-steps ws state-waiting r (word-in ws (of-resource r 3))
-  unfolding home-steps home-on guarded belongs-on
-  waiting-are {k} r h e = e ∙ rw h (locks-alike ws 3 r 0 (word-in ws (of-resource r 3)) (home-on ws 3 r) (λ j. refl))
+  unfolding locks-met home-steps home-on guarded belongs-on
+  waiting-are r h e = rw (← h) e
 
   pub blocked-are : {n : ℕ} → n ≡ blocked-count ws → x ≡ locks-met ws blocked-chain 0 1 (word-in ws (of-header 5)) → eqb x n ≡ blocked-fine ws
-  unfolding blocked-fine blocked-on blocked-count guarded belongs-on
-  blocked-are h e = rw (h, e, locks-alike ws 1 0 1 (word-in ws (of-header 5)) (blocked-on ws) (λ k. refl))
+  unfolding locks-met blocked-fine blocked-on blocked-count guarded belongs-on
+  blocked-are h e = rw (h, e)
 
   pub notices-are : {n : ℕ} → n ≡ noticed-count ws → x ≡ locks-met ws notice-chain 0 2 (word-in ws (of-header 6)) → eqb x n ≡ notices-fine ws
-  unfolding notices-fine notice-on noticed-count guarded belongs-on
-  notices-are h e = rw (h, e, locks-alike ws 2 0 2 (word-in ws (of-header 6)) (notice-on ws) (λ k. refl))
+  unfolding locks-met notices-fine notice-on noticed-count guarded belongs-on
+  notices-are h e = rw (h, e)
 
 pub ruleset chains = (needs, free-walked, blocked-walked, notices-walked, wait-walked, free-are, waiting-are, blocked-are, notices-are)

@@ -1,17 +1,21 @@
 -- Counting the steps of a chain: they are no more than there are records exactly if it ends and each record on it passes the test.
-use mathlib.Core.Path.{_≡_, refl, ap}
-use mathlib.Core.Bool.{Bool, true, false}
-use Prim.Native.Nat.{ℕ, zero, suc, _≤_}
+use mathlib.Core.Path.{_≡_, refl}
+use mathlib.Core.Logic.{_≢_}
+use mathlib.Core.Bool.{Bool, true, false, _&&_, cond}
+use mathlib.Core.List.{List, [], _∷_}
+use Prim.Native.Nat.{ℕ, zero, suc, _-_, _≤_}
 use native.Mathlib.Omega.{arith}
 use lib.ListN.{length}
+use Rattle.modes.specs.Sets.{fits-set, with-mode}
 use Rattle.tables.specs.Lists.{count, all}
-use Rattle.tables.specs.Layout.{follow}
+use Rattle.tables.specs.Layout.{locks-in, follow, lock-link}
 use Rattle.tables.specs.Sound.{ends}
-use Rattle.tables.proofs.Cases.{by-cases, by-equal, clash, and-left, and-right, and-intro}
+use Rattle.tables.proofs.Cases.{by-cases, by-equal, and-left, and-right, parts}
 use Rattle.tables.proofs.Counts.{count-nil, count-other, all-at}
 use Rattle.tables.proofs.Links.{distinct-count, absent-count}
-use Rattle.tables.proofs.FollowedChains.{ends-runs, runs-distinct, runs-no-zero}
-use Rattle.check_laws.specs.Check.{steps}
+use Rattle.tables.proofs.FollowedChains.{ends-zero, follow-zero, ends-none, ends-step, follow-step, follow-turn, ends-agree, follow-agree, ends-runs, runs-distinct, runs-no-zero}
+use Rattle.check_laws.proofs.HeldModes.{four}
+use Rattle.check_laws.specs.Check.{steps, home-on, HolderCount, held-in, fitting, gather, holder-steps, mode-steps, fits-beside, tail-steps, convert-fit, others, convert-from}
 
 -- the chain of g from a ends in n steps, and each on it passes
 pub record Passed (g : ℕ → ℕ) (test : ℕ → Bool) (n a : ℕ) : Type 0 where
@@ -25,34 +29,123 @@ module _ (g : ℕ → ℕ) (n a : ℕ) (h : ends g n a ≡ true) where
   pub no-zero : count 0 (follow g n a) ≡ 0
   no-zero = absent-count 0 (follow g n a) (runs-no-zero g a (follow g n a) (ends-runs g n a h))
 
-module _ (f g : ℕ → ℕ) (agree : (k : ℕ) → f (suc k) ≡ g (suc k)) (test : ℕ → Bool) where
-  pub steps-passed : (n a : ℕ) → steps f test n a ≤ n → Passed g test n a × (steps f test n a ≡ length (follow g n a))
-  unfolding steps ends follow all
-  steps-passed zero zero h = (record { ended = refl; tested = refl }, refl)
-  steps-passed zero (suc k) h = absurd (omega arith)
-  steps-passed (suc n) zero h = (record { ended = refl; tested = refl }, refl)
-  steps-passed (suc n) (suc k) h =
-      by-cases (test (suc k))
-      (λ p. let ih = steps-passed n (g (suc k)) (omega (arith, rw (p, agree k) at h)) in
-      (record { ended = ih .0 .ended; tested = and-intro (test (suc k)) _ p (ih .0 .tested) }, rw (p, agree k) (ap suc (ih .1))))
-      (λ p. absurd (omega (arith, rw p at h)))
+-- THE COUNT of a chain that passes is its length; it is no more than n only if the chain passes. It goes by the links of records alone
+module _ (f g : ℕ → ℕ) (agree : (k : ℕ) → f (suc k) ≡ g (suc k)) (test : ℕ → Bool) (n a : ℕ) where
+  pub passed-steps : Passed g test n a → steps f test n a ≡ length (follow g n a)
+  unfolding steps
+  passed-steps p = rw (ends-agree f g agree n a, follow-agree f g agree n a, p .ended, p .tested)
 
-  pub passed-steps : (n a : ℕ) → Passed g test n a → steps f test n a ≡ length (follow g n a)
-  unfolding steps ends follow all
-  passed-steps zero zero h = refl
-  passed-steps zero (suc k) h = clash false (h .ended) refl
-  passed-steps (suc n) zero h = refl
-  passed-steps (suc n) (suc k) h =
-      rw (and-left (test (suc k)) _ (h .tested), agree k)
-      (ap suc (passed-steps n (g (suc k)) (record { ended = h .ended; tested = and-right (test (suc k)) _ (h .tested) })))
+  pub steps-passed : steps f test n a ≤ n → Passed g test n a
+  unfolding steps
+  steps-passed h =
+      by-cases (ends g n a && all test (follow g n a))
+      (λ p. record { ended = and-left (ends g n a) _ p; tested = and-right (ends g n a) _ p })
+      (λ p. absurd (omega (arith, rw (ends-agree f g agree n a, follow-agree f g agree n a, p) at h)))
+
+-- its end; no step may be taken; a turn: the first passes or not, and then the rest
+one-turn : {A : Type 0} (f : A → A) (e t a : Bool) (x y : A) → cond (e && (t && a)) (f x) (f y) ≡ cond t (f (cond (e && a) x y)) (f y)
+one-turn f true true true x y = refl
+one-turn f true true false x y = refl
+one-turn f true false a x y = refl
+one-turn f false true a x y = refl
+one-turn f false false a x y = refl
+
+module _ (link : ℕ → ℕ) (test : ℕ → Bool) where
+  pub steps-zero : (n : ℕ) → steps link test n 0 ≡ 0
+  unfolding steps all
+  steps-zero n = rw (ends-zero link n, follow-zero link n)
+
+  pub steps-none : (k : ℕ) → k ≢ 0 → steps link test 0 k ≡ 1
+  unfolding steps
+  steps-none k m = rw (ends-none link k m)
+
+  pub steps-turn : (n k : ℕ) → 1 ≤ n → k ≢ 0 → steps link test n k ≡ cond (test k) (suc (steps link test (n - 1) (link k))) (suc n)
+  unfolding steps all
+  steps-turn n k h m =
+      let z : suc (n - 1) ≡ n = omega arith in
+      rw (ends-step link n k h m, follow-step link n k h m, z)
+      (one-turn suc (ends link (n - 1) (link k)) (test k) (all test (follow link (n - 1) (link k))) (length (follow link (n - 1) (link k))) n)
+
+-- HOLDERS: the same, where the modes are tested along the whole list
+abbrev pub one-more : HolderCount → HolderCount
+one-more x = record { met = suc (x .met); modes = x .modes }
+
+module _ (ws : List ℕ) (s r : ℕ) (fits : List ℕ → Bool) (modes : List ℕ → ℕ) where
+  module _ (g : ℕ → ℕ) (agree : (k : ℕ) → lock-link ws 0 (suc k) ≡ g (suc k)) (n a : ℕ) where
+    pub passed-holders : Passed g (home-on ws s r) n a → fits (follow g n a) ≡ true →
+        holder-steps ws s r fits modes n a ≡ record { met = length (follow g n a); modes = modes (follow g n a) }
+    unfolding holder-steps
+    passed-holders p f = rw (ends-agree (lock-link ws 0) g agree n a, follow-agree (lock-link ws 0) g agree n a, p .ended, p .tested, f)
+
+    pub holders-passed : holder-steps ws s r fits modes n a .met ≤ n → Passed g (home-on ws s r) n a × (fits (follow g n a) ≡ true)
+    unfolding holder-steps
+    holders-passed h =
+        by-cases (ends g n a && (all (home-on ws s r) (follow g n a) && fits (follow g n a)))
+        (λ p. (record { ended = search parts; tested = search parts }, search parts))
+        (λ p. absurd (omega (arith, rw (ends-agree (lock-link ws 0) g agree n a, follow-agree (lock-link ws 0) g agree n a, p) at h)))
+
+  pub holders-zero : (n : ℕ) → fits [] ≡ true → holder-steps ws s r fits modes n 0 ≡ record { met = 0; modes = modes [] }
+  unfolding holder-steps all
+  holders-zero n f = rw (ends-zero (lock-link ws 0) n, follow-zero (lock-link ws 0) n, f)
+
+  pub holders-none : (k : ℕ) → k ≢ 0 → holder-steps ws s r fits modes 0 k ≡ record { met = 1; modes = 0 }
+  unfolding holder-steps
+  holders-none k m = rw (ends-none (lock-link ws 0) k m)
+
+  -- a turn: b is what the modes' test says of the first, and the rest have a test and a set of their own
+  pub holders-turn : (n k : ℕ) (b : Bool) (rest-fit : List ℕ → Bool) (rest-modes : List ℕ → ℕ) → 1 ≤ n → k ≢ 0 →
+      ((ks : List ℕ) → fits (k ∷ ks) ≡ (b && rest-fit ks)) → ((ks : List ℕ) → modes (k ∷ ks) ≡ rest-modes ks) →
+      holder-steps ws s r fits modes n k
+      ≡ cond (home-on ws s r k && b) (one-more (holder-steps ws s r rest-fit rest-modes (n - 1) (lock-link ws 0 k))) (record { met = suc n; modes = 0 })
+  unfolding holder-steps all
+  holders-turn n k b rest-fit rest-modes h m f g =
+      let ks = follow (lock-link ws 0) (n - 1) (lock-link ws 0 k) in
+      let z : suc (n - 1) ≡ n = omega arith in
+      rw (ends-step (lock-link ws 0) n k h m, follow-step (lock-link ws 0) n k h m, f, g, four (home-on ws s r k) (all (home-on ws s r) ks) b (rest-fit ks), z)
+      (one-turn one-more (ends (lock-link ws 0) (n - 1) (lock-link ws 0 k)) (home-on ws s r k && b) (all (home-on ws s r) ks && rest-fit ks)
+      (record { met = length ks; modes = rest-modes ks }) (record { met = n; modes = 0 }))
+
+-- so each held mode is tested with the set of those before it
+module _ (ws : List ℕ) (s r : ℕ) (fit : ℕ → ℕ → Bool) where
+  pub modes-zero : (n set : ℕ) → mode-steps ws s r fit n 0 set ≡ record { met = 0; modes = set }
+  unfolding mode-steps fitting gather
+  modes-zero n set = holders-zero ws s r (fitting fit (held-in ws) set) (gather (held-in ws) set) n refl
+
+  pub modes-none : (k set : ℕ) → k ≢ 0 → mode-steps ws s r fit 0 k set ≡ record { met = 1; modes = 0 }
+  unfolding mode-steps
+  modes-none k set = holders-none ws s r (fitting fit (held-in ws) set) (gather (held-in ws) set) k
+
+  pub modes-turn : (n k set : ℕ) → 1 ≤ n → k ≢ 0 →
+      mode-steps ws s r fit n k set
+      ≡ cond (home-on ws s r k && fit set (held-in ws k)) (one-more (mode-steps ws s r fit (n - 1) (lock-link ws 0 k) (with-mode set (held-in ws k)))) (record { met = suc n; modes = 0 })
+  unfolding mode-steps fitting gather
+  modes-turn n k set h m =
+      holders-turn ws s r (fitting fit (held-in ws) set) (gather (held-in ws) set) n k (fit set (held-in ws k))
+      (fitting fit (held-in ws) (with-mode set (held-in ws k))) (gather (held-in ws) (with-mode set (held-in ws k))) h m (λ ks. refl) (λ ks. refl)
+
+-- and a convert head with the granted modes
+module _ (ws : List ℕ) (r set : ℕ) where
+  pub convert-zero : convert-from ws r 0 set ≡ record { met = 0; modes = set }
+  unfolding convert-from convert-fit others
+  convert-zero = holders-zero ws 2 r (convert-fit (held-in ws) set) (others (held-in ws) set) (locks-in ws) refl
+
+  pub convert-turn : (c : ℕ) → 1 ≤ locks-in ws → c ≢ 0 →
+      convert-from ws r c set
+      ≡ cond (home-on ws 2 r c && fits-set set (held-in ws c)) (one-more (tail-steps ws r (held-in ws c) (locks-in ws - 1) (lock-link ws 0 c) set)) (record { met = suc (locks-in ws); modes = 0 })
+  unfolding convert-from convert-fit others mode-steps
+  convert-turn c h m =
+      holders-turn ws 2 r (convert-fit (held-in ws) set) (others (held-in ws) set) (locks-in ws) c (fits-set set (held-in ws c))
+      (fitting (fits-beside (held-in ws c)) (held-in ws) set) (gather (held-in ws) set) h m (λ ks. refl) (λ ks. refl)
+
+-- the first of a chain that passes is 0 or passes
+pub first-passes : (g : ℕ → ℕ) (test : ℕ → Bool) (n a : ℕ) → Passed g test n a → a ≢ 0 → test a ≡ true
+unfolding all
+first-passes g test n a h m = and-left (test a) _ (rw (follow-turn g n a m (h .ended)) at (h .tested))
 
 -- if only numbers up to b pass, the first and what follows each is one of them, or zero
 module _ (g : ℕ → ℕ) (test : ℕ → Bool) (b : ℕ) (bound : (k : ℕ) → test k ≡ true → k ≤ b) where
   pub first-low : (n a : ℕ) → Passed g test n a → a ≤ b
-  unfolding ends follow all
-  first-low n zero h = omega arith
-  first-low zero (suc k) h = clash false (h .ended) refl
-  first-low (suc n) (suc k) h = bound (suc k) (and-left (test (suc k)) _ (h .tested))
+  first-low n a h = by-equal a 0 (λ e. omega arith) (λ m. bound a (first-passes g test n a h m))
 
   pub links-low : (n a : ℕ) → Passed g test n a → (k : ℕ) → 1 ≤ count k (follow g n a) → g k ≤ b
   unfolding ends follow all

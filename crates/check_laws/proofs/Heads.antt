@@ -19,10 +19,10 @@ use Rattle.tables.proofs.Counts.{count-same, count-step, count-append, all-at, 
 use Rattle.tables.proofs.ReadState.{resource-of, lock-of}
 use Rattle.tables.proofs.FollowedChains.{follow-zero, follow-step}
 use Rattle.tables.proofs.ThreadedChains.{each-counted}
-use Rattle.check_laws.specs.Check.{lock-fine, stands, home-on, heads-wait}
+use Rattle.check_laws.specs.Check.{lock-fine, stands, home-on, held-in, fitting, gather, convert-fit, others, heads-wait}
 use Rattle.check_laws.proofs.ChainSteps.{once, member}
-use Rattle.check_laws.proofs.HeldModes.{all-append, all-true, all-each, gather, fitting, pairs, Low, gather-small, gather-fits, fitting-is, beside-is, pairs-append, pairs-true, true-pairs}
-use Rattle.check_laws.proofs.ResourceWalk.{held-in, asked-in, link-of, head-of, queue-in, Right, convert-fit, others}
+use Rattle.check_laws.proofs.HeldModes.{all-append, all-true, all-each, pairs, Low, gather-small, gather-fits, fitting-is, beside-is, pairs-append, pairs-true, true-pairs}
+use Rattle.check_laws.proofs.ResourceWalk.{asked-in, link-of, head-of, queue-in, Right}
 
 assoc : (a b c : Bool) → (a && (b && c)) ≡ ((a && b) && c)
 assoc true b c = refl
@@ -71,11 +71,11 @@ module _ (ws : List ℕ) (some : 1 ≤ locks-in ws) (f g : ℕ → ℕ) (gs : Li
   unfolding kept
   heads-kept zero zero a b d = rw (follow-zero f (locks-in ws), follow-zero g (locks-in ws))
   heads-kept zero (suc w) a b d =
-      let step = follow-step g (locks-in ws) w some in
+      let step = follow-step g (locks-in ws) (suc w) some (omega arith) in
       let l = rw step at d in
       rw (follow-zero f (locks-in ws), step, ne-eqb (suc w) 0 (omega arith), gathered (held-in ws) gs low (asked-in ws (suc w)) (l .0))
   heads-kept (suc c) w a b d =
-      let step = follow-step f (locks-in ws) c some in
+      let step = follow-step f (locks-in ws) (suc c) some (omega arith) in
       let l = rw step at b in
       let m = rw step at a in
       rw (step, ne-eqb (suc c) 0 (omega arith), others-fit (held-in ws) gs low (suc c) (asked-in ws (suc c)) (follow f (locks-in ws - 1) (f (suc c))) (l .0) (m .1))

@@ -12,10 +12,10 @@ use Rattle.tables.specs.Lists.{count, all}
 use Rattle.tables.proofs.Cases.{by-equal, and-left, and-right, and-intro, parts, same-truth}
 use Rattle.tables.proofs.Counts.{count-nil, count-same, count-other, count-step, all-at, all-intro}
 use Rattle.tables.specs.Threads.{Each}
-use Rattle.check_laws.specs.Check.{fits-beside}
+use Rattle.check_laws.specs.Check.{fitting, gather, fits-beside}
 
 -- TESTS that say the same
-four : (a b c d : Bool) → ((a && b) && (c && d)) ≡ ((a && c) && (b && d))
+pub four : (a b c d : Bool) → ((a && b) && (c && d)) ≡ ((a && c) && (b && d))
 four a b c d =
     same-truth _ _
     (λ h. and-intro (a && c) (b && d) (and-intro a c (search parts) (search parts)) (and-intro b d (search parts) (search parts)))
@@ -57,15 +57,7 @@ unfolding all
 all-each p q P [] e h = refl
 all-each p q P (x ∷ xs) e h = rw (h x (e .0), all-each p q P xs (e .1) h)
 
--- the set with the modes of a chain; each fits those before it; pairwise compatible
-unfoldable pub gather : (ℕ → ℕ) → ℕ → List ℕ → ℕ
-gather held s [] = s
-gather held s (k ∷ ks) = gather held (with-mode s (held k)) ks
-
-unfoldable pub fitting : (ℕ → ℕ → Bool) → (ℕ → ℕ) → ℕ → List ℕ → Bool
-fitting fit held s [] = true
-fitting fit held s (k ∷ ks) = fit s (held k) && fitting fit held (with-mode s (held k)) ks
-
+-- pairwise compatible
 unfoldable pub pairs : (ℕ → ℕ) → List ℕ → Bool
 pairs held [] = true
 pairs held (k ∷ ks) = all (λ j. compatible (held k) (held j)) ks && pairs held ks

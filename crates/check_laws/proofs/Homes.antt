@@ -37,7 +37,7 @@ pub record Homes (ws : List ℕ) : Type 0 where
 in-from : (n r : ℕ) → 1 ≤ r → r ≤ n → 1 ≤ count r (from 1 n)
 in-from n r p q = rw (count-from n r, le-within n r p q) (omega arith)
 
-module _ (ws : List ℕ) (some : 1 ≤ locks-in ws) where
+module _ (ws : List ℕ) where
   three-length : (r : ℕ) → length (three-in ws r) ≡ length (queue-in ws r grants) + length (queue-in ws r converts) + length (queue-in ws r waits)
   unfolding three-in
   three-length r = simp length-append (omega arith)
@@ -47,20 +47,20 @@ module _ (ws : List ℕ) (some : 1 ≤ locks-in ws) where
   queues-met [] h r m = absurd (omega (arith, count-nil r))
   queues-met (x ∷ rs) h r m =
       by-equal r x
-      (λ e. rw e (walk-met ws some x (omega arith)))
+      (λ e. rw e (walk-met ws x (omega arith)))
       (λ n. queues-met rs (omega arith) r (rw (count-other r x rs n) at m))
 
   queues-are : (rs : List ℕ) → ((r : ℕ) → 1 ≤ count r rs → Walked ws r) → queues-walk ws rs ≡ length (flat-map (three-in ws) rs)
   unfolding queues-walk
   queues-are [] h = refl
   queues-are (x ∷ rs) h =
-      let one = walk-is ws some x (h x (omega (arith, count-same x rs))) in
+      let one = walk-is ws x (h x (omega (arith, count-same x rs))) in
       let rest = queues-are rs (λ r m. h r (omega (arith, count-step r x rs))) in
       simp length-append (omega (arith, three-length x))
 
   free-passed : home-steps ws 0 0 (word-in ws (of-header 3)) ≤ locks-in ws → Passed (link-in ws (of-locks free-locks)) (home-on ws 0 0) (locks-in ws) (word-in ws (of-header 3))
   unfolding home-steps
-  free-passed h = steps-passed (lock-link ws 0) (link-in ws (of-locks free-locks)) (λ k. refl) (home-on ws 0 0) (locks-in ws) (word-in ws (of-header 3)) h .0
+  free-passed h = steps-passed (lock-link ws 0) (link-in ws (of-locks free-locks)) (λ k. refl) (home-on ws 0 0) (locks-in ws) (word-in ws (of-header 3)) h
 
   free-steps : Passed (link-in ws (of-locks free-locks)) (home-on ws 0 0) (locks-in ws) (word-in ws (of-header 3)) → home-steps ws 0 0 (word-in ws (of-header 3)) ≡ length (free-in ws)
   unfolding home-steps free-in
@@ -68,7 +68,7 @@ module _ (ws : List ℕ) (some : 1 ≤ locks-in ws) where
 
   denied-passed : home-steps ws 4 0 (word-in ws (of-header 4)) ≤ locks-in ws → Passed (link-in ws (of-locks denied)) (home-on ws 4 0) (locks-in ws) (word-in ws (of-header 4))
   unfolding home-steps
-  denied-passed h = steps-passed (lock-link ws 0) (link-in ws (of-locks denied)) (λ k. refl) (home-on ws 4 0) (locks-in ws) (word-in ws (of-header 4)) h .0
+  denied-passed h = steps-passed (lock-link ws 0) (link-in ws (of-locks denied)) (λ k. refl) (home-on ws 4 0) (locks-in ws) (word-in ws (of-header 4)) h
 
   pub denied-steps : Passed (link-in ws (of-locks denied)) (home-on ws 4 0) (locks-in ws) (word-in ws (of-header 4)) → home-steps ws 4 0 (word-in ws (of-header 4)) ≡ length (denied-in ws)
   unfolding home-steps denied-in

@@ -65,7 +65,7 @@ module _ (ws ss : List ℕ) (h : check ws ss ≡ true) where
 
   met : Homes ws × (length (homes-in ws) ≡ locks-in ws)
   unfolding check
-  met = homes-met ws some (search parts depth 20)
+  met = homes-met ws (search parts depth 20)
 
   differ : names-differ ws ss ≡ true
   unfolding check

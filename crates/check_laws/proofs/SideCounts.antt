@@ -85,7 +85,7 @@ module _ (ws : List ℕ) (s r k : ℕ) (h : home-on ws s r k ≡ true) where
   on-blocked : blocked-lock (read-lock ws k) ≡ (eqb s 2 || eqb s 3)
   on-blocked = rw (home-state ws s r k h)
 
-queue-is : (ws : List ℕ) (r : ℕ) (q : Queue) → queue-in ws r q ≡ onward ws 0 (word-in ws (of-resource r (queue-head q)))
+pub queue-is : (ws : List ℕ) (r : ℕ) (q : Queue) → queue-in ws r q ≡ onward ws 0 (word-in ws (of-resource r (queue-head q)))
 unfolding queue-in onward
 queue-is ws r q = follow-agree (link-of ws r q) (lock-link ws 0) (λ k. refl) (locks-in ws) (head-of ws r q)
 
@@ -95,15 +95,15 @@ silent n e = rw e
 unread : (n : ℕ) → eqb n 2 ≡ true → not (eqb n 0) ≡ true
 unread n e = rw (eqb-true n 2 e)
 
-module _ (ws : List ℕ) (some : 1 ≤ locks-in ws) (fine : homes-fine ws ≡ true) where
+module _ (ws : List ℕ) (fine : homes-fine ws ≡ true) where
   homes : Homes ws
-  homes = homes-met ws some fine .0
+  homes = homes-met ws fine .0
 
   -- the home chains have each lock once
   kept : (p : ℕ → Bool) → length (keep p (homes-in ws)) ≡ length (keep p (from 1 (locks-in ws)))
   kept p =
       same-length (keep p (homes-in ws)) (keep p (from 1 (locks-in ws))) (kept-once p (locks-in ws))
-      (λ j. count-keep p j (homes-in ws) ∙ (rw (counted ws homes (homes-met ws some fine .1) j) (sym (count-keep p j (from 1 (locks-in ws))))))
+      (λ j. count-keep p j (homes-in ws) ∙ (rw (counted ws homes (homes-met ws fine .1) j) (sym (count-keep p j (from 1 (locks-in ws))))))
 
   parted : (p : ℕ → Bool) (g : ℕ → ℕ) → ((r : ℕ) → 1 ≤ r → r ≤ resources-in ws → length (keep p (three-in ws r)) ≡ g r) →
       length (keep p (free-in ws)) + (length (keep p (denied-in ws)) + sum-over g (from 1 (resources-in ws))) ≡ length (keep p (from 1 (locks-in ws)))
@@ -162,4 +162,4 @@ module _ (ws : List ℕ) (some : 1 ≤ locks-in ws) (fine : homes-fine ws ≡ tr
       let p : ℕ → Bool = λ k. noticed (read-lock ws k) in
       let a : length (keep p (free-in ws)) ≡ 0 = keep-none p (free-in ws) (λ k m. let h = free-member k m in silent (read-lock ws k .completion) (free-silent _ (read-lock ws k) (fields ws 0 0 k h) (home-state ws 0 0 k h))) in
       let b : length (keep p (denied-in ws)) ≡ length (denied-in ws) = keep-whole p (denied-in ws) (λ k m. let h = denied-member k m in unread (read-lock ws k .completion) (denied-told _ (read-lock ws k) (fields ws 4 0 k h) (home-state ws 4 0 k h))) in
-      omega (arith, parted p (noticed-at ws) noticed-three, a, b, denied-steps ws some (homes .denied))
+      omega (arith, parted p (noticed-at ws) noticed-three, a, b, denied-steps ws (homes .denied))

@@ -71,10 +71,10 @@ module _ (g : ℕ → ℕ) (p : ℕ → Bool) (n a : ℕ) where
     steps-side h =
         let e = eqb-true (steps f (among n p) n a) (length (keep p (from 1 n))) h in
         let w = steps-passed f g agree (among n p) n a (omega (arith, keep-short p (from 1 n), length-from 1 n)) in
-        let in-it = member g (among n p) n (among-low n p) n a (w .0) in
-        let same = all-of (follow g n a) (keep p (from 1 n)) (kept-once p n) (fewer (w .0)) (sym (w .1) ∙ e) in
+        let in-it = member g (among n p) n (among-low n p) n a w in
+        let same = all-of (follow g n a) (keep p (from 1 n)) (kept-once p n) (fewer w) (sym (passed-steps f g agree (among n p) n a w) ∙ e) in
         record {
-          ended = w .0 .ended;
+          ended = w .ended;
           inside = λ k m. (in-it k m .0, in-it k m .1);
           counts = λ k l u. same k ∙ kept-count k l u;
         }

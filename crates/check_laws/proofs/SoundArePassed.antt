@@ -23,10 +23,9 @@ use Rattle.tables.proofs.ReadState.{lock-of, used-in}
 use Rattle.tables.proofs.Conditions.{each-at, each-intro, state, locks-low, slots-sized, header-zero, resource-zeros, chain-ended, chain-inside, fields-tested, stands-as, blocked-off, notice-off, compatible-tested, heads-tested}
 use Rattle.tables.proofs.Fields.{fields-are}
 use Rattle.tables.proofs.ChainMembers.{on-queue}
-use Rattle.check_laws.specs.Check.{resource-fine, on-named, fields-fine, links-fine, lock-fine, stands, home-on, check}
+use Rattle.check_laws.specs.Check.{resource-fine, on-named, fields-fine, links-fine, lock-fine, stands, home-on, held-in, fitting, check}
 use Rattle.check_laws.proofs.ChainSteps.{Passed}
-use Rattle.check_laws.proofs.HeldModes.{fitting}
-use Rattle.check_laws.proofs.ResourceWalk.{held-in, queue-in, Right, Walked}
+use Rattle.check_laws.proofs.ResourceWalk.{queue-in, Right, Walked}
 use Rattle.check_laws.proofs.Heads.{ModesLow, grants-read, converts-read, waits-read, fit-is, heads-are}
 use Rattle.check_laws.proofs.RecordTests.{fields-same, right-fine, right-spare, right-unique, unique-names}
 use Rattle.check_laws.proofs.Sides.{Spare, Blocked, Noticed, side-spare, side-blocked, side-notice}
@@ -205,6 +204,6 @@ module _ (ws ss : List ℕ) (h : sound ws ss ≡ true) where
   pub sound-check : check ws ss ≡ true
   unfolding check
   sound-check =
-      and-intro _ _ sizes (and-intro _ _ (eq-eqb _ 0 (header-zero ws ss h)) (and-intro _ _ resources-pass (and-intro _ _ (homes-are ws some homes (stand-total ws homes stood one-home))
+      and-intro _ _ sizes (and-intro _ _ (eq-eqb _ 0 (header-zero ws ss h)) (and-intro _ _ resources-pass (and-intro _ _ (homes-are ws homes (stand-total ws homes stood one-home))
       (and-intro _ _ (side-spare ws spare) (and-intro _ _ (side-blocked ws blocked-are) (and-intro _ _ (side-notice ws noticed-are)
       (unique-names ws ss sized (λ r p q u. right-unique ws ss sized some r p q (resource-is r p q) u))))))))

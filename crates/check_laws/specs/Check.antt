@@ -1,16 +1,16 @@
 -- What the check computes, pass by pass: linear in the tables but for the comparison of names. No public contract cites it; it is proved equal
 -- to `sound` (proofs/Equal.antt), and the code's passes are proved equal to its parts.
-use mathlib.Core.Bool.{Bool, _&&_, _||_, not, cond}
+use mathlib.Core.Bool.{Bool, true, _&&_, _||_, not, cond}
 use mathlib.Core.List.{List, [], _∷_}
-use Prim.Native.Nat.{ℕ, zero, suc, _+_, _-_}
+use Prim.Native.Nat.{ℕ, suc, _+_}
 use lib.ListN.{length}
 use lib.Dec.{eqb, leb}
 use Rattle.modes.specs.Sets.{fits-set, with-mode}
 use Rattle.tables.specs.declared.Lock.{Lock}
 use Rattle.tables.specs.Lists.{all, from, keep}
 use Rattle.tables.specs.State.{name-width, blocked-lock, noticed, state-free, state-granted, state-converting, state-waiting, state-denied, completion-none, completion-denied, grants, converts, waits}
-use Rattle.tables.specs.Layout.{of-header, of-resource, of-lock, resources-in, locks-in, word-in, lock-link, onward, read-lock, queue-head}
-use Rattle.tables.specs.Sound.{client-right, modes-right, sizes-right, granted-completion}
+use Rattle.tables.specs.Layout.{of-header, of-resource, of-lock, resources-in, locks-in, word-in, follow, lock-link, onward, read-lock, queue-head}
+use Rattle.tables.specs.Sound.{ends, client-right, modes-right, sizes-right, granted-completion}
 use Rattle.table_names.specs.Names.{named, slot-fine, names-differ}
 pub use Rattle.check_laws.specs.declared.HolderCount.{HolderCount}
 pub use Rattle.check_laws.specs.declared.ResourceRow.{ResourceRow}
@@ -67,10 +67,9 @@ lock-fine ws k = fields-fine (on-named ws (read-lock ws k .resource)) (read-lock
 
 -- CHAINS. The number of steps from k to the end, or n + 1 if it isn't reached in n steps or the test fails on the way.
 unfoldable pub steps : (ℕ → ℕ) → (ℕ → Bool) → ℕ → ℕ → ℕ
-steps link test zero zero = 0
-steps link test zero (suc k) = 1
-steps link test (suc n) zero = 0
-steps link test (suc n) (suc k) = cond (test (suc k)) (suc (steps link test n (link (suc k)))) (suc (suc n))
+steps link test n k =
+    let ks = follow link n k in
+    cond (ends link n k && all test ks) (length ks) (suc n)
 
 -- the chain of free resources has as many as have no name, and none that has one
 unfoldable pub free-resource-on : List ℕ → ℕ → Bool
@@ -108,16 +107,29 @@ home-on ws s r k = leb k (locks-in ws) && stands ws s r k
 unfoldable pub home-steps : List ℕ → ℕ → ℕ → ℕ → ℕ
 home-steps ws s r k = steps (lock-link ws 0) (home-on ws s r) (locks-in ws) k
 
--- a chain of holders, where each held mode must fit the set of those before it: the number of steps, as above, and the set of all the modes (the
--- record is the code's struct)
+-- HOLDERS. Along a list of locks, each held mode fits the set of those before it, which starts as s; `fit` says whether a mode fits a set.
+unfoldable pub fitting : (ℕ → ℕ → Bool) → (ℕ → ℕ) → ℕ → List ℕ → Bool
+fitting fit held s [] = true
+fitting fit held s (k ∷ ks) = fit s (held k) && fitting fit held (with-mode s (held k)) ks
+
+-- the set s with all their held modes
+unfoldable pub gather : (ℕ → ℕ) → ℕ → List ℕ → ℕ
+gather held s [] = s
+gather held s (k ∷ ks) = gather held (with-mode s (held k)) ks
+
+-- a home chain of holders whose modes fit: the number of steps, as above, and the set of the modes; or n + 1 and no set (the record is the code's
+-- struct)
+unfoldable pub holder-steps : List ℕ → ℕ → ℕ → (List ℕ → Bool) → (List ℕ → ℕ) → ℕ → ℕ → HolderCount
+holder-steps ws s r fits modes n k =
+    let ks = follow (lock-link ws 0) n k in
+    cond (ends (lock-link ws 0) n k && (all (home-on ws s r) ks && fits ks)) (record { met = length ks; modes = modes ks }) (record { met = suc n; modes = 0 })
+
+-- each held mode fits those before it
+abbrev pub held-in : List ℕ → ℕ → ℕ
+held-in ws k = read-lock ws k .held
+
 unfoldable pub mode-steps : List ℕ → ℕ → ℕ → (ℕ → ℕ → Bool) → ℕ → ℕ → ℕ → HolderCount
-mode-steps ws s r fit zero zero set = record { met = 0; modes = set }
-mode-steps ws s r fit zero (suc k) set = record { met = 1; modes = set }
-mode-steps ws s r fit (suc n) zero set = record { met = 0; modes = set }
-mode-steps ws s r fit (suc n) (suc k) set =
-    let m = read-lock ws (suc k) .held in
-    let rest = mode-steps ws s r fit n (word-in ws (of-lock (suc k) 0)) (with-mode set m) in
-    cond (home-on ws s r (suc k) && fit set m) (record { met = suc (rest .met); modes = rest .modes }) (record { met = suc (suc n); modes = set })
+mode-steps ws s r fit n k set = holder-steps ws s r (fitting fit (held-in ws) set) (gather (held-in ws) set) n k
 
 -- ONE RESOURCE. Its grant chain, from the empty set.
 unfoldable pub grant-walk : List ℕ → ℕ → HolderCount
@@ -131,17 +143,21 @@ fits-beside h set m = fits-set (with-mode set h) m
 abbrev pub tail-steps : List ℕ → ℕ → ℕ → ℕ → ℕ → ℕ → HolderCount
 tail-steps ws r h n k set = mode-steps ws state-converting r (fits-beside h) n k set
 
--- its convert chain: the set is that of the held modes other than the head's
+-- its convert chain: the head's mode fits the granted ones, and those behind it fit beside it
+unfoldable pub convert-fit : (ℕ → ℕ) → ℕ → List ℕ → Bool
+convert-fit held granted [] = true
+convert-fit held granted (k ∷ ks) = fits-set granted (held k) && fitting (fits-beside (held k)) held granted ks
+
+-- the set of the held modes other than the head's
+unfoldable pub others : (ℕ → ℕ) → ℕ → List ℕ → ℕ
+others held granted [] = granted
+others held granted (k ∷ ks) = gather held granted ks
+
 unfoldable pub convert-from : List ℕ → ℕ → ℕ → ℕ → HolderCount
-convert-from ws r c granted =
-    let h = read-lock ws c .held in
-    let rest = tail-steps ws r h (locks-in ws - 1) (word-in ws (of-lock c 0)) granted in
-    cond (home-on ws state-converting r c && fits-set granted h) (record { met = suc (rest .met); modes = rest .modes }) (record { met = suc (locks-in ws); modes = granted })
+convert-from ws r c granted = holder-steps ws state-converting r (convert-fit (held-in ws) granted) (others (held-in ws) granted) (locks-in ws) c
 
 unfoldable pub convert-walk : List ℕ → ℕ → ℕ → HolderCount
-convert-walk ws r granted =
-    let c = word-in ws (of-resource r 2) in
-    cond (eqb c 0) (record { met = 0; modes = granted }) (convert-from ws r c granted)
+convert-walk ws r granted = convert-from ws r (word-in ws (of-resource r 2)) granted
 
 -- the convert head is kept out by the others' modes; if there is no convert head, the wait head is kept out by the granted ones
 unfoldable pub heads-wait : List ℕ → ℕ → ℕ → ℕ → Bool

@@ -14,7 +14,7 @@ pub struct ResourceRow {
     pub last: u32,
 }
 
-// What a walk along holders finds: how many, or one more than there may be, and the set of their modes.
+// What a walk along holders finds: how many, and the set of their modes; or one more than there may be, and no modes.
 pub struct HolderCount {
     pub met: u32,
     pub modes: u32,

@@ -1,7 +1,7 @@
 -- The walk along a grant chain, which counts the locks that belong on the notice chain too.
-use mathlib.Core.Path.{_≡_, refl, sym, _∙_}
+use mathlib.Core.Path.{_≡_, sym, _∙_}
 use mathlib.Core.List.{List, _∷_}
-use Prim.Native.Nat.{ℕ, zero, suc, _+_, _-_, _≤_, _<_}
+use Prim.Native.Nat.{ℕ, _+_, _-_, _≤_, _<_}
 use native.Mathlib.Nat.{sub-zero}
 use native.Mathlib.Omega.{arith}
 use Rattle.modes.specs.Sets.{fits-set}
@@ -20,8 +20,7 @@ unfolding noticed-at onward noticed-left
 noticed-start ws r e = rw (e, sub-zero (locks-in ws)) (omega arith)
 
 follow-at : (g : ℕ → ℕ) (n m k : ℕ) → (k ≡ 0 → ⊥) → m < n → follow g (n - m) k ≡ k ∷ follow g (n - (m + 1)) (g k)
-follow-at g n m zero e h = absurd (e refl)
-follow-at g n m (suc k) e h = let z : n - m - 1 ≡ n - (m + 1) = omega arith in rw (follow-step g (n - m) k (omega arith), z)
+follow-at g n m k e h = let z : n - m - 1 ≡ n - (m + 1) = omega arith in rw (follow-step g (n - m) k (omega arith) e, z)
 
 module _ (ws : List ℕ) (n m k c : ℕ) {whole : ℕ} (i : whole ≡ noticed-left ws n m k c) where
   pub noticed-on : {b j : ℕ} → (k ≡ 0 → ⊥) → m < n → b ≡ bit (noticed (read-lock ws k)) → j ≡ word-in ws (of-lock k 0) → whole ≡ noticed-left ws n (m + 1) j (c + b)
@@ -36,9 +35,9 @@ module _ (ws : List ℕ) (n m k c : ℕ) {whole : ℕ} (i : whole ≡ noticed-le
 
 -- THE WALK says that something is wrong, or ends
 module _ (ws : List ℕ) (r : ℕ) where
-  pub granting-over : (set : ℕ) {x : GrantCount} → x ≡ grants-over (locks-in ws) set → Walked (locks-in ws) (grant-walk ws r) (over (locks-in ws) set) → Granting ws r x
+  pub granting-over : {x : GrantCount} → x ≡ grants-over (locks-in ws) → Walked (locks-in ws) (grant-walk ws r) (over (locks-in ws)) → Granting ws r x
   unfolding grants-over over
-  granting-over set e w = rw e (record { walked = w; noticed = λ h. absurd (omega arith); few = omega arith })
+  granting-over e w = rw e (record { walked = w; noticed = λ h. absurd (omega arith); few = omega arith })
 
   pub granting-end : {m k set c : ℕ} → grant-walk ws r ≡ modes-left ws 1 r fits-set (locks-in ws) m k set → noticed-at ws r ≡ noticed-left ws (locks-in ws) m k c → k ≡ 0 → m ≤ locks-in ws → c ≤ m → set < 64 → Granting ws r (record { met = m; modes = set; noticed = c })
   granting-end {m} {k} {set} {c} i j e l f s = record { walked = modes-end ws 1 r fits-set (locks-in ws) i e l s; noticed = λ h. noticed-end ws (locks-in ws) m k c j e; few = omega arith }

@@ -2,19 +2,19 @@
 use mathlib.Core.Path.{_≡_, refl, sym, _∙_}
 use mathlib.Core.Bool.{Bool, true, false, not, cond, _&&_, _||_}
 use mathlib.Core.List.{List}
-use Prim.Native.Nat.{ℕ, zero, suc, _+_, _-_, _≤_, _<_}
+use Prim.Native.Nat.{ℕ, suc, _+_, _-_, _≤_, _<_}
 use native.Mathlib.Nat.{sub-zero}
 use native.Mathlib.Omega.{arith}
 use lib.Dec.{eqb, leb}
-use lib.ListN.{length}
 use borrow.Author.Tests.{not-true, not-false, le-leb, lt-leb, leb-true, eqb-true}
 use Rattle.modes.specs.Sets.{fits-set, with-mode}
 use Rattle.tables.specs.declared.Lock.{Lock}
-use Rattle.tables.specs.Layout.{of-resource, of-lock, locks-in, word-in, follow, read-lock, lock-link}
+use Rattle.tables.specs.Layout.{of-resource, of-lock, locks-in, word-in, read-lock}
 use Rattle.tables.specs.Sound.{modes-right, client-right}
-use Rattle.tables.proofs.Cases.{by-cases, and-left, and-right, parts}
+use Rattle.tables.proofs.Cases.{and-left, and-right, parts}
 use Rattle.check_laws.specs.declared.HolderCount.{HolderCount}
-use Rattle.check_laws.specs.Check.{on-named, fields-fine, links-fine, lock-fine, stands, home-on, mode-steps, fits-beside, tail-steps, grant-walk}
+use Rattle.check_laws.specs.Check.{on-named, fields-fine, links-fine, lock-fine, stands, home-on, held-in, mode-steps, fits-beside, tail-steps, grant-walk}
+use Rattle.check_laws.proofs.ChainSteps.{one-more, modes-zero, modes-none, modes-turn}
 use Rattle.check_queues.specs.QueueWalks.{modes-left, over, Walked}
 
 -- MODES. A lock's fields, whatever its state, have modes up to 5
@@ -76,71 +76,52 @@ unfolding read-lock
 held-read ws k e = e
 
 -- STEPS along holders: the chain ends; it is too long; it leaves the table; it meets another lock; a mode that doesn't fit; it goes on
-pub walked-over : {n set : ℕ} {whole x : HolderCount} → x ≡ over n set → over n set ≡ whole → set < 64 → Walked n whole x
+pub walked-over : {n : ℕ} {whole x : HolderCount} → x ≡ over n → over n ≡ whole → Walked n whole x
 unfolding over
-walked-over e w h = record { is = e ∙ w; short = rw e (omega arith); small = rw e h }
+walked-over e w = record { is = e ∙ w; short = rw e (omega arith); small = rw e (omega arith) }
 
 module _ (ws : List ℕ) (s r : ℕ) (fit : ℕ → ℕ → Bool) where
-  pub modes-zero : (n set : ℕ) → mode-steps ws s r fit n 0 set ≡ record { met = 0; modes = set }
-  unfolding mode-steps
-  modes-zero zero set = refl
-  modes-zero (suc n) set = refl
-
-  modes-none : (k set : ℕ) → (k ≡ 0 → ⊥) → mode-steps ws s r fit 0 k set ≡ record { met = 1; modes = set }
-  unfolding mode-steps
-  modes-none zero set e = absurd (e refl)
-  modes-none (suc k) set e = refl
-
-  next-step : ℕ → ℕ → ℕ → HolderCount
-  next-step n k set =
-      let m = read-lock ws k .held in
-      let rest = mode-steps ws s r fit n (word-in ws (of-lock k 0)) (with-mode set m) in
-      cond (home-on ws s r k && fit set m) (record { met = suc (rest .met); modes = rest .modes }) (record { met = suc (suc n); modes = set })
-
-  modes-suc : (n k set : ℕ) → (k ≡ 0 → ⊥) → mode-steps ws s r fit (suc n) k set ≡ next-step n k set
-  unfolding mode-steps next-step
-  modes-suc n zero set e = absurd (e refl)
-  modes-suc n (suc k) set e = refl
-
-  modes-at : (n m k set : ℕ) → (k ≡ 0 → ⊥) → m < n → mode-steps ws s r fit (n - m) k set ≡ next-step (n - (m + 1)) k set
-  modes-at n m k set e h = let z : n - m ≡ suc (n - (m + 1)) = omega arith in rw (z, modes-suc (n - (m + 1)) k set e)
+  modes-at : (n m k set : ℕ) → (k ≡ 0 → ⊥) → m < n →
+      mode-steps ws s r fit (n - m) k set
+      ≡ cond (home-on ws s r k && fit set (held-in ws k)) (one-more (mode-steps ws s r fit (n - (m + 1)) (word-in ws (of-lock k 0)) (with-mode set (held-in ws k)))) (record { met = suc (n - m); modes = 0 })
+  modes-at n m k set e h = let z : n - m - 1 ≡ n - (m + 1) = omega arith in rw (modes-turn ws s r fit (n - m) k set (omega arith) e, z)
 
   pub modes-end : (n : ℕ) {m k set : ℕ} {whole : HolderCount} → whole ≡ modes-left ws s r fit n m k set → k ≡ 0 → m ≤ n → set < 64 → Walked n whole (record { met = m; modes = set })
   unfolding modes-left
   modes-end n {m} {k} {set} i e l h =
       let z : m + 0 ≡ m = omega arith in
-      record { is = sym (i ∙ rw (e, modes-zero (n - m) set, z)); short = omega arith; small = h }
+      record { is = sym (i ∙ rw (e, modes-zero ws s r fit (n - m) set, z)); short = omega arith; small = h }
 
-  module _ {n m k set : ℕ} {whole : HolderCount} (i : whole ≡ modes-left ws s r fit n m k set) (e : k ≡ 0 → ⊥) (c : set < 64) where
-    pub modes-long : {x : HolderCount} → m ≤ n → n ≤ m → x ≡ over n set → Walked n whole x
+  module _ (set : ℕ) {n m k : ℕ} {whole : HolderCount} (i : whole ≡ modes-left ws s r fit n m k set) (e : k ≡ 0 → ⊥) where
+    pub modes-long : {x : HolderCount} → m ≤ n → n ≤ m → x ≡ over n → Walked n whole x
     unfolding modes-left over
     modes-long l h o =
         let z : n - m ≡ 0 = omega arith in
         let w : m + 1 ≡ n + 1 = omega arith in
-        walked-over o (sym (i ∙ rw (z, modes-none k set e, w))) c
+        walked-over o (sym (i ∙ rw (z, modes-none ws s r fit k set e, w)))
 
-    modes-fail : {x : HolderCount} → m < n → (home-on ws s r k && fit set (read-lock ws k .held)) ≡ false → x ≡ over n set → Walked n whole x
-    unfolding modes-left next-step over
+    modes-fail : {x : HolderCount} → m < n → (home-on ws s r k && fit set (held-in ws k)) ≡ false → x ≡ over n → Walked n whole x
+    unfolding modes-left over
     modes-fail h f o =
-        let w : m + suc (suc (n - (m + 1))) ≡ n + 1 = omega arith in
-        walked-over o (sym (i ∙ rw (modes-at n m k set e h, f, w))) c
+        let w : m + suc (n - m) ≡ n + 1 = omega arith in
+        walked-over o (sym (i ∙ rw (modes-at n m k set e h, f, w)))
 
-    pub modes-off : {x : HolderCount} → m < n → locks-in ws < k → x ≡ over n set → Walked n whole x
+    pub modes-off : {x : HolderCount} → m < n → locks-in ws < k → x ≡ over n → Walked n whole x
     unfolding home-on
     modes-off h b = modes-fail h (rw (lt-leb k (locks-in ws) b))
 
     module _ {a : Bool} (h : m < n) (b : k ≤ locks-in ws) (t : a ≡ stands ws s r k) where
-      pub modes-other : {x : HolderCount} → not a ≡ true → x ≡ over n set → Walked n whole x
+      pub modes-other : {x : HolderCount} → not a ≡ true → x ≡ over n → Walked n whole x
       unfolding home-on
       modes-other f = modes-fail h (rw (le-leb k (locks-in ws) b, ← t, not-true a f))
 
       module _ {l : ℕ} {d : Bool} (f : not a ≡ false) (g : l ≡ word-in ws (of-lock k 6)) (u : d ≡ fit set l) where
-        pub modes-clash : {x : HolderCount} → not d ≡ true → x ≡ over n set → Walked n whole x
+        pub modes-clash : {x : HolderCount} → not d ≡ true → x ≡ over n → Walked n whole x
         unfolding home-on
         modes-clash v = modes-fail h (rw (le-leb k (locks-in ws) b, ← t, not-false a f, ← held-read ws k g, ← u, not-true d v))
 
         pub modes-on : {y j : ℕ} → not d ≡ false → y ≡ with-mode set l → j ≡ word-in ws (of-lock k 0) → whole ≡ modes-left ws s r fit n (m + 1) j y
-        unfolding modes-left next-step home-on
+        unfolding modes-left home-on
         modes-on {y} {j} v z w =
             let p : m + suc (mode-steps ws s r fit (n - (m + 1)) j y .met) ≡ m + 1 + mode-steps ws s r fit (n - (m + 1)) j y .met = omega arith in
             i ∙ rw (modes-at n m k set e h, le-leb k (locks-in ws) b, ← t, not-false a f, ← held-read ws k g, ← u, not-false d v, ← z, ← w, p)
@@ -149,17 +130,6 @@ module _ (ws : List ℕ) (s r : ℕ) (fit : ℕ → ℕ → Bool) where
   unfolding modes-left
   modes-start n k set = let z : 0 + mode-steps ws s r fit n k set .met ≡ mode-steps ws s r fit n k set .met = omega arith in rw (sub-zero n, z)
 
-  -- a walk on which nothing is wrong meets the locks of the chain
-  modes-length : (n k set : ℕ) → mode-steps ws s r fit n k set .met ≤ n → mode-steps ws s r fit n k set .met ≡ length (follow (lock-link ws 0) n k)
-  unfolding mode-steps follow
-  modes-length zero zero set h = refl
-  modes-length zero (suc k) set h = absurd (omega arith)
-  modes-length (suc n) zero set h = refl
-  modes-length (suc n) (suc k) set h =
-      by-cases (home-on ws s r (suc k) && fit set (read-lock ws (suc k) .held))
-      (λ p. rw p (omega (arith, modes-length n (word-in ws (of-lock (suc k) 0)) (with-mode set (read-lock ws (suc k) .held)) (omega (arith, rw p at h)))))
-      (λ p. absurd (omega (arith, rw p at h)))
-
 -- the walks along the grant chain and behind the convert head are two such
 pub grant-start : (ws : List ℕ) (r : ℕ) {k : ℕ} → k ≡ word-in ws (of-resource r 1) → grant-walk ws r ≡ modes-left ws 1 r fits-set (locks-in ws) 0 k 0
 unfolding grant-walk
@@ -167,6 +137,3 @@ grant-start ws r e = rw e (modes-start ws 1 r fits-set (locks-in ws) (word-in ws
 
 pub tail-start : (ws : List ℕ) (r h n k set : ℕ) → tail-steps ws r h n k set ≡ modes-left ws 2 r (fits-beside h) n 0 k set
 tail-start ws r h n k set = modes-start ws 2 r (fits-beside h) n k set
-
-pub tail-length : (ws : List ℕ) (r h n k set : ℕ) → tail-steps ws r h n k set .met ≤ n → tail-steps ws r h n k set .met ≡ length (follow (lock-link ws 0) n k)
-tail-length ws r h n k set = modes-length ws 2 r (fits-beside h) n k set

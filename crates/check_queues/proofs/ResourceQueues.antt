@@ -1,50 +1,51 @@
 -- One resource's three chains.
-use mathlib.Core.Path.{_≡_, refl, ap}
-use mathlib.Core.Bool.{Bool, true, false, not, cond, _&&_}
+use mathlib.Core.Path.{_≡_, ap, _∙_}
+use mathlib.Core.Bool.{Bool, true, false, not, _&&_}
 use mathlib.Core.List.{List}
-use Prim.Native.Nat.{ℕ, zero, suc, _+_, _-_, _≤_, _<_}
+use Prim.Native.Nat.{ℕ, _+_, _-_, _≤_, _<_}
 use native.Mathlib.Numerals.{add-one}
 use native.Mathlib.Omega.{arith}
-use lib.Dec.{eqb}
 use lib.ListN.{length}
 use borrow.Author.Tests.{not-true, not-false, le-leb, lt-leb, eq-eqb, ne-eqb}
 use Rattle.modes.specs.Sets.{fits-set}
-use Rattle.tables.specs.Layout.{of-resource, of-lock, locks-in, word-in, follow, read-lock, lock-link, onward}
-use Rattle.tables.proofs.Cases.{by-cases, by-equal}
-use Rattle.tables.proofs.FollowedChains.{follow-zero, follow-step}
+use Rattle.tables.specs.State.{Queue, converts, waits}
+use Rattle.tables.specs.Layout.{of-resource, of-lock, locks-in, word-in, read-lock, onward}
+use Rattle.tables.proofs.Cases.{by-equal}
 use Rattle.check_laws.specs.declared.HolderCount.{HolderCount}
-use Rattle.check_laws.specs.Check.{steps, stands, home-on, home-steps, tail-steps, convert-from, convert-walk, heads-wait, wait-part, convert-part, grant-walk, resource-walk, blocked-at}
-use Rattle.check_laws.proofs.ChainSteps.{steps-passed}
+use Rattle.check_laws.specs.Check.{stands, home-on, home-steps, held-in, tail-steps, convert-from, convert-walk, heads-wait, wait-part, convert-part, grant-walk, resource-walk, blocked-at}
+use Rattle.check_laws.proofs.ChainSteps.{convert-zero, convert-turn, first-passes}
+use Rattle.check_laws.proofs.ResourceWalk.{link-of, head-of, Right, convert-met, convert-is, wait-met, wait-is}
 use Rattle.check_laws.proofs.Heads.{home-low, home-fine}
+use Rattle.check_laws.proofs.SideCounts.{queue-is}
 use Rattle.check_queues.specs.QueueWalks.{GrantCount, Census, over, queues-over, Walked, Granting, head-on, Heads, Counted}
-use Rattle.check_queues.proofs.HolderWalks.{walked-over, fine-modes, held-read, tail-length}
+use Rattle.check_queues.proofs.HolderWalks.{walked-over, fine-modes, held-read}
 
 -- CONVERTS. The head leaves the table; is another lock; its mode doesn't fit; the rest is walked
-module _ (ws : List ℕ) (r c set : ℕ) (s : set < 64) where
-  convert-fail : {x : HolderCount} → (home-on ws 2 r c && fits-set set (read-lock ws c .held)) ≡ false → x ≡ over (locks-in ws) set → Walked (locks-in ws) (convert-from ws r c set) x
-  unfolding convert-from over
-  convert-fail f o = walked-over o (rw (f, add-one (locks-in ws))) s
+module _ (ws : List ℕ) (r c set : ℕ) (o : 1 ≤ locks-in ws) (m : 1 ≤ c) where
+  convert-fail : {x : HolderCount} → (home-on ws 2 r c && fits-set set (held-in ws c)) ≡ false → x ≡ over (locks-in ws) → Walked (locks-in ws) (convert-from ws r c set) x
+  unfolding over
+  convert-fail f e = walked-over e (rw (convert-turn ws r set c o (omega arith), f, add-one (locks-in ws)))
 
-  pub convert-off : {x : HolderCount} → locks-in ws < c → x ≡ over (locks-in ws) set → Walked (locks-in ws) (convert-from ws r c set) x
+  pub convert-off : {x : HolderCount} → locks-in ws < c → x ≡ over (locks-in ws) → Walked (locks-in ws) (convert-from ws r c set) x
   unfolding home-on
   convert-off h = convert-fail (rw (lt-leb c (locks-in ws) h))
 
   module _ {a : Bool} (h : c ≤ locks-in ws) (t : a ≡ stands ws 2 r c) where
-    pub convert-other : {x : HolderCount} → not a ≡ true → x ≡ over (locks-in ws) set → Walked (locks-in ws) (convert-from ws r c set) x
+    pub convert-other : {x : HolderCount} → not a ≡ true → x ≡ over (locks-in ws) → Walked (locks-in ws) (convert-from ws r c set) x
     unfolding home-on
     convert-other f = convert-fail (rw (le-leb c (locks-in ws) h, ← t, not-true a f))
 
     module _ {l : ℕ} {b : Bool} (f : not a ≡ false) (e : l ≡ word-in ws (of-lock c 6)) (u : b ≡ fits-set set l) where
-      pub convert-clash : {x : HolderCount} → not b ≡ true → x ≡ over (locks-in ws) set → Walked (locks-in ws) (convert-from ws r c set) x
+      pub convert-clash : {x : HolderCount} → not b ≡ true → x ≡ over (locks-in ws) → Walked (locks-in ws) (convert-from ws r c set) x
       unfolding home-on
       convert-clash v = convert-fail (rw (le-leb c (locks-in ws) h, ← t, not-false a f, ← held-read ws c e, ← u, not-true b v))
 
-      pub convert-on : {k : ℕ} {rest : HolderCount} → not b ≡ false → k ≡ word-in ws (of-lock c 0) → 1 ≤ locks-in ws → Walked (locks-in ws - 1) (tail-steps ws r l (locks-in ws - 1) k set) rest → Walked (locks-in ws) (convert-from ws r c set) (record { met = rest .met + 1; modes = rest .modes })
-      unfolding convert-from home-on
-      convert-on {k} {rest} v g o w =
+      pub convert-on : {k : ℕ} {rest : HolderCount} → not b ≡ false → k ≡ word-in ws (of-lock c 0) → Walked (locks-in ws - 1) (tail-steps ws r l (locks-in ws - 1) k set) rest → Walked (locks-in ws) (convert-from ws r c set) (record { met = rest .met + 1; modes = rest .modes })
+      unfolding home-on
+      convert-on {k} {rest} v g w =
           let same = w .is in
           record {
-            is = rw (le-leb c (locks-in ws) h, ← t, not-false a f, ← held-read ws c e, ← u, not-false b v, ← g, ← same, add-one (rest .met));
+            is = rw (convert-turn ws r set c o (omega arith), le-leb c (locks-in ws) h, ← t, not-false a f, ← held-read ws c e, ← u, not-false b v, ← g, ← same, add-one (rest .met));
             short = let z = w .short in omega arith;
             small = w .small;
           }
@@ -52,60 +53,32 @@ module _ (ws : List ℕ) (r c set : ℕ) (s : set < 64) where
 module _ (ws : List ℕ) (r set : ℕ) {c : ℕ} (e : c ≡ word-in ws (of-resource r 2)) where
   pub convert-none : set < 64 → c ≡ 0 → Walked (locks-in ws) (convert-walk ws r set) (record { met = 0; modes = set })
   unfolding convert-walk
-  convert-none s z = record { is = rw (← e, eq-eqb c 0 z); short = omega arith; small = s }
+  convert-none s z = record { is = rw (← e, z, convert-zero ws r set); short = omega arith; small = s }
 
-  pub convert-some : {x : HolderCount} → (c ≡ 0 → ⊥) → Walked (locks-in ws) (convert-from ws r c set) x → Walked (locks-in ws) (convert-walk ws r set) x
+  pub convert-some : {x : HolderCount} → Walked (locks-in ws) (convert-from ws r c set) x → Walked (locks-in ws) (convert-walk ws r set) x
   unfolding convert-walk
-  convert-some z w = record { is = rw (← e, ne-eqb c 0 z) (w .is); short = w .short; small = w .small }
+  convert-some w = rw (← e) w
 
 -- where nothing is wrong with it, the head of a chain stands there, and the walk met the locks of the chain
-module _ (ws : List ℕ) (r set : ℕ) where
-  convert-first : convert-walk ws r set .met ≤ locks-in ws → head-on ws 2 r (word-in ws (of-resource r 2)) ≡ true
-  unfolding convert-walk convert-from head-on
-  convert-first h =
-      let c = word-in ws (of-resource r 2) in
-      by-equal c 0
-      (λ z. rw (eq-eqb c 0 z))
-      (λ z.
-      by-cases (home-on ws 2 r c)
-      (λ t. rw (ne-eqb c 0 z, t))
-      (λ t. let w : suc (locks-in ws) ≤ locks-in ws = rw (ne-eqb c 0 z, t) at h in absurd (omega arith)))
+head-stands : (ws : List ℕ) (r : ℕ) (q : Queue) (s : ℕ) → Right ws r q s → head-on ws s r (head-of ws r q) ≡ true
+unfolding head-on
+head-stands ws r q s p =
+    by-equal (head-of ws r q) 0
+    (λ z. rw (eq-eqb (head-of ws r q) 0 z))
+    (λ z. rw (ne-eqb (head-of ws r q) 0 z) (first-passes (link-of ws r q) (home-on ws s r) (locks-in ws) (head-of ws r q) p z))
 
-  convert-length : 1 ≤ locks-in ws → convert-walk ws r set .met ≤ locks-in ws → convert-walk ws r set .met ≡ length (onward ws 0 (word-in ws (of-resource r 2)))
-  unfolding convert-walk convert-from onward
-  convert-length some h = go (word-in ws (of-resource r 2)) h
-    where
-      go : (c : ℕ) → cond (eqb c 0) (record { met = 0; modes = set }) (convert-from ws r c set) .met ≤ locks-in ws →
-          cond (eqb c 0) (record { met = 0; modes = set }) (convert-from ws r c set) .met ≡ length (follow (lock-link ws 0) (locks-in ws) c)
-      go zero h = rw (follow-zero (lock-link ws 0) (locks-in ws))
-      go (suc k) h =
-          let m = read-lock ws (suc k) .held in
-          by-cases (home-on ws 2 r (suc k) && fits-set set m)
-          (λ p.
-          rw (ne-eqb (suc k) 0 (omega arith), p, follow-step (lock-link ws 0) (locks-in ws) k some)
-          (ap suc (tail-length ws r m (locks-in ws - 1) (word-in ws (of-lock (suc k) 0)) set (omega (arith, rw (ne-eqb (suc k) 0 (omega arith), p) at h)))))
-          (λ p. absurd (omega (arith, rw (ne-eqb (suc k) 0 (omega arith), p) at h)))
-
-home-first : (ws : List ℕ) (s r n k : ℕ) → steps (lock-link ws 0) (home-on ws s r) n k ≤ n → head-on ws s r k ≡ true
-unfolding steps head-on
-home-first ws s r n zero h = refl
-home-first ws s r zero (suc k) h = absurd (omega arith)
-home-first ws s r (suc n) (suc k) h =
-    by-cases (home-on ws s r (suc k))
-    (λ t. rw (ne-eqb (suc k) 0 (omega arith), t))
-    (λ t. let w : suc (suc n) ≤ suc n = rw t at h in absurd (omega arith))
+convert-length : (ws : List ℕ) (r set : ℕ) → convert-walk ws r set .met ≤ locks-in ws → convert-walk ws r set .met ≡ length (onward ws 0 (word-in ws (of-resource r 2)))
+convert-length ws r set h = let p = convert-met ws r set h in rw (convert-is ws r set (p .0) (p .1)) (ap length (queue-is ws r converts))
 
 wait-length : (ws : List ℕ) (r : ℕ) → home-steps ws 3 r (word-in ws (of-resource r 3)) ≤ locks-in ws → home-steps ws 3 r (word-in ws (of-resource r 3)) ≡ length (onward ws 0 (word-in ws (of-resource r 3)))
-unfolding home-steps onward
-wait-length ws r h = steps-passed (lock-link ws 0) (lock-link ws 0) (λ k. refl) (home-on ws 3 r) (locks-in ws) (word-in ws (of-resource r 3)) h .1
+wait-length ws r h = wait-is ws r (wait-met ws r h) ∙ ap length (queue-is ws r waits)
 
 pub heads : (ws : List ℕ) (r set : ℕ) {c : HolderCount} {w : ℕ} → Walked (locks-in ws) (convert-walk ws r set) c → c .met ≤ locks-in ws → w ≡ home-steps ws 3 r (word-in ws (of-resource r 3)) → w ≤ locks-in ws → Heads ws r
-unfolding home-steps
 heads ws r set {c} {w} v h g l =
     let e = v .is in
     record {
-      convert = convert-first ws r set (rw (← e) h);
-      wait = home-first ws 3 r (locks-in ws) (word-in ws (of-resource r 3)) (rw (← g) l);
+      convert = head-stands ws r converts 2 (convert-met ws r set (rw (← e) h) .0);
+      wait = head-stands ws r waits 3 (wait-met ws r (rw (← g) l));
     }
 
 -- HEADS that wait: each is a lock that asks for a mode
@@ -181,10 +154,10 @@ module _ (ws : List ℕ) (r : ℕ) {g : GrantCount} (p : Granting ws r g) where
         unfolding resource-walk convert-part wait-part
         all-met f = rw (← eg, le-leb (g .met) (locks-in ws) lg, ← ec, le-leb (c .met) (locks-in ws) lc, ← ew, le-leb w (locks-in ws) lw, ← eb, not-false b f)
 
-        pub all-three : 1 ≤ locks-in ws → not b ≡ false → Counted ws r (record { met = g .met + c .met + w; blocked = c .met + w; noticed = g .noticed })
+        pub all-three : not b ≡ false → Counted ws r (record { met = g .met + c .met + w; blocked = c .met + w; noticed = g .noticed })
         unfolding blocked-at
-        all-three some f =
+        all-three f =
             let few = p .few in
-            let converts : c .met ≡ length (onward ws 0 (word-in ws (of-resource r 2))) = rw ec (convert-length ws r (g .modes) some (rw (← ec) lc)) in
+            let converts : c .met ≡ length (onward ws 0 (word-in ws (of-resource r 2))) = rw ec (convert-length ws r (g .modes) (rw (← ec) lc)) in
             let waits : w ≡ length (onward ws 0 (word-in ws (of-resource r 3))) = rw ew (wait-length ws r (rw (← ew) lw)) in
             record { met = all-met f; short = omega arith; blocked = λ h. omega arith; noticed = λ h. p .noticed lg; few = (omega arith, omega arith) }

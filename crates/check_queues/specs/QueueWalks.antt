@@ -7,7 +7,7 @@ use lib.ListN.{length}
 use lib.Dec.{eqb}
 use Rattle.tables.specs.Lists.{keep}
 use Rattle.tables.specs.State.{noticed, state-converting, state-waiting}
-use Rattle.tables.specs.Layout.{of-resource, of-lock, locks-in, word-in, follow, read-lock, lock-link}
+use Rattle.tables.specs.Layout.{of-resource, locks-in, word-in, follow, read-lock, lock-link}
 use Rattle.check_laws.specs.declared.HolderCount.{HolderCount}
 use Rattle.check_laws.specs.Check.{home-on, mode-steps, grant-walk, resource-walk, blocked-at, noticed-at}
 pub use Rattle.check_queues.specs.declared.GrantCount.{GrantCount}
@@ -24,11 +24,11 @@ unfoldable pub noticed-left : List ℕ → ℕ → ℕ → ℕ → ℕ → ℕ
 noticed-left ws n met k before = before + length (keep (λ k. noticed (read-lock ws k)) (follow (lock-link ws 0) (n - met) k))
 
 -- the answer if something is wrong: with a chain, with a grant chain, with a resource
-unfoldable pub over : ℕ → ℕ → HolderCount
-over n set = record { met = n + 1; modes = set }
+unfoldable pub over : ℕ → HolderCount
+over n = record { met = n + 1; modes = 0 }
 
-unfoldable pub grants-over : ℕ → ℕ → GrantCount
-grants-over n set = record { met = n + 1; modes = set; noticed = 0 }
+unfoldable pub grants-over : ℕ → GrantCount
+grants-over n = record { met = n + 1; modes = 0; noticed = 0 }
 
 unfoldable pub queues-over : ℕ → Census
 queues-over n = record { met = n + 1; blocked = 0; noticed = 0 }

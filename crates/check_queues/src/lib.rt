@@ -44,24 +44,24 @@ pub struct Census {
     pub noticed: u32,
 }
 
-// What a walk answers if something is wrong with a chain: one lock more than the n that there may be.
-fn over(n: u32, set: u32) -> HolderCount
+// What a walk answers if something is wrong with a chain: one lock more than the n that there may be, and no modes.
+fn over(n: u32) -> HolderCount
     requires { ⌜ n ≤ most-locks ⌝ }
-    ensures { λ x. ⌜ x ≡ over n set ⌝ }
+    ensures { λ x. ⌜ x ≡ over n ⌝ }
 {
     HolderCount {
         met: n + 1,
-        modes: set,
+        modes: 0,
     }
 }
 
-fn grants_over(n: u32, set: u32) -> GrantCount
+fn grants_over(n: u32) -> GrantCount
     requires { ⌜ n ≤ most-locks ⌝ }
-    ensures { λ x. ⌜ x ≡ grants-over n set ⌝ }
+    ensures { λ x. ⌜ x ≡ grants-over n ⌝ }
 {
     GrantCount {
         met: n + 1,
-        modes: set,
+        modes: 0,
         noticed: 0,
     }
 }
@@ -100,17 +100,17 @@ fn grant_walk(words: &[u32], r: u32) -> GrantCount
     let mut noticed = 0;
     while k != 0 {
         if n <= met {
-            return grants_over(n, set);
+            return grants_over(n);
         }
         if n < k {
-            return grants_over(n, set);
+            return grants_over(n);
         }
         if !stands_granted(words, r, k) {
-            return grants_over(n, set);
+            return grants_over(n);
         }
         let held = lock_word(words, k, LOCK_HELD);
         if !modes::fits_by_masks(set, held) {
-            return grants_over(n, set);
+            return grants_over(n);
         }
         set = modes::with_mode(set, held);
         noticed += notice_bit(words, k);
@@ -151,17 +151,17 @@ fn tail_walk(words: &[u32], r: u32, head: u32, first: u32, granted: u32) -> Hold
     let mut set = granted;
     while k != 0 {
         if n <= met {
-            return over(n, set);
+            return over(n);
         }
         if last < k {
-            return over(n, set);
+            return over(n);
         }
         if !stands_converting(words, r, k) {
-            return over(n, set);
+            return over(n);
         }
         let held = lock_word(words, k, LOCK_HELD);
         if !fits_beside(head, set, held) {
-            return over(n, set);
+            return over(n);
         }
         set = modes::with_mode(set, held);
         k = lock_word(words, k, LOCK_NEXT);
@@ -184,14 +184,14 @@ fn convert_from(words: &[u32], r: u32, c: u32, granted: u32) -> HolderCount
 {
     let n = words[LOCKS];
     if n < c {
-        return over(n, granted);
+        return over(n);
     }
     if !stands_converting(words, r, c) {
-        return over(n, granted);
+        return over(n);
     }
     let held = lock_word(words, c, LOCK_HELD);
     if !modes::fits_by_masks(granted, held) {
-        return over(n, granted);
+        return over(n);
     }
     let first = lock_word(words, c, LOCK_NEXT);
     let rest = tail_walk(words, r, held, first, granted);

@@ -13,9 +13,8 @@ use Rattle.tables.proofs.FollowedChains.{follow-zero}
 use Rattle.table_names.specs.Names.{named, slot-fine}
 use Rattle.check_laws.specs.declared.ResourceRow.{ResourceRow}
 use Rattle.check_laws.specs.Check.{row-in, free-row, row-fine, resource-fine, home-on, home-steps, grant-walk, convert-walk, heads-wait, wait-part, convert-part, resource-walk, blocked-at, noticed-at}
-use Rattle.check_chains.proofs.ChainWalk.{steps-zero}
+use Rattle.check_laws.proofs.ChainSteps.{steps-zero, modes-zero, convert-zero}
 use Rattle.check_queues.specs.QueueWalks.{Counted}
-use Rattle.check_queues.proofs.HolderWalks.{modes-zero}
 
 -- by its words a resource has a name or not
 module _ (ws : List ℕ) (r : ℕ) {x : ResourceRow} (e : x ≡ row-in ws r) where
@@ -62,7 +61,7 @@ module _ (ws ss : List ℕ) (r : ℕ) (fine : resource-fine ws ss r ≡ true) (f
   no-walk : resource-walk ws r ≡ 0
   unfolding resource-walk convert-part wait-part convert-walk heads-wait grant-walk home-steps
   no-walk =
-      rw (no-grant, no-convert, no-wait, modes-zero ws 1 r _ (locks-in ws) 0, steps-zero (lock-link ws 0) (home-on ws 3 r) (locks-in ws), le-leb 0 (locks-in ws) (omega arith))
+      rw (no-grant, no-convert, no-wait, modes-zero ws 1 r _ (locks-in ws) 0, convert-zero ws r 0, steps-zero (lock-link ws 0) (home-on ws 3 r) (locks-in ws), le-leb 0 (locks-in ws) (omega arith))
 
   no-queue : (f : ℕ) → word-in ws (of-resource r f) ≡ 0 → onward ws 0 (word-in ws (of-resource r f)) ≡ []
   unfolding onward

@@ -161,6 +161,6 @@ module _ (ws ss : List ℕ) {a b : ℕ} {x : HomeCounts} (fine : Fine ws) (p : a
       record {
         fine = home-total;
         free = w .free;
-        blocked = λ t. w .blocked t ∙ blocked-counted ws (fine .some) (all-home t);
-        noticed = λ t. w .noticed t ∙ (rw q (noticed-counted ws (fine .some) (all-home t)));
+        blocked = λ t. w .blocked t ∙ blocked-counted ws (all-home t);
+        noticed = λ t. w .noticed t ∙ (rw q (noticed-counted ws (all-home t)));
       }

@@ -21,7 +21,7 @@ abbrev pub Runs : (ℕ → ℕ) → ℕ → List ℕ → Type 0
 Runs f a [] = a ≡ 0
 Runs f a (x ∷ xs) = (a ≡ x) × (x ≢ 0) × Runs f (f x) xs
 
--- THE END, and a step where n steps may be taken
+-- THE END, and a step where n steps may be taken; where none may be, only the end is reached
 module _ (f : ℕ → ℕ) where
   pub ends-zero : (n : ℕ) → ends f n 0 ≡ true
   unfolding ends
@@ -33,15 +33,22 @@ module _ (f : ℕ → ℕ) where
   follow-zero zero = refl
   follow-zero (suc n) = refl
 
-  pub ends-step : (n k : ℕ) → 1 ≤ n → ends f n (suc k) ≡ ends f (n - 1) (f (suc k))
+  pub ends-none : (k : ℕ) → k ≢ 0 → ends f 0 k ≡ false
   unfolding ends
-  ends-step zero k h = absurd (omega arith)
-  ends-step (suc n) k h = let e : suc n - 1 ≡ n = omega arith in rw e
+  ends-none zero m = absurd (m refl)
+  ends-none (suc k) m = refl
 
-  pub follow-step : (n k : ℕ) → 1 ≤ n → follow f n (suc k) ≡ suc k ∷ follow f (n - 1) (f (suc k))
+  pub ends-step : (n k : ℕ) → 1 ≤ n → k ≢ 0 → ends f n k ≡ ends f (n - 1) (f k)
+  unfolding ends
+  ends-step n zero h m = absurd (m refl)
+  ends-step zero (suc k) h m = absurd (omega arith)
+  ends-step (suc n) (suc k) h m = let e : suc n - 1 ≡ n = omega arith in rw e
+
+  pub follow-step : (n k : ℕ) → 1 ≤ n → k ≢ 0 → follow f n k ≡ k ∷ follow f (n - 1) (f k)
   unfolding follow
-  follow-step zero k h = absurd (omega arith)
-  follow-step (suc n) k h = let e : suc n - 1 ≡ n = omega arith in rw e
+  follow-step n zero h m = absurd (m refl)
+  follow-step zero (suc k) h m = absurd (omega arith)
+  follow-step (suc n) (suc k) h m = let e : suc n - 1 ≡ n = omega arith in rw e
 
   -- A TURN of a chain that ends: one step more than it takes changes nothing
   more-ends : (n k : ℕ) → ends f n k ≡ true → ends f (suc n) k ≡ true

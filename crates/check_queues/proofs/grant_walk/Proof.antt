@@ -25,13 +25,13 @@ loop-holds : tie.Need-loop-holds Inv-loop μ-loop
 loop-holds c = (omega arith, (omega arith, (omega arith, (search grant-start, search noticed-start))))
 
 returns : tie.Need-returns Inv-loop μ-loop
-returns c = granting-over _ _ _ (c .grants-over .ensures) (search modes-long)
+returns c = granting-over _ _ (c .grants-over .ensures) (search modes-long)
 
 returns-2 : tie.Need-returns-2 Inv-loop μ-loop
-returns-2 c = granting-over _ _ _ (c .grants-over2 .ensures) (search modes-off)
+returns-2 c = granting-over _ _ (c .grants-over2 .ensures) (search modes-off)
 
 returns-3 : tie.Need-returns-3 Inv-loop μ-loop
-returns-3 c = granting-over _ _ _ (c .grants-over3 .ensures) (search modes-other)
+returns-3 c = granting-over _ _ (c .grants-over3 .ensures) (search modes-other)
 
 returns-4 : tie.Need-returns-4 Inv-loop μ-loop
 returns-4 c =
@@ -39,8 +39,8 @@ returns-4 c =
     let stands = fits .before .before in
     let head = stands .before .before in
     let loop = head .before .before .before .loop in
-    granting-over _ _ _ (c .grants-over4 .ensures)
-    (modes-clash _ 1 _ fits-set (loop .inv .1 .1 .1 .0) (head .before .before .loop-test .taken) (loop .inv .1 .0) (head .before .if1 .left) (head .if2 .left)
+    granting-over _ _ (c .grants-over4 .ensures)
+    (modes-clash _ 1 _ fits-set _ (loop .inv .1 .1 .1 .0) (head .before .before .loop-test .taken) (head .before .if1 .left) (head .if2 .left)
     (stands .before .stands-granted .ensures) (stands .if3 .left) (fits .before .lock-word .ensures) (fits .fits-by-masks .ensures) (c .before .if4 .taken) refl)
 
 loop-again : tie.Need-loop-again Inv-loop μ-loop
@@ -50,7 +50,7 @@ loop-again c =
     let head = stands .before .before in
     let loop = head .before .before .before .loop in
     let on =
-    modes-on _ 1 _ fits-set (loop .inv .1 .1 .1 .0) (head .before .before .loop-test .taken) (loop .inv .1 .0) (head .before .if1 .left) (head .if2 .left)
+    modes-on _ 1 _ fits-set _ (loop .inv .1 .1 .1 .0) (head .before .before .loop-test .taken) (head .before .if1 .left) (head .if2 .left)
     (stands .before .stands-granted .ensures) (stands .if3 .left) (fits .before .lock-word .ensures) (fits .fits-by-masks .ensures) (c .before .before .before .if4 .left)
     (c .before .before .with-mode .ensures .0) (c .lock-word2 .ensures) in
     (omega arith, (omega arith, (omega arith, (on, search noticed-on))))
