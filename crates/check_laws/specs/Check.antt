@@ -124,10 +124,10 @@ holder-steps ws s r fits modes n k =
     let ks = follow (lock-link ws 0) n k in
     cond (ends (lock-link ws 0) n k && (all (home-on ws s r) ks && fits ks)) (record { met = length ks; modes = modes ks }) (record { met = suc n; modes = 0 })
 
--- each held mode fits those before it
 abbrev pub held-in : List ℕ → ℕ → ℕ
 held-in ws k = read-lock ws k .held
 
+-- each held mode fits those before it
 unfoldable pub mode-steps : List ℕ → ℕ → ℕ → (ℕ → ℕ → Bool) → ℕ → ℕ → ℕ → HolderCount
 mode-steps ws s r fit n k set = holder-steps ws s r (fitting fit (held-in ws) set) (gather (held-in ws) set) n k
 
