@@ -15,7 +15,7 @@ use Rattle.tables.proofs.Counts.{count-nil, count-other, all-at}
 use Rattle.tables.proofs.Links.{distinct-count, absent-count}
 use Rattle.tables.proofs.FollowedChains.{ends-zero, follow-zero, ends-none, ends-step, follow-step, follow-turn, ends-agree, follow-agree, ends-runs, runs-distinct, runs-no-zero}
 use Rattle.check_laws.proofs.HeldModes.{four}
-use Rattle.check_laws.specs.Check.{steps, home-on, HolderCount, held-in, fitting, gather, holder-steps, mode-steps, fits-beside, tail-steps, convert-fit, others, convert-from}
+use Rattle.check_laws.specs.Check.{steps, home-on, HolderCount, held-in, fitting, gather, holder-steps, mode-steps, fits-beside, tail-steps, convert-fit, other-modes, convert-from}
 
 -- the chain of g from a ends in n steps, and each on it passes
 pub record Passed (g : ℕ → ℕ) (test : ℕ → Bool) (n a : ℕ) : Type 0 where
@@ -126,15 +126,15 @@ module _ (ws : List ℕ) (s r : ℕ) (fit : ℕ → ℕ → Bool) where
 -- and a convert head with the granted modes
 module _ (ws : List ℕ) (r set : ℕ) where
   pub convert-zero : convert-from ws r 0 set ≡ record { met = 0; modes = set }
-  unfolding convert-from convert-fit others
-  convert-zero = holders-zero ws 2 r (convert-fit (held-in ws) set) (others (held-in ws) set) (locks-in ws) refl
+  unfolding convert-from convert-fit other-modes
+  convert-zero = holders-zero ws 2 r (convert-fit (held-in ws) set) (other-modes (held-in ws) set) (locks-in ws) refl
 
   pub convert-turn : (c : ℕ) → 1 ≤ locks-in ws → c ≢ 0 →
       convert-from ws r c set
       ≡ cond (home-on ws 2 r c && fits-set set (held-in ws c)) (one-more (tail-steps ws r (held-in ws c) (locks-in ws - 1) (lock-link ws 0 c) set)) (record { met = suc (locks-in ws); modes = 0 })
-  unfolding convert-from convert-fit others mode-steps
+  unfolding convert-from convert-fit other-modes mode-steps
   convert-turn c h m =
-      holders-turn ws 2 r (convert-fit (held-in ws) set) (others (held-in ws) set) (locks-in ws) c (fits-set set (held-in ws c))
+      holders-turn ws 2 r (convert-fit (held-in ws) set) (other-modes (held-in ws) set) (locks-in ws) c (fits-set set (held-in ws c))
       (fitting (fits-beside (held-in ws c)) (held-in ws) set) (gather (held-in ws) set) h m (λ ks. refl) (λ ks. refl)
 
 -- the first of a chain that passes is 0 or passes

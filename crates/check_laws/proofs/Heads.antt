@@ -19,7 +19,7 @@ use Rattle.tables.proofs.Counts.{count-same, count-step, count-append, all-at, 
 use Rattle.tables.proofs.ReadState.{resource-of, lock-of}
 use Rattle.tables.proofs.FollowedChains.{follow-zero, follow-step}
 use Rattle.tables.proofs.ThreadedChains.{each-counted}
-use Rattle.check_laws.specs.Check.{lock-fine, stands, home-on, held-in, fitting, gather, convert-fit, others, heads-wait}
+use Rattle.check_laws.specs.Check.{lock-fine, stands, home-on, held-in, fitting, gather, convert-fit, other-modes, heads-wait}
 use Rattle.check_laws.proofs.ChainSteps.{once, member}
 use Rattle.check_laws.proofs.HeldModes.{all-append, all-true, all-each, pairs, Low, gather-small, gather-fits, fitting-is, beside-is, pairs-append, pairs-true, true-pairs}
 use Rattle.check_laws.proofs.ResourceWalk.{asked-in, link-of, head-of, queue-in, Right}
@@ -33,8 +33,8 @@ module _ (held : ℕ → ℕ) (gs : List ℕ) (low : Low held gs) where
   gathered : (a : ℕ) → a ≤ 5 → fits-set (gather held 0 gs) a ≡ all (λ j. compatible (held j) a) gs
   gathered a p = gather-fits held 0 a gs (omega arith) p low ∙ (rw (fits-none a (omega arith)))
 
-  others-fit : (c a : ℕ) (cs : List ℕ) → a ≤ 5 → Low held cs → fits-set (others held (gather held 0 gs) (c ∷ cs)) a ≡ all (λ j. compatible (held j) a) (gs ++ cs)
-  unfolding others
+  others-fit : (c a : ℕ) (cs : List ℕ) → a ≤ 5 → Low held cs → fits-set (other-modes held (gather held 0 gs) (c ∷ cs)) a ≡ all (λ j. compatible (held j) a) (gs ++ cs)
+  unfolding other-modes
   others-fit c a cs p e =
       gather-fits held (gather held 0 gs) a cs (gather-small held 0 gs (omega arith) low) p e
       ∙ (rw (gathered a p) (sym (all-append (λ j. compatible (held j) a) gs cs)))
@@ -66,7 +66,7 @@ kept held asked gs (c ∷ cs) ws = not (all (λ j. compatible (held j) (asked c)
 module _ (ws : List ℕ) (some : 1 ≤ locks-in ws) (f g : ℕ → ℕ) (gs : List ℕ) (low : Low (held-in ws) gs) where
   heads-kept : (c w : ℕ) → Low (held-in ws) (follow f (locks-in ws) c) → Low (asked-in ws) (follow f (locks-in ws) c) → Low (asked-in ws) (follow g (locks-in ws) w) →
       cond (eqb c 0) (eqb w 0 || not (fits-set (gather (held-in ws) 0 gs) (asked-in ws w)))
-      (not (fits-set (others (held-in ws) (gather (held-in ws) 0 gs) (follow f (locks-in ws) c)) (asked-in ws c)))
+      (not (fits-set (other-modes (held-in ws) (gather (held-in ws) 0 gs) (follow f (locks-in ws) c)) (asked-in ws c)))
       ≡ kept (held-in ws) (asked-in ws) gs (follow f (locks-in ws) c) (follow g (locks-in ws) w)
   unfolding kept
   heads-kept zero zero a b d = rw (follow-zero f (locks-in ws), follow-zero g (locks-in ws))
@@ -240,7 +240,7 @@ module _ (ws ss : List ℕ) (r : ℕ) (from-one : 1 ≤ r) (to-last : r ≤ reso
     pub fit-is : (fitting fits-set (held-in ws) 0 (queue-in ws r grants) && convert-fit (held-in ws) (gather (held-in ws) 0 (queue-in ws r grants)) (queue-in ws r converts)) ≡ holders-compatible (read ws ss) r
     fit-is = fit-pairs (held-in ws) (queue-in ws r grants) (held-low grants 1 g) (queue-in ws r converts) (held-low converts 2 c) ∙ sym compatible-is
 
-    pub heads-are : heads-wait ws r (gather (held-in ws) 0 (queue-in ws r grants)) (others (held-in ws) (gather (held-in ws) 0 (queue-in ws r grants)) (queue-in ws r converts)) ≡ no-grantable-head (read ws ss) r
+    pub heads-are : heads-wait ws r (gather (held-in ws) 0 (queue-in ws r grants)) (other-modes (held-in ws) (gather (held-in ws) 0 (queue-in ws r grants)) (queue-in ws r converts)) ≡ no-grantable-head (read ws ss) r
     unfolding heads-wait queue-in
     heads-are =
         heads-kept ws some (link-of ws r converts) (link-of ws r waits) (queue-in ws r grants) (held-low grants 1 g) (head-of ws r converts) (head-of ws r waits) (held-low converts 2 c) (asked-low converts 2 c) (asked-low waits 3 w)

@@ -12,7 +12,7 @@ use Rattle.tables.specs.State.{Queue, grants, converts, waits, queue, of-locks}
 use Rattle.tables.specs.Layout.{of-resource, queue-head, locks-in, word-in, link-in, follow, read-lock, lock-link}
 use Rattle.tables.proofs.Cases.{by-cases, and-left, and-right}
 use Rattle.tables.proofs.FollowedChains.{follow-short}
-use Rattle.check_laws.specs.Check.{home-on, home-steps, held-in, fitting, gather, mode-steps, grant-walk, convert-fit, others, convert-from, convert-walk, heads-wait, wait-part, convert-part, resource-walk}
+use Rattle.check_laws.specs.Check.{home-on, home-steps, held-in, fitting, gather, mode-steps, grant-walk, convert-fit, other-modes, convert-from, convert-walk, heads-wait, wait-part, convert-part, resource-walk}
 use Rattle.check_laws.proofs.ChainSteps.{Passed, steps-passed, passed-steps, holders-passed, passed-holders}
 
 abbrev pub asked-in : List ℕ → ℕ → ℕ
@@ -38,7 +38,7 @@ pub record Walked (ws : List ℕ) (r : ℕ) : Type 0 where
   pub waiting : Right ws r waits 3
   pub fit : fitting fits-set (held-in ws) 0 (queue-in ws r grants) ≡ true
   pub beyond : convert-fit (held-in ws) (gather (held-in ws) 0 (queue-in ws r grants)) (queue-in ws r converts) ≡ true
-  pub heads : heads-wait ws r (gather (held-in ws) 0 (queue-in ws r grants)) (others (held-in ws) (gather (held-in ws) 0 (queue-in ws r grants)) (queue-in ws r converts)) ≡ true
+  pub heads : heads-wait ws r (gather (held-in ws) 0 (queue-in ws r grants)) (other-modes (held-in ws) (gather (held-in ws) 0 (queue-in ws r grants)) (queue-in ws r converts)) ≡ true
 
 module _ (ws : List ℕ) (r : ℕ) where
   grant-met : grant-walk ws r .met ≤ locks-in ws → Right ws r grants 1 × (fitting fits-set (held-in ws) 0 (queue-in ws r grants) ≡ true)
@@ -53,12 +53,12 @@ module _ (ws : List ℕ) (r : ℕ) where
   module _ (set : ℕ) where
     pub convert-met : convert-walk ws r set .met ≤ locks-in ws → Right ws r converts 2 × (convert-fit (held-in ws) set (queue-in ws r converts) ≡ true)
     unfolding convert-walk convert-from queue-in
-    convert-met h = holders-passed ws 2 r (convert-fit (held-in ws) set) (others (held-in ws) set) (link-of ws r converts) (λ k. refl) (locks-in ws) (head-of ws r converts) h
+    convert-met h = holders-passed ws 2 r (convert-fit (held-in ws) set) (other-modes (held-in ws) set) (link-of ws r converts) (λ k. refl) (locks-in ws) (head-of ws r converts) h
 
     pub convert-is : Right ws r converts 2 → convert-fit (held-in ws) set (queue-in ws r converts) ≡ true →
-        convert-walk ws r set ≡ record { met = length (queue-in ws r converts); modes = others (held-in ws) set (queue-in ws r converts) }
+        convert-walk ws r set ≡ record { met = length (queue-in ws r converts); modes = other-modes (held-in ws) set (queue-in ws r converts) }
     unfolding convert-walk convert-from queue-in
-    convert-is p f = passed-holders ws 2 r (convert-fit (held-in ws) set) (others (held-in ws) set) (link-of ws r converts) (λ k. refl) (locks-in ws) (head-of ws r converts) p f
+    convert-is p f = passed-holders ws 2 r (convert-fit (held-in ws) set) (other-modes (held-in ws) set) (link-of ws r converts) (λ k. refl) (locks-in ws) (head-of ws r converts) p f
 
   pub wait-met : home-steps ws 3 r (head-of ws r waits) ≤ locks-in ws → Right ws r waits 3
   unfolding home-steps
@@ -99,7 +99,7 @@ module _ (ws : List ℕ) (r : ℕ) where
           by-cases (leb (convert-walk ws r set .met) (locks-in ws))
           (λ b. let c = convert-met set (leb-true _ _ b) in
           let h2 = rw (b, convert-is set (c .0) (c .1)) at h in
-          by-cases (leb (home-steps ws 3 r (head-of ws r waits)) (locks-in ws) && heads-wait ws r set (others (held-in ws) set (queue-in ws r converts)))
+          by-cases (leb (home-steps ws 3 r (head-of ws r waits)) (locks-in ws) && heads-wait ws r set (other-modes (held-in ws) set (queue-in ws r converts)))
           (λ d. record {
             granted = g .0;
             converting = c .0;

@@ -117,8 +117,7 @@ unfoldable pub gather : (ℕ → ℕ) → ℕ → List ℕ → ℕ
 gather held s [] = s
 gather held s (k ∷ ks) = gather held (with-mode s (held k)) ks
 
--- a home chain of holders whose modes fit: the number of steps, as above, and the set of the modes; or n + 1 and no set (the record is the code's
--- struct)
+-- a home chain of holders whose modes fit: the number of steps, as above, and the set of the modes, or n + 1 and 0 (the record is the code's struct)
 unfoldable pub holder-steps : List ℕ → ℕ → ℕ → (List ℕ → Bool) → (List ℕ → ℕ) → ℕ → ℕ → HolderCount
 holder-steps ws s r fits modes n k =
     let ks = follow (lock-link ws 0) n k in
@@ -127,7 +126,7 @@ holder-steps ws s r fits modes n k =
 abbrev pub held-in : List ℕ → ℕ → ℕ
 held-in ws k = read-lock ws k .held
 
--- each held mode fits those before it
+-- such a chain, where each held mode must fit the set of those before it
 unfoldable pub mode-steps : List ℕ → ℕ → ℕ → (ℕ → ℕ → Bool) → ℕ → ℕ → ℕ → HolderCount
 mode-steps ws s r fit n k set = holder-steps ws s r (fitting fit (held-in ws) set) (gather (held-in ws) set) n k
 
@@ -149,12 +148,12 @@ convert-fit held granted [] = true
 convert-fit held granted (k ∷ ks) = fits-set granted (held k) && fitting (fits-beside (held k)) held granted ks
 
 -- the set of the held modes other than the head's
-unfoldable pub others : (ℕ → ℕ) → ℕ → List ℕ → ℕ
-others held granted [] = granted
-others held granted (k ∷ ks) = gather held granted ks
+unfoldable pub other-modes : (ℕ → ℕ) → ℕ → List ℕ → ℕ
+other-modes held granted [] = granted
+other-modes held granted (k ∷ ks) = gather held granted ks
 
 unfoldable pub convert-from : List ℕ → ℕ → ℕ → ℕ → HolderCount
-convert-from ws r c granted = holder-steps ws state-converting r (convert-fit (held-in ws) granted) (others (held-in ws) granted) (locks-in ws) c
+convert-from ws r c granted = holder-steps ws state-converting r (convert-fit (held-in ws) granted) (other-modes (held-in ws) granted) (locks-in ws) c
 
 unfoldable pub convert-walk : List ℕ → ℕ → ℕ → HolderCount
 convert-walk ws r granted = convert-from ws r (word-in ws (of-resource r 2)) granted
