@@ -5,6 +5,7 @@ use borrow.Author.Needs.{needs}
 use Rattle.rules.specs.declared.Said.{Said}
 use Rattle.rules.specs.Entries.{Lent, Outcome, outcome}
 use Rattle.rules.specs.Numbers.{Small}
+use Rattle.rules.proofs.SmallNumbers.{call-small, start-small, load-small}
 use Rattle.answers.specs.Contracts.{Says}
 use Rattle.answers.proofs.SaidNumbers.{said-is, outcome-said}
 use Rattle.c_answers.specs.PackedAnswers.{unpacked}
@@ -16,7 +17,7 @@ outcome-small o n x u e says small = subst Small (sym (ap (λ (p : Outcome). p .
 pub outcome-packed : (o : Outcome) (n x : Said) (u : Lent) (r : ℕ) → outcome n u ≡ o → Says n x → unpacked r ≡ x → Small (o .said) → outcome (unpacked r) u ≡ o
 outcome-packed o n x u r e says packs small = rw packs (outcome-said o n x u small e says)
 
-pub ruleset carrying = (needs, outcome-small, outcome-packed)
+pub ruleset carrying = (needs, call-small, start-small, load-small, outcome-small, outcome-packed)
 
 -- the answer alone
 module _ (n x : Said) (small : Small n) (says : Says n x) where

@@ -1,11 +1,10 @@
--- What image and load say of their answer, they say of the packed one.
+-- What image says of its answer, it says of the packed one.
 use mathlib.Core.Path.{_≡_, refl, sym, ap, subst, _∙_}
 use mathlib.Core.List.{List}
 use Prim.Native.Nat.{ℕ, zero, suc}
 use borrow.Author.Needs.{needs}
 use Rattle.rules.specs.declared.Said.{Said}
-use Rattle.rules.specs.Entries.{Lent}
-use Rattle.rules.specs.Images.{image-entry, load-entry}
+use Rattle.rules.specs.Images.{image-entry}
 use Rattle.rules.specs.Numbers.{Small, imaged-said}
 use Rattle.rules.proofs.SmallNumbers.{numbers-small}
 use Rattle.answers.specs.declared.Done.{Done}
@@ -15,7 +14,7 @@ use Rattle.answers.specs.Contracts.{Says}
 use Rattle.entry_image.specs.Contracts.{imaged}
 use Rattle.c_answers.specs.Areas.{filled, image-filled}
 use Rattle.c_answers.specs.PackedAnswers.{unpacked}
-use Rattle.c_answers.proofs.PackedContracts.{carrying, said-small, said-packed}
+use Rattle.c_answers.proofs.PackedContracts.{said-small, said-packed}
 
 -- an image answers 0
 done-is : (d : Done) (a : List ℕ) → imaged-said (imaged (done d) a) ≡ done d
@@ -37,8 +36,3 @@ module _ (ws ss area a : List ℕ) (d : Done) (is : imaged (done d) a ≡ image-
         ap (λ (s : Said). filled s a) (said-packed (done d) x done-small says r packs ∙ sym (done-is d a)) ∙ ap image-filled is
 
 pub ruleset image-laws = (needs, image-small, image-packed)
-
-pub load-numbers : (bs : List ℕ) (t : Lent) → Small (load-entry bs t .said)
-load-numbers = numbers-small .of-load
-
-pub ruleset load-laws = (carrying, load-numbers)

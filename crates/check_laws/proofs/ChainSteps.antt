@@ -8,14 +8,14 @@ use native.Mathlib.Omega.{arith}
 use lib.ListN.{length}
 use Rattle.modes.specs.Sets.{fits-set, with-mode}
 use Rattle.tables.specs.Lists.{count, all}
-use Rattle.tables.specs.Layout.{locks-in, follow, lock-link}
+use Rattle.tables.specs.Layout.{locks-in, follow, lock-link, held-in}
 use Rattle.tables.specs.Sound.{ends}
 use Rattle.tables.proofs.Cases.{by-cases, by-equal, and-left, and-right, parts}
 use Rattle.tables.proofs.Counts.{count-nil, count-other, all-at}
 use Rattle.tables.proofs.Links.{distinct-count, absent-count}
 use Rattle.tables.proofs.FollowedChains.{ends-zero, follow-zero, ends-none, ends-step, follow-step, follow-turn, ends-agree, follow-agree, ends-runs, runs-distinct, runs-no-zero}
 use Rattle.check_laws.proofs.HeldModes.{four}
-use Rattle.check_laws.specs.Check.{steps, home-on, HolderCount, held-in, fitting, gather, holder-steps, mode-steps, fits-beside, tail-steps, convert-fit, other-modes, convert-from}
+use Rattle.check_laws.specs.Check.{steps, home-on, HolderCount, fitting, gather, holder-steps, mode-steps, fits-beside, tail-steps, convert-fit, other-modes, convert-from}
 
 -- the chain of g from a ends in n steps, and each on it passes
 pub record Passed (g : ℕ → ℕ) (test : ℕ → Bool) (n a : ℕ) : Type 0 where

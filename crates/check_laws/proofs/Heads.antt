@@ -11,7 +11,7 @@ use Rattle.modes.specs.Sets.{fits-set}
 use Rattle.modes.proofs.Laws.{fits-none}
 use Rattle.tables.specs.Lists.{count, all}
 use Rattle.tables.specs.State.{Resource, lock, resource, Queue, grants, converts, waits}
-use Rattle.tables.specs.Layout.{resources-in, locks-in, follow, read-chain, read-lock, read-resource, read}
+use Rattle.tables.specs.Layout.{resources-in, locks-in, follow, read-chain, read-lock, read-resource, read, held-in}
 use Rattle.tables.specs.Grants.{holders, fits, convert-grantable, admits, wait-grantable, grantable-head, no-grantable-head}
 use Rattle.tables.specs.Sound.{holders-compatible}
 use Rattle.tables.proofs.Cases.{by-equal, eqb-same, and-left, and-right, or-left, or-right, parts, same-truth}
@@ -19,7 +19,7 @@ use Rattle.tables.proofs.Counts.{count-same, count-step, count-append, all-at, 
 use Rattle.tables.proofs.ReadState.{resource-of, lock-of}
 use Rattle.tables.proofs.FollowedChains.{follow-zero, follow-step}
 use Rattle.tables.proofs.ThreadedChains.{each-counted}
-use Rattle.check_laws.specs.Check.{lock-fine, stands, home-on, held-in, fitting, gather, convert-fit, other-modes, heads-wait}
+use Rattle.check_laws.specs.Check.{lock-fine, stands, home-on, fitting, gather, convert-fit, other-modes, heads-wait}
 use Rattle.check_laws.proofs.ChainSteps.{once, member}
 use Rattle.check_laws.proofs.HeldModes.{all-append, all-true, all-each, pairs, Low, gather-small, gather-fits, fitting-is, beside-is, pairs-append, pairs-true, true-pairs}
 use Rattle.check_laws.proofs.ResourceWalk.{asked-in, link-of, head-of, queue-in, Right}

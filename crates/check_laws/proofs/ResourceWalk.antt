@@ -9,10 +9,10 @@ use lib.Dec.{leb}
 use borrow.Author.Tests.{leb-true, le-leb}
 use Rattle.modes.specs.Sets.{fits-set}
 use Rattle.tables.specs.State.{Queue, grants, converts, waits, queue, of-locks}
-use Rattle.tables.specs.Layout.{of-resource, queue-head, locks-in, word-in, link-in, follow, read-lock, lock-link}
+use Rattle.tables.specs.Layout.{of-resource, queue-head, locks-in, word-in, link-in, follow, read-lock, lock-link, held-in}
 use Rattle.tables.proofs.Cases.{by-cases, and-left, and-right}
 use Rattle.tables.proofs.FollowedChains.{follow-short}
-use Rattle.check_laws.specs.Check.{home-on, home-steps, held-in, fitting, gather, mode-steps, grant-walk, convert-fit, other-modes, convert-from, convert-walk, heads-wait, wait-part, convert-part, resource-walk}
+use Rattle.check_laws.specs.Check.{home-on, home-steps, fitting, gather, mode-steps, grant-walk, convert-fit, other-modes, convert-from, convert-walk, heads-wait, wait-part, convert-part, resource-walk}
 use Rattle.check_laws.proofs.ChainSteps.{Passed, steps-passed, passed-steps, holders-passed, passed-holders}
 
 abbrev pub asked-in : List ℕ → ℕ → ℕ

@@ -10,7 +10,7 @@ use borrow.Author.Tests.{eqb-true, eq-eqb, le-leb}
 use Rattle.tables.specs.declared.Lock.{Lock}
 use Rattle.tables.specs.Lists.{within, count, bit, all, from}
 use Rattle.tables.specs.State.{resource, blocked-lock, noticed, Queue, grants, converts, waits, LockChain, free-locks, denied, blocked, notices, queue, Chain, free-resources, of-locks, chain, chain-of, belongs}
-use Rattle.tables.specs.Layout.{of-header, of-lock, queue-head, resource-width, head, slot-width, resources-in, locks-in, word-in, most, link-in, read-chain, read-lock, read}
+use Rattle.tables.specs.Layout.{of-header, of-lock, queue-head, resource-width, head, slot-width, resources-in, locks-in, word-in, most, link-in, read-chain, read-lock, read, held-in}
 use Rattle.tables.specs.Sound.{sizes-right, ends, chain-ends, resource-right, fields-right, state-right, sound}
 use Rattle.tables.proofs.Cases.{by-cases, and-left, and-right, and-intro, or-right, parts}
 use Rattle.tables.proofs.Counts.{le-within, all-intro, bit-one}
@@ -23,7 +23,7 @@ use Rattle.tables.proofs.ReadState.{lock-of, used-in}
 use Rattle.tables.proofs.Conditions.{each-at, each-intro, state, locks-low, slots-sized, header-zero, resource-zeros, chain-ended, chain-inside, fields-tested, stands-as, blocked-off, notice-off, compatible-tested, heads-tested}
 use Rattle.tables.proofs.Fields.{fields-are}
 use Rattle.tables.proofs.ChainMembers.{on-queue}
-use Rattle.check_laws.specs.Check.{resource-fine, on-named, fields-fine, links-fine, lock-fine, stands, home-on, held-in, fitting, check}
+use Rattle.check_laws.specs.Check.{resource-fine, on-named, fields-fine, links-fine, lock-fine, stands, home-on, fitting, check}
 use Rattle.check_laws.proofs.ChainSteps.{Passed}
 use Rattle.check_laws.proofs.ResourceWalk.{queue-in, Right, Walked}
 use Rattle.check_laws.proofs.Heads.{ModesLow, grants-read, converts-read, waits-read, fit-is, heads-are}

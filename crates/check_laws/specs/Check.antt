@@ -9,7 +9,7 @@ use Rattle.modes.specs.Sets.{fits-set, with-mode}
 use Rattle.tables.specs.declared.Lock.{Lock}
 use Rattle.tables.specs.Lists.{all, from, keep}
 use Rattle.tables.specs.State.{name-width, blocked-lock, noticed, state-free, state-granted, state-converting, state-waiting, state-denied, completion-none, completion-denied, grants, converts, waits}
-use Rattle.tables.specs.Layout.{of-header, of-resource, of-lock, resources-in, locks-in, word-in, follow, lock-link, onward, read-lock, queue-head}
+use Rattle.tables.specs.Layout.{of-header, of-resource, of-lock, resources-in, locks-in, word-in, follow, lock-link, onward, read-lock, queue-head, held-in}
 use Rattle.tables.specs.Sound.{ends, client-right, modes-right, sizes-right, granted-completion}
 use Rattle.table_names.specs.Names.{named, slot-fine, names-differ}
 pub use Rattle.check_laws.specs.declared.HolderCount.{HolderCount}
@@ -122,9 +122,6 @@ unfoldable pub holder-steps : List ℕ → ℕ → ℕ → (List ℕ → Bool) �
 holder-steps ws s r fits modes n k =
     let ks = follow (lock-link ws 0) n k in
     cond (ends (lock-link ws 0) n k && (all (home-on ws s r) ks && fits ks)) (record { met = length ks; modes = modes ks }) (record { met = suc n; modes = 0 })
-
-abbrev pub held-in : List ℕ → ℕ → ℕ
-held-in ws k = read-lock ws k .held
 
 -- such a chain, where each held mode must fit the set of those before it
 unfoldable pub mode-steps : List ℕ → ℕ → ℕ → (ℕ → ℕ → Bool) → ℕ → ℕ → ℕ → HolderCount

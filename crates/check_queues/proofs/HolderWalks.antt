@@ -9,11 +9,11 @@ use lib.Dec.{eqb, leb}
 use borrow.Author.Tests.{not-true, not-false, le-leb, lt-leb, leb-true, eqb-true}
 use Rattle.modes.specs.Sets.{fits-set, with-mode}
 use Rattle.tables.specs.declared.Lock.{Lock}
-use Rattle.tables.specs.Layout.{of-resource, of-lock, locks-in, word-in, read-lock}
+use Rattle.tables.specs.Layout.{of-resource, of-lock, locks-in, word-in, read-lock, held-in}
 use Rattle.tables.specs.Sound.{modes-right, client-right}
 use Rattle.tables.proofs.Cases.{and-left, and-right, parts}
 use Rattle.check_laws.specs.declared.HolderCount.{HolderCount}
-use Rattle.check_laws.specs.Check.{on-named, fields-fine, links-fine, lock-fine, stands, home-on, held-in, mode-steps, fits-beside, tail-steps, grant-walk}
+use Rattle.check_laws.specs.Check.{on-named, fields-fine, links-fine, lock-fine, stands, home-on, mode-steps, fits-beside, tail-steps, grant-walk}
 use Rattle.check_laws.proofs.ChainSteps.{one-more, modes-zero, modes-none, modes-turn}
 use Rattle.check_queues.specs.QueueWalks.{modes-left, over, Walked}
 

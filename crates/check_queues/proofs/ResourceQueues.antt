@@ -9,10 +9,10 @@ use lib.ListN.{length}
 use borrow.Author.Tests.{not-true, not-false, le-leb, lt-leb, eq-eqb, ne-eqb}
 use Rattle.modes.specs.Sets.{fits-set}
 use Rattle.tables.specs.State.{Queue, converts, waits}
-use Rattle.tables.specs.Layout.{of-resource, of-lock, locks-in, word-in, read-lock, onward}
+use Rattle.tables.specs.Layout.{of-resource, of-lock, locks-in, word-in, read-lock, onward, held-in}
 use Rattle.tables.proofs.Cases.{by-equal}
 use Rattle.check_laws.specs.declared.HolderCount.{HolderCount}
-use Rattle.check_laws.specs.Check.{stands, home-on, home-steps, held-in, tail-steps, convert-from, convert-walk, heads-wait, wait-part, convert-part, grant-walk, resource-walk, blocked-at}
+use Rattle.check_laws.specs.Check.{stands, home-on, home-steps, tail-steps, convert-from, convert-walk, heads-wait, wait-part, convert-part, grant-walk, resource-walk, blocked-at}
 use Rattle.check_laws.proofs.ChainSteps.{convert-zero, convert-turn, first-passes}
 use Rattle.check_laws.proofs.ResourceWalk.{link-of, head-of, Right, convert-met, convert-is, wait-met, wait-is}
 use Rattle.check_laws.proofs.Heads.{home-low, home-fine}

@@ -9,7 +9,7 @@ use lib.Dec.{eqb}
 use lib.ListN.{length}
 use Rattle.tables.specs.Lists.{count, first-that, from, same, within}
 use Rattle.tables.specs.State.{Tables, lock, resource, Queue, grants, converts, queue, queue-of}
-use Rattle.tables.specs.Layout.{of-resource, of-lock, queue-head, words, read, locks-in, word-in, onward}
+use Rattle.tables.specs.Layout.{of-resource, of-lock, queue-head, words, read, locks-in, word-in, onward, read-lock, held-in}
 use Rattle.tables.specs.Grants.{holders}
 use Rattle.tables.specs.Sound.{sound}
 use Rattle.tables.proofs.Cases.{by-cases}
@@ -26,7 +26,6 @@ use Rattle.table_names.proofs.StateNames.{sound-named, sound-find}
 use Rattle.table_chains.specs.Contracts.{Some, Tells, Resourced}
 use Rattle.table_chains.specs.Walking.{first-with}
 use Rattle.table_chains.proofs.ChainWalks.{walk-sized, walk-low, walk-high, walk-less, seeking-starts, seeking-found, seeking-on, seeking-ends, queue-onward, here-sized, here-low, here-high, here-grants, here-converts}
-use Rattle.queues.specs.Holders.{held-in}
 use Rattle.queues.proofs.QueueReads.{held-there}
 use Rattle.entry_holder.specs.Contracts.{ex-lock}
 
@@ -53,7 +52,7 @@ pub ruleset seeking = (needs, walk-sized, walk-low, walk-high, walk-less, seekin
 module _ (ws : List ℕ) (r : ℕ) (t : Tables) (p : Resourced r t) (is : ws ≡ words t) where
   -- the first that holds EX on a queue whose locks hold a mode there
   queue-ex : (q : Queue) (x : ℕ) → x ≡ word-in ws (of-resource r (queue-head q)) → ((j : ℕ) → 1 ≤ count j (queue-of q (resource t r)) → 1 ≤ count j (holders t r)) → first-with ws 0 6 ex x ≡ first-that (λ k. eqb (lock t k .held) ex) (queue-of q (resource t r))
-  unfolding first-with
+  unfolding first-with read-lock
   queue-ex q x e h =
       ap (λ (i : ℕ). first-that (λ k. eqb (held-in ws k) ex) (onward ws 0 i)) e ∙ ap (first-that (λ k. eqb (held-in ws k) ex)) (queue-onward r t p q ws is)
       ∙ first-cong _ _ (queue-of q (resource t r)) (λ j m. ap (λ (i : ℕ). eqb i ex) (held-there r t p ws is j (h j m)))

@@ -11,7 +11,7 @@ use lib.ListN.{length, drop, length-drop}
 use lib.Seq.{drop-drop}
 use Rattle.play_numbers.specs.Numbers.{is-number, number, is-digit, all-digits}
 use Rattle.play_numbers.specs.Fields.{spaced, until, past, parted}
-use Rattle.play_commands.specs.Forms.{malformed, numbers-then, Says}
+use Rattle.play_commands.specs.Forms.{malformed, numbers-then, Means}
 use Rattle.play_numbers.specs.Steps.{number-in, next-field}
 use Rattle.play_commands.specs.declared.Command.the-variants.{Malformed}
 use Rattle.play_numbers.specs.declared.Number.{Number}
@@ -120,5 +120,5 @@ module _ (l : List ℕ) (at : ℕ) {r : Number} (e : r ≡ number-in (drop at l)
       (λ s. rw (s, parted-some n (past (drop at l)), and-no (is-number (until (drop at l)))))
       (λ s. rw (s, number-not (drop at l) (sym f ∙ e)))
 
-pub none : (l : List ℕ) → Says l Malformed malformed
+pub none : (l : List ℕ) → Means l Malformed malformed
 none l = record { means = refl; within = search needs }

@@ -9,7 +9,7 @@ use borrow.Author.Needs.{needs}
 use lib.Dec.{eqb}
 use lib.ListN.{length, getD, drop}
 use Rattle.play_numbers.specs.Fields.{spaced, until, parted}
-use Rattle.play_commands.specs.Forms.{break, malformed, numbers-then, Says, as-request, as-convert, as-release, as-cancel, as-purge, as-break, as-poll, of-letter, of-fields, meant, line-width}
+use Rattle.play_commands.specs.Forms.{break, malformed, numbers-then, Means, as-request, as-convert, as-release, as-cancel, as-purge, as-break, as-poll, of-letter, of-fields, meant, line-width}
 use Rattle.play_commands.specs.declared.Command.{Command}
 use Rattle.play_commands.specs.declared.Command.the-variants.{Break, Malformed}
 use Rattle.play_numbers.proofs.Basics.{by-cases, cond-same}
@@ -17,27 +17,27 @@ use Rattle.play_commands.proofs.FormLaws.{none, parted-some}
 
 -- the letter decides which form is asked
 module _ {l : List ℕ} {b : ℕ} (fs : List (List ℕ)) {r : Command} where
-  pub says-q : b ≡ 113 → Says l r (as-request fs) → Says l r (of-letter b fs)
+  pub says-q : b ≡ 113 → Means l r (as-request fs) → Means l r (of-letter b fs)
   unfolding of-letter
   says-q e h = rw e h
 
-  pub says-c : b ≡ 99 → Says l r (as-convert fs) → Says l r (of-letter b fs)
+  pub says-c : b ≡ 99 → Means l r (as-convert fs) → Means l r (of-letter b fs)
   unfolding of-letter
   says-c e h = rw e h
 
-  pub says-r : b ≡ 114 → Says l r (as-release fs) → Says l r (of-letter b fs)
+  pub says-r : b ≡ 114 → Means l r (as-release fs) → Means l r (of-letter b fs)
   unfolding of-letter
   says-r e h = rw e h
 
-  pub says-x : b ≡ 120 → Says l r (as-cancel fs) → Says l r (of-letter b fs)
+  pub says-x : b ≡ 120 → Means l r (as-cancel fs) → Means l r (of-letter b fs)
   unfolding of-letter
   says-x e h = rw e h
 
-  pub says-p : b ≡ 112 → Says l r (as-purge fs) → Says l r (of-letter b fs)
+  pub says-p : b ≡ 112 → Means l r (as-purge fs) → Means l r (of-letter b fs)
   unfolding of-letter
   says-p e h = rw e h
 
-  pub says-n : b ≡ 110 → Says l r (as-poll fs) → Says l r (of-letter b fs)
+  pub says-n : b ≡ 110 → Means l r (as-poll fs) → Means l r (of-letter b fs)
   unfolding of-letter
   says-n e h = rw e h
 
@@ -47,7 +47,7 @@ unfolding as-break numbers-then
 break-no n xs = rw (parted-some n xs)
 
 -- another letter
-pub says-other : (l : List ℕ) (b n : ℕ) (xs : List ℕ) → (b ≡ 113 → ⊥) → (b ≡ 99 → ⊥) → (b ≡ 114 → ⊥) → (b ≡ 120 → ⊥) → (b ≡ 112 → ⊥) → (b ≡ 110 → ⊥) → Says l Malformed (of-letter b (parted n xs))
+pub says-other : (l : List ℕ) (b n : ℕ) (xs : List ℕ) → (b ≡ 113 → ⊥) → (b ≡ 99 → ⊥) → (b ≡ 114 → ⊥) → (b ≡ 120 → ⊥) → (b ≡ 112 → ⊥) → (b ≡ 110 → ⊥) → Means l Malformed (of-letter b (parted n xs))
 unfolding of-letter
 says-other l b n xs q c r x p o =
     rw (ne-eqb b 113 q, ne-eqb b 99 c, ne-eqb b 114 r, ne-eqb b 120 x, ne-eqb b 112 p, ne-eqb b 110 o, break-no n xs, cond-same (eqb b 100) malformed)
@@ -97,7 +97,7 @@ a-space b y zs e =
     (λ t. rw (t, e))
 
 module _ (l : List ℕ) where
-  pub too-long : line-width < length l → Says l Malformed (meant l)
+  pub too-long : line-width < length l → Means l Malformed (meant l)
   unfolding meant
   too-long h = rw (lt-ltb line-width (length l) h) (none l)
 
@@ -106,42 +106,42 @@ module _ (l : List ℕ) where
     unfolding meant
     short = rw (le-ltb line-width (length l) h)
 
-    pub no-byte : length l < 1 → Says l Malformed (meant l)
+    pub no-byte : length l < 1 → Means l Malformed (meant l)
     unfolding of-fields parted
     no-byte k = rw short (go l k)
       where
-        go : (xs : List ℕ) → length xs < 1 → Says l Malformed (of-fields (parted 4 xs))
+        go : (xs : List ℕ) → length xs < 1 → Means l Malformed (of-fields (parted 4 xs))
         go [] e = none l
         go (b ∷ bs) e = absurd (omega arith)
 
-    pub only-d : 1 ≤ length l → length l < 2 → getD l 0 0 ≡ 100 → Says l Break (meant l)
+    pub only-d : 1 ≤ length l → length l < 2 → getD l 0 0 ≡ 100 → Means l Break (meant l)
     only-d k m e = rw short (go l k m e)
       where
-        go : (xs : List ℕ) → 1 ≤ length xs → length xs < 2 → getD xs 0 0 ≡ 100 → Says l Break (of-fields (parted 4 xs))
+        go : (xs : List ℕ) → 1 ≤ length xs → length xs < 2 → getD xs 0 0 ≡ 100 → Means l Break (of-fields (parted 4 xs))
         go [] k m e = absurd (omega arith)
         go (b ∷ []) k m e = rw (one-byte b, e) (record { means = refl; within = search needs })
         go (b ∷ y ∷ zs) k m e = absurd (omega arith)
 
-    pub not-d : 1 ≤ length l → length l < 2 → (getD l 0 0 ≡ 100 → ⊥) → Says l Malformed (meant l)
+    pub not-d : 1 ≤ length l → length l < 2 → (getD l 0 0 ≡ 100 → ⊥) → Means l Malformed (meant l)
     not-d k m e = rw short (go l k m e)
       where
-        go : (xs : List ℕ) → 1 ≤ length xs → length xs < 2 → (getD xs 0 0 ≡ 100 → ⊥) → Says l Malformed (of-fields (parted 4 xs))
+        go : (xs : List ℕ) → 1 ≤ length xs → length xs < 2 → (getD xs 0 0 ≡ 100 → ⊥) → Means l Malformed (of-fields (parted 4 xs))
         go [] k m e = absurd (omega arith)
         go (b ∷ []) k m e = rw (one-byte b, ne-eqb b 100 e) (none l)
         go (b ∷ y ∷ zs) k m e = absurd (omega arith)
 
-    pub runs-on : 2 ≤ length l → (getD l 1 0 ≡ 32 → ⊥) → Says l Malformed (meant l)
+    pub runs-on : 2 ≤ length l → (getD l 1 0 ≡ 32 → ⊥) → Means l Malformed (meant l)
     runs-on k e = rw short (go l k e)
       where
-        go : (xs : List ℕ) → 2 ≤ length xs → (getD xs 1 0 ≡ 32 → ⊥) → Says l Malformed (of-fields (parted 4 xs))
+        go : (xs : List ℕ) → 2 ≤ length xs → (getD xs 1 0 ≡ 32 → ⊥) → Means l Malformed (of-fields (parted 4 xs))
         go [] k e = absurd (omega arith)
         go (b ∷ []) k e = absurd (omega arith)
         go (b ∷ y ∷ zs) k e = rw (no-space b y zs e) (none l)
 
-    pub goes-on : {r : Command} → 2 ≤ length l → getD l 1 0 ≡ 32 → Says l r (of-letter (getD l 0 0) (parted 3 (drop 2 l))) → Says l r (meant l)
+    pub goes-on : {r : Command} → 2 ≤ length l → getD l 1 0 ≡ 32 → Means l r (of-letter (getD l 0 0) (parted 3 (drop 2 l))) → Means l r (meant l)
     goes-on {r} k e s = rw short (go l k e s)
       where
-        go : (xs : List ℕ) → 2 ≤ length xs → getD xs 1 0 ≡ 32 → Says l r (of-letter (getD xs 0 0) (parted 3 (drop 2 xs))) → Says l r (of-fields (parted 4 xs))
+        go : (xs : List ℕ) → 2 ≤ length xs → getD xs 1 0 ≡ 32 → Means l r (of-letter (getD xs 0 0) (parted 3 (drop 2 xs))) → Means l r (of-fields (parted 4 xs))
         go [] k e s = absurd (omega arith)
         go (b ∷ []) k e s = absurd (omega arith)
         go (b ∷ y ∷ zs) k e s = rw (a-space b y zs e) s

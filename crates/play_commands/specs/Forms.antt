@@ -130,6 +130,6 @@ name-start (Poll client) = 0
 name-start Malformed = 0
 
 -- the command r of a line means m, and its name starts inside the line or at its end
-pub record Says (line : List ℕ) (r : Command) (m : Meaning) : Type 0 where
+pub record Means (line : List ℕ) (r : Command) (m : Meaning) : Type 0 where
   pub means : meaning line r ≡ m
   pub within : name-start r ≤ length line

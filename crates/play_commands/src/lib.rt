@@ -6,7 +6,7 @@ use play_numbers::next_number;
 ghost use Prim.Native.Nat.{_≤_};
 ghost use lib.ListN.{length, drop};
 ghost use Rattle.play_numbers.specs.Fields.{parted};
-ghost use Rattle.play_commands.specs.Forms.{Says, meant, «of-letter», «as-request», «as-convert», «as-release», «as-cancel», «as-purge», «as-poll»};
+ghost use Rattle.play_commands.specs.Forms.{Means, meant, «of-letter», «as-request», «as-convert», «as-release», «as-cancel», «as-purge», «as-poll»};
 
 // What a line asks. The last number of a request is the place in the line where its name starts.
 pub enum Command {
@@ -23,7 +23,7 @@ pub enum Command {
 // `q` client mode flags name: what stands after the letter and its space.
 fn request(line: &[u8]) -> Command
     requires { ⌜ 2 ≤ length (now line) ⌝ }
-    ensures { λ r. ⌜ Says (now (line .entry)) r (as-request (parted 3 (drop 2 (now (line .entry))))) ⌝ }
+    ensures { λ r. ⌜ Means (now (line .entry)) r (as-request (parted 3 (drop 2 (now (line .entry))))) ⌝ }
 {
     let Next::Field(client, a) = next_number(line, 2) else {
         return Command::Malformed;
@@ -40,7 +40,7 @@ fn request(line: &[u8]) -> Command
 // `c` client lock mode flags.
 fn convert(line: &[u8]) -> Command
     requires { ⌜ 2 ≤ length (now line) ⌝ }
-    ensures { λ r. ⌜ Says (now (line .entry)) r (as-convert (parted 3 (drop 2 (now (line .entry))))) ⌝ }
+    ensures { λ r. ⌜ Means (now (line .entry)) r (as-convert (parted 3 (drop 2 (now (line .entry))))) ⌝ }
 {
     let Next::Field(client, a) = next_number(line, 2) else {
         return Command::Malformed;
@@ -60,7 +60,7 @@ fn convert(line: &[u8]) -> Command
 // `r` client lock flags.
 fn release(line: &[u8]) -> Command
     requires { ⌜ 2 ≤ length (now line) ⌝ }
-    ensures { λ r. ⌜ Says (now (line .entry)) r (as-release (parted 3 (drop 2 (now (line .entry))))) ⌝ }
+    ensures { λ r. ⌜ Means (now (line .entry)) r (as-release (parted 3 (drop 2 (now (line .entry))))) ⌝ }
 {
     let Next::Field(client, a) = next_number(line, 2) else {
         return Command::Malformed;
@@ -77,7 +77,7 @@ fn release(line: &[u8]) -> Command
 // `x` client lock.
 fn cancel(line: &[u8]) -> Command
     requires { ⌜ 2 ≤ length (now line) ⌝ }
-    ensures { λ r. ⌜ Says (now (line .entry)) r (as-cancel (parted 3 (drop 2 (now (line .entry))))) ⌝ }
+    ensures { λ r. ⌜ Means (now (line .entry)) r (as-cancel (parted 3 (drop 2 (now (line .entry))))) ⌝ }
 {
     let Next::Field(client, a) = next_number(line, 2) else {
         return Command::Malformed;
@@ -91,7 +91,7 @@ fn cancel(line: &[u8]) -> Command
 // `p` client.
 fn purge(line: &[u8]) -> Command
     requires { ⌜ 2 ≤ length (now line) ⌝ }
-    ensures { λ r. ⌜ Says (now (line .entry)) r (as-purge (parted 3 (drop 2 (now (line .entry))))) ⌝ }
+    ensures { λ r. ⌜ Means (now (line .entry)) r (as-purge (parted 3 (drop 2 (now (line .entry))))) ⌝ }
 {
     let Number::Is(client) = last_number(line, 2) else {
         return Command::Malformed;
@@ -102,7 +102,7 @@ fn purge(line: &[u8]) -> Command
 // `n` client.
 fn poll(line: &[u8]) -> Command
     requires { ⌜ 2 ≤ length (now line) ⌝ }
-    ensures { λ r. ⌜ Says (now (line .entry)) r (as-poll (parted 3 (drop 2 (now (line .entry))))) ⌝ }
+    ensures { λ r. ⌜ Means (now (line .entry)) r (as-poll (parted 3 (drop 2 (now (line .entry))))) ⌝ }
 {
     let Number::Is(client) = last_number(line, 2) else {
         return Command::Malformed;
@@ -113,7 +113,7 @@ fn poll(line: &[u8]) -> Command
 // A line that has a space after its letter.
 fn with_fields(line: &[u8], letter: u8) -> Command
     requires { ⌜ 2 ≤ length (now line) ⌝ }
-    ensures { λ r. ⌜ Says (now (line .entry)) r (of-letter letter (parted 3 (drop 2 (now (line .entry))))) ⌝ }
+    ensures { λ r. ⌜ Means (now (line .entry)) r (of-letter letter (parted 3 (drop 2 (now (line .entry))))) ⌝ }
 {
     match letter {
         b'q' => request(line),
@@ -131,7 +131,7 @@ pub const LINE_BYTES: usize = 256;
 
 // What a line asks.
 pub fn parse(line: &[u8]) -> Command
-    ensures { λ r. ⌜ Says (now (line .entry)) r (meant (now (line .entry))) ⌝ }
+    ensures { λ r. ⌜ Means (now (line .entry)) r (meant (now (line .entry))) ⌝ }
 {
     let n = line.len();
     if LINE_BYTES < n {

@@ -10,7 +10,7 @@ use borrow.Author.Needs.{needs}
 use lib.Dec.{eqb, ltb, leb}
 use lib.ListN.{length, take, set, length-append, length-set}
 use lib.Seq.{take-suc-set, length-take-le, take-all, take-append-le}
-use Rattle.play_commands.specs.Forms.{meant, Says, line-width}
+use Rattle.play_commands.specs.Forms.{meant, Means, line-width}
 use Rattle.play_lines.specs.InputLines.{byte-in-front, lines, kept-line, meant-kept, longer, keeps, comes, Room, Feeds, line-in, begun, gives}
 use Rattle.play_commands.specs.declared.Command.{Command}
 use Rattle.play_commands.specs.declared.Command.the-variants.{Malformed}
@@ -61,11 +61,11 @@ room-start xs s h e = record { buffer = h; line = omega arith }
 
 -- the command of a gathered line
 module _ (xs : List ℕ) (s : Line) where
-  pub gathered-over : s .over ≡ true → Says (take (s .len) xs) Malformed (meant-kept (keeps xs s))
+  pub gathered-over : s .over ≡ true → Means (take (s .len) xs) Malformed (meant-kept (keeps xs s))
   unfolding meant-kept
   gathered-over e = rw e (none (take (s .len) xs))
 
-  pub gathered-line : {r : Command} → s .over ≡ false → Says (take (s .len) xs) r (meant (take (s .len) xs)) → Says (take (s .len) xs) r (meant-kept (keeps xs s))
+  pub gathered-line : {r : Command} → s .over ≡ false → Means (take (s .len) xs) r (meant (take (s .len) xs)) → Means (take (s .len) xs) r (meant-kept (keeps xs s))
   unfolding meant-kept
   gathered-line e w = rw e w
 

@@ -7,7 +7,7 @@ ghost use mathlib.Core.Bool.{false};
 ghost use mathlib.Core.List.{List};
 ghost use Prim.Native.Nat.{ℕ};
 ghost use lib.ListN.{take};
-ghost use Rattle.play_commands.specs.Forms.{Says};
+ghost use Rattle.play_commands.specs.Forms.{Means};
 ghost use Rattle.play_lines.specs.InputLines.{keeps, begun, Room, Feeds, «meant-kept»};
 
 // A line that is being gathered: how many of its bytes are in the buffer, and whether it has more than the longest may have.
@@ -59,7 +59,7 @@ pub fn is_begun(s: Line) -> bool
 // What a gathered line asks.
 pub fn parse_gathered(buffer: &[u8], s: Line) -> Command
     requires { ⌜ Room (now buffer) s ⌝ }
-    ensures { λ r. ⌜ Says (take (s .len) (now (buffer .entry))) r (meant-kept (keeps (now (buffer .entry)) s)) ⌝ }
+    ensures { λ r. ⌜ Means (take (s .len) (now (buffer .entry))) r (meant-kept (keeps (now (buffer .entry)) s)) ⌝ }
 {
     let len = s.len;
     let over = s.over;

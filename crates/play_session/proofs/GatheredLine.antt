@@ -12,7 +12,7 @@ use Rattle.answers.specs.declared.Done.{Done}
 use Rattle.answers.specs.Answers.{done}
 use Rattle.play_commands.specs.declared.Command.{Command}
 use Rattle.play_lines.specs.declared.Line.{Line}
-use Rattle.play_commands.specs.Forms.{meaning, name-start, Says}
+use Rattle.play_commands.specs.Forms.{meaning, name-start, Means}
 use Rattle.play_lines.specs.InputLines.{keeps, meant-kept}
 use Rattle.play_calls.specs.Plays.{Played, played}
 use Rattle.play_session.specs.Sessions.{Lengths, fresh-tables, played-resources, played-locks}
@@ -31,10 +31,10 @@ pub ruleset start-rules = (needs, started-fresh)
 
 -- a gathered line
 module _ (xs : List ℕ) (s : Line) {r : Command} where
-  pub gathered-within : {m : _} → Says (take (s .len) xs) r m → name-start r ≤ length (take (s .len) xs)
+  pub gathered-within : {m : _} → Means (take (s .len) xs) r m → name-start r ≤ length (take (s .len) xs)
   gathered-within w = w .within
 
-  pub gathered-played : (t : Lent) {p : Played} → Says (take (s .len) xs) r (meant-kept (keeps xs s)) → p ≡ played (meaning (take (s .len) xs) r) t → p ≡ played (meant-kept (keeps xs s)) t
+  pub gathered-played : (t : Lent) {p : Played} → Means (take (s .len) xs) r (meant-kept (keeps xs s)) → p ≡ played (meaning (take (s .len) xs) r) t → p ≡ played (meant-kept (keeps xs s)) t
   gathered-played t w q = q ∙ ap (λ m. played m t) (w .means)
 
 pub ruleset gathered-rules = (needs, gathered-within, gathered-played, gathered-long)

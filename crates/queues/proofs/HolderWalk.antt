@@ -5,11 +5,11 @@ use Prim.Native.Nat.{ℕ, _<_}
 use borrow.Author.Needs.{needs}
 use borrow.Author.Tests.{eq-eqb, ne-eqb}
 use Rattle.modes.specs.Sets.{with-mode}
-use Rattle.tables.specs.Layout.{of-lock, word-in, onward}
+use Rattle.tables.specs.Layout.{of-lock, word-in, onward, read-lock, held-in}
 use Rattle.table_chains.specs.Walking.{Walking}
 use Rattle.table_chains.proofs.ChainWalks.{walk-splits, walk-ends, walk-at, walk-sized, walk-low, walk-high, walk-stands, walk-less, walk-on}
 use Rattle.table_chains.proofs.LockLimits.{at-sized, held-mode}
-use Rattle.queues.specs.Holders.{with-holder, with-holders, held-in}
+use Rattle.queues.specs.Holders.{with-holder, with-holders}
 use Rattle.queues.proofs.HeldSets.{holder-small}
 
 -- with_holder
@@ -19,7 +19,7 @@ module _ (ws : List ℕ) (set j k : ℕ) where
   joined-own e = rw (eq-eqb j k e)
 
   pub joined-other : (j ≡ k → ⊥) → (x y : ℕ) → x ≡ word-in ws (of-lock j 6) → (y ≡ with-mode set x) × (y < 64) → y ≡ with-holder (held-in ws) k set j
-  unfolding with-holder
+  unfolding with-holder read-lock
   joined-other n x y e f = rw (ne-eqb j k n) (f .0 ∙ ap (with-mode set) e)
 
 pub ruleset joined-laws = (needs, at-sized, held-mode, joined-own, joined-other)
@@ -35,7 +35,7 @@ adding-starts ws set first k w l = record { walks = w; small = l; same = refl }
 
 module _ (ws : List ℕ) (set₀ first k held j : ℕ) (g : Adding ws set₀ first k held j) where
   pub adding-next : (j ≡ 0 → ⊥) → (x y : ℕ) → x ≡ with-holder (held-in ws) k held j → y ≡ word-in ws (of-lock j 0) → Adding ws set₀ first k x y
-  unfolding with-holders
+  unfolding with-holders read-lock
   adding-next n x y ex ey =
       record {
         walks = walk-on (g .walks) n ey;

@@ -11,7 +11,7 @@ use Rattle.modes.specs.Sets.{fits-set}
 use Rattle.modes.proofs.Laws.{fits-none}
 use Rattle.tables.specs.Lists.{count, first, null}
 use Rattle.tables.specs.State.{Tables, lock, resource, Queue, grants, converts, waits, queue, of-locks, queue-of}
-use Rattle.tables.specs.Layout.{of-resource, of-lock, queue-head, words, word-in, onward}
+use Rattle.tables.specs.Layout.{of-resource, of-lock, queue-head, words, word-in, onward, read-lock, held-in}
 use Rattle.tables.specs.Grants.{holders, fits, admits}
 use Rattle.tables.proofs.Counts.{count-same}
 use Rattle.tables.specs.Threads.{Each, Threaded}
@@ -23,7 +23,7 @@ use Rattle.table_fields.proofs.StateWords.{resources-is, locks-is, core-sized}
 use Rattle.table_chains.specs.Contracts.{Some, Tells, Resourced}
 use Rattle.table_chains.proofs.ChainWalks.{queue-present, queue-onward, queue-first, here-sized, here-low, here-high, here-grants, here-converts}
 use Rattle.table_chains.proofs.LockLimits.{held-few, walk-modes}
-use Rattle.queues.specs.Holders.{with-holders, others, held-in}
+use Rattle.queues.specs.Holders.{with-holders, others}
 use Rattle.queues.proofs.HeldSets.{holders-append, holders-small, fits-holders, holders-same}
 use Rattle.table_fields.proofs.StateWords.{word-is}
 
@@ -42,6 +42,7 @@ module _ (r : ℕ) (t : Tables) (p : Resourced r t) (ws : List ℕ) (is : ws ≡
 
   -- those who hold a mode there
   pub held-there : (j : ℕ) → 1 ≤ count j (holders t r) → held-in ws j ≡ lock t j .held
+  unfolding read-lock
   held-there j m = word-is t ws is (of-lock j 6) (let i = holder-range t (p .core .linked) r j m in (i .0, i .1, omega arith))
 
 -- the set of the modes that others hold
@@ -60,6 +61,7 @@ module _ (r k : ℕ) (t : Tables) (p : Resourced r t) where
 -- others
 module _ (ws : List ℕ) (r k x : ℕ) (ex : x ≡ word-in ws (of-resource r 1)) (h : ℕ) (eh : h ≡ with-holders (held-in ws) k 0 (onward ws 0 x)) where
   pub others-few : Some (Resourced r) ws → h < 64
+  unfolding read-lock
   others-few s = rw eh (holders-small (held-in ws) k 0 (onward ws 0 x) (omega arith) (walk-modes ws 0 x (here-grants ws r s ex)))
 
   pub others-told : (y z : ℕ) → y ≡ word-in ws (of-resource r 2) → z ≡ with-holders (held-in ws) k h (onward ws 0 y) → Tells (Resourced r) (others r k) ws z

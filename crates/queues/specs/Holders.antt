@@ -5,7 +5,6 @@ use Prim.Native.Nat.{ℕ}
 use lib.Dec.{eqb}
 use Rattle.modes.specs.Sets.{with-mode}
 use Rattle.tables.specs.State.{Tables, lock}
-use Rattle.tables.specs.Layout.{of-lock, word-in}
 use Rattle.tables.specs.Grants.{holders}
 
 -- the set with the mode that the lock j holds, unless j is k; the same for each lock of a list
@@ -20,7 +19,3 @@ with-holders held k set (j ∷ js) = with-holders held k (with-holder held k set
 -- ON A STATE: the modes that locks other than k hold on r
 unfoldable pub others : ℕ → ℕ → Tables → ℕ
 others r k t = with-holders (λ j. lock t j .held) k 0 (holders t r)
-
--- BY THE WORDS: what a lock holds
-abbrev pub held-in : List ℕ → ℕ → ℕ
-held-in ws j = word-in ws (of-lock j 6)

@@ -8,14 +8,14 @@ ghost use mathlib.Core.Bool.{true, false};
 ghost use Prim.Native.Nat.{_<_};
 ghost use Rattle.tables.specs.Lists.{first};
 ghost use Rattle.tables.specs.State.{«no-resource», resource, «move-resource»};
-ghost use Rattle.tables.specs.Layout.{onward};
+ghost use Rattle.tables.specs.Layout.{onward, «held-in»};
 ghost use Rattle.tables.specs.Grants.{fits, admits, empty};
 ghost use Rattle.tables.specs.Validity.{line};
 ghost use Rattle.rules.specs.Queues.{«granted-lock», sweep, «free-lock», settle};
 ghost use Rattle.rules.specs.Calls.{«in-place», «leave-value», «new-resource»};
 ghost use Rattle.table_chains.specs.Contracts.{Some, Turns, Tells, Answers, Changes, Resourced};
 ghost use Rattle.table_chains.specs.Walking.{At, Walking};
-ghost use Rattle.queues.specs.Holders.{«with-holder», «with-holders», others, «held-in»};
+ghost use Rattle.queues.specs.Holders.{«with-holder», «with-holders», others};
 ghost use Rattle.queues.specs.Contracts.{Locked, GrantedLock, ready, advance, SomeTables, Vacant, Takes, Valued};
 
 // The set with the mode that lock j holds, unless j is k.

@@ -153,7 +153,7 @@ module _ (t : Tables) (c : Core t) where
       )
 
 -- THE ENTRIES
-call-small : (c : Call) (t : Lent) → Small (call-entry c t .said)
+pub call-small : (c : Call) (t : Lent) → Small (call-entry c t .said)
 unfolding call-entry entry
 call-small c t = go (sound (t .words) (t .slots)) refl
   where
@@ -168,7 +168,7 @@ call-small c t = go (sound (t .words) (t .slots)) refl
         let s = step-small u (sound-valid (t .words) (t .slots) e .core) c in
         back (step-of c u .said .refusal) (step-of c u) (s .refusal) s
 
-start-small : (t : Lent) (r l : ℕ) → Small (start-entry t r l .said)
+pub start-small : (t : Lent) (r l : ℕ) → Small (start-entry t r l .said)
 unfolding start-entry start-accepts
 start-small t r l = go (start-accepts (t .words) (t .slots) r l)
   where
@@ -212,7 +212,7 @@ image-small ws ss area = go (image-refusal ws ss area) (search tests-small depth
     go zero p = unfold image-into in answer-small 0 (omega arith)
     go (suc n) p = unfold image-into in small-refused (suc n) p
 
-load-small : (bs : List ℕ) (t : Lent) → Small (load-entry bs t .said)
+pub load-small : (bs : List ℕ) (t : Lent) → Small (load-entry bs t .said)
 unfolding load-entry load-refusal
 load-small bs t = go (load-refusal bs (t .words) (t .slots)) (search tests-small depth 20)
   where

@@ -9,10 +9,10 @@ use native.Mathlib.Nat.{mul-le-mul-left, add-zero}
 use native.Mathlib.Decide.{decLt, ℕ-discrete}
 use lib.ListN.{getD, set, length, List·getD-append, length-append, length-set}
 use lib.Seq.{getD-set-same, getD-set-other, ext-getD}
-use Rattle.tables.specs.Layout.{header-width, resource-width, lock-width, Address, of-header, of-resource, of-lock, Address-discrete, place, size, row, rows, sheet, written}
+use Rattle.tables.specs.Layout.{header-width, resource-width, lock-width, Address, of-header, of-resource, of-lock, Address-discrete, place, size, row, rows, sheet, by-address}
 use Rattle.tables.proofs.Blocks.{getD-second, length-row, getD-row, length-rows, getD-rows}
 use Rattle.tables.specs.Threads.{Within}
-use Rattle.tables.specs.Stores.{stores}
+use Rattle.tables.specs.Stores.{store-run}
 
 unfoldable pub address? : Discrete Address
 unfolding ℕ-discrete
@@ -81,32 +81,32 @@ module _ (r l : ℕ) where
   place-injective (of-lock x f) (of-resource y g) h k e = absurd (omega arith)
   place-injective (of-lock x f) (of-lock y g) h k e = let p : x ≡ y = omega arith in let q : f ≡ g = omega arith in cc
 
-  pub length-written : (f : Address → ℕ) → length (written r l f) ≡ size r l
-  unfolding written
+  pub length-written : (f : Address → ℕ) → length (by-address r l f) ≡ size r l
+  unfolding by-address
   length-written f = length-sheet _ _ _ _ _ _ r l
 
-  pub getD-written : (f : Address → ℕ) (a : Address) → Within r l a → getD (written r l f) (place r a) 0 ≡ f a
-  unfolding written
+  pub getD-written : (f : Address → ℕ) (a : Address) → Within r l a → getD (by-address r l f) (place r a) 0 ≡ f a
+  unfolding by-address
   getD-written f (of-header i) h = sheet-head _ _ _ _ _ _ r l i h
   getD-written f (of-resource k i) h = sheet-middle _ _ _ _ _ _ r l (k - 1) i (omega arith) (h .2) ∙ ap (λ (n : ℕ). f (of-resource n i)) (omega arith)
   getD-written f (of-lock k i) h = sheet-tail _ _ _ _ _ _ r l (k - 1) i (omega arith) (h .2) ∙ ap (λ (n : ℕ). f (of-lock n i)) (omega arith)
 
   -- a list is known by its word at each address
-  pub is-written : (f : Address → ℕ) (ws : List ℕ) → length ws ≡ size r l → ((b : Address) → Within r l b → getD ws (place r b) 0 ≡ f b) → ws ≡ written r l f
+  pub is-written : (f : Address → ℕ) (ws : List ℕ) → length ws ≡ size r l → ((b : Address) → Within r l b → getD ws (place r b) 0 ≡ f b) → ws ≡ by-address r l f
   is-written f ws e h =
-      ext-getD 0 ws (written r l f) (e ∙ sym (length-written f))
+      ext-getD 0 ws (by-address r l f) (e ∙ sym (length-written f))
       (λ i p. let b = located r l i (omega arith) in rw (← (b .2)) (h (b .0) (b .1) ∙ sym (getD-written f (b .0) (b .1))))
 
-  pub written-same : (f g : Address → ℕ) → ((b : Address) → Within r l b → f b ≡ g b) → written r l f ≡ written r l g
-  written-same f g h = is-written g (written r l f) (length-written f) (λ b p. getD-written f b p ∙ h b p)
+  pub written-same : (f g : Address → ℕ) → ((b : Address) → Within r l b → f b ≡ g b) → by-address r l f ≡ by-address r l g
+  written-same f g h = is-written g (by-address r l f) (length-written f) (λ b p. getD-written f b p ∙ h b p)
 
-  pub set-written : (f : Address → ℕ) (a : Address) (v : ℕ) → Within r l a → set (written r l f) (place r a) v ≡ written r l (update a v f)
+  pub set-written : (f : Address → ℕ) (a : Address) (v : ℕ) → Within r l a → set (by-address r l f) (place r a) v ≡ by-address r l (update a v f)
   unfolding update
   set-written f a v p =
-      is-written (update a v f) (set (written r l f) (place r a) v) (length-set (written r l f) _ v ∙ length-written f)
-      (λ b q. elim (address? b a) as (λ d. getD (set (written r l f) (place r a) v) (place r b) 0 ≡ elim d [ yes e ↦ v | no n ↦ f b ]) [
-        | yes e ↦ rw e (getD-set-same (written r l f) (place r a) v 0 (rw length-written (place-size a p)))
-        | no n ↦ getD-set-other (written r l f) (place r a) (place r b) v 0 (λ e. n (place-injective b a q p e)) ∙ getD-written f b q
+      is-written (update a v f) (set (by-address r l f) (place r a) v) (length-set (by-address r l f) _ v ∙ length-written f)
+      (λ b q. elim (address? b a) as (λ d. getD (set (by-address r l f) (place r a) v) (place r b) 0 ≡ elim d [ yes e ↦ v | no n ↦ f b ]) [
+        | yes e ↦ rw e (getD-set-same (by-address r l f) (place r a) v 0 (rw length-written (place-size a p)))
+        | no n ↦ getD-set-other (by-address r l f) (place r a) (place r b) v 0 (λ e. n (place-injective b a q p e)) ∙ getD-written f b q
       ])
 
 pub update-here : (a : Address) (v : ℕ) (f : Address → ℕ) → update a v f a ≡ v
@@ -122,10 +122,10 @@ updates a f [] g = g
 updates a f (v ∷ vs) g = updates a (suc f) vs (update (a f) v g)
 
 pub stores-written : (r l : ℕ) (a : ℕ → Address) (f : ℕ) (vs : List ℕ) (g : Address → ℕ) → ((i : ℕ) → f ≤ i → i < f + length vs → Within r l (a i))
-    → stores (λ i. place r (a i)) f vs (written r l g) ≡ written r l (updates a f vs g)
+    → store-run (λ i. place r (a i)) f vs (by-address r l g) ≡ by-address r l (updates a f vs g)
 stores-written r l a f [] g h = refl
 stores-written r l a f (v ∷ vs) g h =
-    ap (stores (λ i. place r (a i)) (suc f) vs) (set-written r l g (a f) v (h f (omega arith) (omega arith)))
+    ap (store-run (λ i. place r (a i)) (suc f) vs) (set-written r l g (a f) v (h f (omega arith) (omega arith)))
     ∙ stores-written r l a (suc f) vs (update (a f) v g) (λ i p q. h i (omega arith) (omega arith))
 
 module _ (a : ℕ → Address) where

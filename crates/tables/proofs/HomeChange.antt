@@ -11,7 +11,7 @@ use Rattle.tables.specs.Layout.{of-lock, place, head, link, lock-links, 
 use Rattle.tables.proofs.Numbered.{put-lock, locks-put, lock-put-here, chains-put-lock}
 use Rattle.tables.specs.Threads.{Absent, Distinct, Each}
 use Rattle.tables.proofs.Links.{each-absent, each-append, each-remove, distinct-append, distinct-remove, removed, next-absent}
-use Rattle.tables.specs.Stores.{stores}
+use Rattle.tables.specs.Stores.{store-run}
 use Rattle.tables.specs.Threads.{In, Present}
 use Rattle.tables.proofs.Chains.{chain?, with-chain, chain-same, chain-other, same-locks, lock-with, resource-count}
 use Rattle.tables.specs.Threads.{Stands, Threaded}
@@ -147,11 +147,11 @@ module _ (r l : ℕ) (t : Tables) (h : Sane r l t) (k : ℕ) (old : Present t (o
     sane-rehome = sane-join r l (put-lock k x (lifted k t)) sane-set (of-locks (home x)) k present-set absent-set stands-set
 
     pub rehome-words : (Absent k (chain-of (of-locks (home (lock t k))) t) → ⊥) → words (rehome k x t) ≡
-        join-cells (cell-place r (of-locks (home x))) l k (stores (λ f. place r (of-lock k f)) lock-links (lock-fields x) (leave-cells (cell-place r (of-locks (home (lock t k)))) l k (words t)))
+        join-cells (cell-place r (of-locks (home x))) l k (store-run (λ f. place r (of-lock k f)) lock-links (lock-fields x) (leave-cells (cell-place r (of-locks (home (lock t k)))) l k (words t)))
     unfolding rehome lifted
     rehome-words o =
         sym (join-is (put-lock k x (lifted k t)) r (sane-set .resources) (of-locks (home x)) (sane-set .chains (of-locks (home x)) present-set) l k (home-short r l _ sane-set (of-locks (home x)) (homed (x .state) (x .resource)) present-set))
         ∙ ap (join-cells (cell-place r (of-locks (home x))) l k)
         (put-lock-words (lifted k t) k x low high-lifted (link-zero x new ∙ sym (rw lock-lifted (link-zero (lock t k) old)))
-        ∙ ap₂ (λ (n : ℕ) (ws : List ℕ). stores (λ f. place n (of-lock k f)) lock-links (lock-fields x) ws) (sane-lifted .resources)
+        ∙ ap₂ (λ (n : ℕ) (ws : List ℕ). store-run (λ f. place n (of-lock k f)) lock-links (lock-fields x) ws) (sane-lifted .resources)
         (sym (leave-is t r (h .resources) (of-locks (home (lock t k))) (h .chains (of-locks (home (lock t k))) old) l k (home-short r l t h (of-locks (home (lock t k))) (homed (lock t k .state) (lock t k .resource)) old) o)))

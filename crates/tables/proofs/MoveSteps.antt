@@ -16,7 +16,7 @@ use Rattle.tables.proofs.Cases.{and-left, and-right}
 use Rattle.tables.proofs.Numbered.{put-lock, locks-put, lock-put-here, lock-put-other, resource-put-lock, chains-put-lock, lock-by-locks}
 use Rattle.tables.specs.Threads.{Absent}
 use Rattle.tables.proofs.Links.{removed, without, absent-remove, on-remove, absent-append, on-append, on-end}
-use Rattle.tables.specs.Stores.{stores}
+use Rattle.tables.specs.Stores.{store-run}
 use Rattle.tables.specs.Threads.{Present}
 use Rattle.tables.proofs.Chains.{chain?, with-queue, chain-same, chain-other, same-locks, resource-rest}
 use Rattle.tables.specs.Threads.{Stands}
@@ -184,7 +184,7 @@ module _ (r l : ℕ) (t : Tables) (h : Sane r l t) (k : ℕ) (m : Lock) (low : 1
   set-words =
       sym (put-lock-words (lifted k t) k m low (high-lifted r l t h k old m low high new)
       (link-zero r l t h k old m low high new m new ∙ sym (rw (lock-lifted r l t h k old) (link-zero r l t h k old m low high new (lock t k) old)))
-      ∙ ap (λ (n : ℕ). stores (λ f. place n (of-lock k f)) lock-links (lock-fields m) (words (lifted k t))) (sane-lifted r l t h k old .resources))
+      ∙ ap (λ (n : ℕ). store-run (λ f. place n (of-lock k f)) lock-links (lock-fields m) (words (lifted k t))) (sane-lifted r l t h k old .resources))
 
   pub arriving-words : arrive-cells (eqb (m .state) 0) (cell-place r (of-locks (home m))) l k (words (put-lock k m (lifted k t))) ≡ words (resettle false k m t)
   unfolding resettle
@@ -198,7 +198,7 @@ module _ (r l : ℕ) (t : Tables) (h : Sane r l t) (k : ℕ) (m : Lock) (low : 1
   unfolding resettle resettle-cells set-cells
   resettle-words true e o =
       put-lock-words t k m low (omega (arith, h .locks)) (ap (λ (c : LockChain). next k (0 ∷ chain-of (of-locks c) t)) (e refl))
-      ∙ ap (λ (n : ℕ). stores (λ f. place n (of-lock k f)) lock-links (lock-fields m) (words t)) (h .resources)
+      ∙ ap (λ (n : ℕ). store-run (λ f. place n (of-lock k f)) lock-links (lock-fields m) (words t)) (h .resources)
   resettle-words false e o = sym (rw (lifted-words o, set-words) arriving-words)
 
   lifted-here : (j : ℕ) → j ≢ k → Absent j (chain-of (of-locks (home (lock t k))) (lifted k t)) → Absent j (chain-of (of-locks (home (lock t k))) t)

@@ -10,7 +10,7 @@ use Rattle.tables.specs.State.{Resource, Tables, no-resource, resource, 
 use Rattle.tables.specs.Layout.{of-resource, place, resource-links, resource-fields, words, slot-width, slot, slots}
 use Rattle.tables.proofs.Counts.{le-within}
 use Rattle.tables.proofs.Numbered.{put-resource}
-use Rattle.tables.specs.Stores.{stores}
+use Rattle.tables.specs.Stores.{store-run}
 use Rattle.tables.specs.Threads.{Present}
 use Rattle.tables.proofs.Chains.{with-chain}
 use Rattle.tables.specs.Threads.{Stands}
@@ -36,7 +36,7 @@ front-chain false false c k t = t
 
 -- the two fields of the resource k, with r resources
 unfoldable pub set-resource-cells : ℕ → ℕ → Resource → List ℕ → List ℕ
-set-resource-cells r k x ws = stores (λ f. place r (of-resource k f)) resource-links (resource-fields x) ws
+set-resource-cells r k x ws = store-run (λ f. place r (of-resource k f)) resource-links (resource-fields x) ws
 
 -- the resource k was o and becomes x: it leaves the free chain or joins its front, and its fields become x's
 unfoldable pub resource-cells : ℕ → ℕ → Resource → Resource → List ℕ → List ℕ
@@ -117,7 +117,7 @@ module _ (r : ℕ) (x : Resource) (t : Tables) (core : Core t) (low : 1 ≤ r) (
     set-relinked =
         sym (ap words (sym (put-relinked r x t))
         ∙ put-resource-words (relinked r x t) r x low (omega (arith, sane-relinked .resources)) (λ q. kept q ∙ ap (queue-of q) (sym resource-relinked))
-        ∙ ap (λ (n : ℕ). stores (λ f. place n (of-resource r f)) resource-links (resource-fields x) (words (relinked r x t))) (sane-relinked .resources))
+        ∙ ap (λ (n : ℕ). store-run (λ f. place n (of-resource r f)) resource-links (resource-fields x) (words (relinked r x t))) (sane-relinked .resources))
 
     pub resource-moved-words : words (move-resource r x t) ≡ resource-cells (length (t .resources)) r (resource t r) x (words t)
     unfolding resource-cells

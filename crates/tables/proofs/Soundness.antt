@@ -11,7 +11,7 @@ use borrow.Author.Tests.{eqb-true, eq-eqb, ne-eqb, leb-true, not-true}
 use Rattle.modes.specs.Modes.{compatible}
 use Rattle.tables.specs.Lists.{within, count, bit, all, null, next}
 use Rattle.tables.specs.State.{Lock, name-width, value-width, no-value, no-resource, lock, resource, holds, Queue, grants, converts, waits, LockChain, free-locks, denied, blocked, notices, queue, queue-of, Chain, free-resources, of-locks, chain, chain-of, home-at, belongs}
-use Rattle.tables.specs.Layout.{resource-width, Address, queue-head, of-header, of-resource, of-lock, place, head, content, written, words, slots, resources-in, locks-in, word-in, link-in, read-lock, slot-in, read}
+use Rattle.tables.specs.Layout.{resource-width, Address, queue-head, of-header, of-resource, of-lock, place, head, content, by-address, words, slots, resources-in, locks-in, word-in, link-in, read-lock, slot-in, read}
 use Rattle.tables.specs.Grants.{holders, empty}
 use Rattle.tables.specs.Sound.{free-resource-right, name-unique, used-resource-right, holders-compatible, sound}
 use Rattle.tables.proofs.Cases.{by-cases, clash, eqb-same, parts}
@@ -270,4 +270,4 @@ module _ (ws ss : List ℕ) (h : sound ws ss ≡ true) where
   unfolding words
   sound-words =
       is-written (resources-in ws) (locks-in ws) (content (read ws ss)) ws (words-sized ws ss h) word-is
-      ∙ sym (ap₂ (λ (r l : ℕ). written r l (content (read ws ss))) (resources-read ws ss) (locks-read ws ss))
+      ∙ sym (ap₂ (λ (r l : ℕ). by-address r l (content (read ws ss))) (resources-read ws ss) (locks-read ws ss))

@@ -9,11 +9,11 @@ use lib.ListN.{getD, set, length, drop, List·getD-map, List·getD-eq-default}
 use lib.Seq.{set-set, getD-drop}
 use Rattle.tables.specs.Lists.{remove, first, next}
 use Rattle.tables.specs.State.{Lock, Resource, Tables, lock, resource, Queue, grants, converts, waits, free-locks, denied, blocked, notices, queue, Chain, free-resources, of-locks, queue-of, chain-of, home-at, home}
-use Rattle.tables.specs.Layout.{Address, of-header, of-resource, of-lock, size, written, link, cell, resource-links, lock-links, resource-fields, lock-fields, Word, plain, following, header-words, resource-words, lock-words, word-at, word-value, content, words}
+use Rattle.tables.specs.Layout.{Address, of-header, of-resource, of-lock, size, by-address, link, cell, resource-links, lock-links, resource-fields, lock-fields, Word, plain, following, header-words, resource-words, lock-words, word-at, word-value, content, words}
 use Rattle.tables.proofs.Numbered.{put-lock, put-resource, locks-put, lock-put-here, lock-put-other, resource-put-lock, chains-put-lock, resources-put, resource-put-here, resource-put-other, lock-put-resource, chains-put-resource}
 use Rattle.tables.specs.Threads.{Absent, Distinct, Each}
 use Rattle.tables.proofs.Links.{holder, each-on, each-absent, holder-on, holder-here, next-here, next-past, next-append-here, next-append-past, remove-here, without, next-remove-here, next-remove-gone, next-remove-past, next-push-past}
-use Rattle.tables.specs.Stores.{stores}
+use Rattle.tables.specs.Stores.{store-run}
 use Rattle.tables.proofs.Grid.{address?, update, update-here, update-past, Side, on, off, lock-side, resource-side, updates, stores-written, updates-past, row-agrees, length-written, getD-written, written-same, set-written}
 use Rattle.tables.specs.Threads.{In, Present}
 use Rattle.tables.proofs.Chains.{chain?, with-chain, with-queue, spot, chain-same, chain-other, same-locks, lock-with, resource-count, resource-rest, home-past}
@@ -29,9 +29,9 @@ read-word t a h = getD-written _ _ (content t) a h
 
 -- a state of the size of t is known by its content at each address
 pub words-are : (t u : Tables) (f : Address → ℕ) → length (u .resources) ≡ length (t .resources) → length (u .locks) ≡ length (t .locks)
-    → ((b : Address) → In t b → content u b ≡ f b) → words u ≡ written (length (t .resources)) (length (t .locks)) f
+    → ((b : Address) → In t b → content u b ≡ f b) → words u ≡ by-address (length (t .resources)) (length (t .locks)) f
 unfolding words
-words-are t u f p q h = ap₂ (λ (r l : ℕ). written r l (content u)) p q ∙ written-same _ _ (content u) f h
+words-are t u f p q h = ap₂ (λ (r l : ℕ). by-address r l (content u)) p q ∙ written-same _ _ (content u) f h
 
 -- one word is written
 pub write-word : (t u : Tables) (a : Address) (v : ℕ) → length (u .resources) ≡ length (t .resources) → length (u .locks) ≡ length (t .locks)
@@ -213,7 +213,7 @@ module _ (t u : Tables) (resources : length (u .resources) ≡ length (t .resour
   record-agrees b (on i e) = subst (λ (b : Address). content u b ≡ updates a m vs (content t) b) e (same-value (word-at u (a i)) ∙ ap (word-value t) (is-new i) ∙ record-row i)
   record-agrees b (off n) = same-value (word-at u b) ∙ ap (word-value t) (others b n) ∙ sym (updates-past a m vs (content t) b n)
 
-  pub record-words : words u ≡ stores (λ f. spot t (a f)) m vs (words t)
+  pub record-words : words u ≡ store-run (λ f. spot t (a f)) m vs (words t)
   unfolding words
   record-words =
       words-are t u (updates a m vs (content t)) resources locks (λ b i. record-agrees b (side b))
@@ -234,7 +234,7 @@ module _ (t : Tables) (k : ℕ) (l : Lock) (low : 1 ≤ k) (high : k ≤ length 
   other-locks (of-lock j f) n =
       ap (λ (x : Lock). getD (lock-words j x) f (plain 0)) (lock-put-other t k l j (λ e. n f (ap (λ (j : ℕ). of-lock j f) e)))
 
-  pub put-lock-words : words (put-lock k l t) ≡ stores (λ f. spot t (of-lock k f)) lock-links (lock-fields l) (words t)
+  pub put-lock-words : words (put-lock k l t) ≡ store-run (λ f. spot t (of-lock k f)) lock-links (lock-fields l) (words t)
   put-lock-words =
       record-words t (put-lock k l t) refl (locks-put t k l) (chains-put-lock t k l) (of-lock k) (λ i j e. cc) (lock-side k) lock-links (lock-fields l)
       (lock-words k l) (lock-words k (lock t k)) (λ i. refl)
@@ -256,7 +256,7 @@ module _ (t : Tables) (r : ℕ) (x : Resource) (low : 1 ≤ r) (high : r ≤ len
       ap (λ (y : Resource). getD (resource-words s y) f (plain 0)) (resource-put-other t r x s (λ e. n f (ap (λ (s : ℕ). of-resource s f) e)))
   other-resources (of-lock j f) n = ap (λ (y : Lock). getD (lock-words j y) f (plain 0)) (lock-put-resource t r x j)
 
-  pub put-resource-words : words (put-resource r x t) ≡ stores (λ f. spot t (of-resource r f)) resource-links (resource-fields x) (words t)
+  pub put-resource-words : words (put-resource r x t) ≡ store-run (λ f. spot t (of-resource r f)) resource-links (resource-fields x) (words t)
   put-resource-words =
       record-words t (put-resource r x t) (resources-put t r x) refl (chains-put-resource t r x kept) (of-resource r) (λ i j e. cc) (resource-side r) resource-links (resource-fields x)
       (resource-words r x) (resource-words r (resource t r)) (λ i. refl)

@@ -46,8 +46,8 @@ unfoldable pub sheet : ℕ → ℕ → ℕ → (ℕ → ℕ) → (ℕ → ℕ �
 sheet u v w f g h r l = row u f ++ (rows v g r ++ rows w h l)
 
 -- f of each address, in order
-unfoldable pub written : ℕ → ℕ → (Address → ℕ) → List ℕ
-written r l f =
+unfoldable pub by-address : ℕ → ℕ → (Address → ℕ) → List ℕ
+by-address r l f =
     sheet header-width resource-width lock-width (λ i. f (of-header i)) (λ k i. f (of-resource k i)) (λ k i. f (of-lock k i)) r l
 
 -- FIELDS. The cell of k on a chain: the word that names what follows k (k = 0: the head, which names the first).
@@ -123,7 +123,7 @@ content t a = word-value t (word-at t a)
 
 -- THE WORDS of a state
 unfoldable pub words : Tables → List ℕ
-words t = written (length (t .resources)) (length (t .locks)) (content t)
+words t = by-address (length (t .resources)) (length (t .locks)) (content t)
 
 -- THE SLOTS of a state: for each resource its name, zeros up to the longest name, its value block
 abbrev pub slot-width : ℕ
@@ -183,6 +183,10 @@ read-lock ws k =
       asked = word-in ws (of-lock k 7);
       completion = word-in ws (of-lock k 8);
     }
+
+-- the mode that it holds
+abbrev pub held-in : List ℕ → ℕ → ℕ
+held-in ws k = read-lock ws k .held
 
 -- the slot of a resource
 unfoldable pub slot-in : List ℕ → ℕ → List ℕ

@@ -9,9 +9,9 @@ use Rattle.tables.specs.State.{Lock, state-free, Chain, free-resources, 
 use Rattle.tables.specs.Layout.{resource-width, lock-width, of-lock, place, cell, lock-links, lock-fields}
 
 -- a run of stores: vs at the places at-field f, at-field (f + 1), ..
-abbrev pub stores : (ℕ → ℕ) → ℕ → List ℕ → List ℕ → List ℕ
-stores at-field f [] ws = ws
-stores at-field f (v ∷ vs) ws = stores at-field (suc f) vs (set ws (at-field f) v)
+abbrev pub store-run : (ℕ → ℕ) → ℕ → List ℕ → List ℕ → List ℕ
+store-run at-field f [] ws = ws
+store-run at-field f (v ∷ vs) ws = store-run at-field (suc f) vs (set ws (at-field f) v)
 
 -- from a cell on, the cell that holds k, at most n cells further; place k: where the cell of the record k stands
 unfoldable pub cell-holding : List ℕ → (ℕ → ℕ) → ℕ → ℕ → ℕ → ℕ
@@ -64,7 +64,7 @@ arrive-cells false at-cell n k ws = join-cells at-cell n k ws
 
 -- the fields of k become m's; and where its home does not stay, k goes from the home of o to that of m
 unfoldable pub set-cells : ℕ → ℕ → Lock → List ℕ → List ℕ
-set-cells r k m ws = stores (λ f. place r (of-lock k f)) lock-links (lock-fields m) ws
+set-cells r k m ws = store-run (λ f. place r (of-lock k f)) lock-links (lock-fields m) ws
 
 unfoldable pub resettle-cells : Bool → ℕ → ℕ → ℕ → Lock → Lock → List ℕ → List ℕ
 unfolding set-cells

@@ -1,4 +1,4 @@
-use Rattle.c_images.proofs.PackedImages.{load-laws}
+use Rattle.c_answers.proofs.PackedContracts.{carrying}
 use borrow.Author.Needs.{needs}
 use Rattle.c_images.proofs.zamgyorud_load.Statement.{statement}
 use Rattle.c_images.proofs.zamgyorud_load.Tie as tie
@@ -9,7 +9,7 @@ zamgyorud-load-spec =
     (tie.spec
     (λ c κs. search needs)
     (λ c κs. search needs)
-    (λ c κs. search load-laws)
+    (λ c κs. search carrying)
     (λ c. search needs)
     (λ c. search needs)
-    (λ c. search load-laws))
+    (λ c. search carrying))
