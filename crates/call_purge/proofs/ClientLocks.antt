@@ -15,7 +15,7 @@ use Rattle.tables.specs.Layout.{words, slots, locks-in, read-lock}
 use Rattle.tables.proofs.Cases.{by-cases}
 use Rattle.tables.proofs.Counts.{within-le, le-within, count-same, count-step}
 use Rattle.tables.specs.Validity.{Core}
-use Rattle.tables.proofs.StateCases.{StateOk, ok-numbered}
+use Rattle.tables.proofs.StateCases.{ok-numbered}
 use Rattle.tables.proofs.Valid.{housed}
 use Rattle.rules.specs.Calls.{locks-of, purge-lock, purge-locks}
 use Rattle.table_fields.specs.Sizes.{Sized, resource-places}

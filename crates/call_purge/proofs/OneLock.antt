@@ -12,7 +12,7 @@ use Rattle.tables.specs.State.{Tables, no-lock, lock}
 use Rattle.tables.specs.Layout.{words, slots, locks-in, read-lock}
 use Rattle.tables.proofs.Cases.{clash}
 use Rattle.tables.specs.Validity.{used, Core}
-use Rattle.tables.proofs.StateCases.{StateOk, ok-numbered}
+use Rattle.tables.proofs.StateCases.{ok-numbered}
 use Rattle.tables.proofs.Valid.{used-within, lock-other, locks-length, resources-length}
 use Rattle.rules.specs.Queues.{free-lock}
 use Rattle.rules.specs.Calls.{stores, spoils, strong, with-value, leave-value, purge-lock}

@@ -1,16 +1,16 @@
 -- The refusals of a request for want of a record, or since it would block, from the words of a state.
 use mathlib.Core.Path.{_≡_, refl, sym, _∙_, ap}
 use mathlib.Core.Bool.{Bool, true, false, _&&_, _||_, not}
-use mathlib.Core.List.{List, []}
+use mathlib.Core.List.{List}
 use Prim.Native.Nat.{ℕ, zero, suc, _<_}
 use native.Mathlib.Omega.{arith}
 use lib.ListN.{getD, length}
 use lib.Dec.{eqb}
 use borrow.Author.Tests.{eqb-true, eqb-false, eq-eqb, ne-eqb, not-false}
-use Rattle.tables.specs.Lists.{within, all, null, from}
-use Rattle.tables.specs.State.{Tables, resource, free-locks}
+use Rattle.tables.specs.Lists.{within, null, from}
+use Rattle.tables.specs.State.{Tables, free-locks}
 use Rattle.tables.specs.Layout.{of-header, words}
-use Rattle.tables.specs.Grants.{holders, fits, admits}
+use Rattle.tables.specs.Grants.{admits}
 use Rattle.tables.proofs.Cases.{by-cases, and-left, and-right, or-right, nor-left, nor-right}
 use Rattle.tables.proofs.Counts.{count-from, bit-one, first-in}
 use Rattle.tables.proofs.Links.{next-here}

@@ -15,10 +15,8 @@ use Rattle.tables.specs.Sound.{free-resource-right, name-unique, used-resource-
 use Rattle.tables.proofs.Cases.{by-cases, by-equal, clash, and-left, and-right, and-intro, or-left, or-right, parts}
 use Rattle.tables.proofs.Counts.{within-le, le-within, all-at, all-intro, from-has, from-below, from-above, same-refl, same-eq}
 use Rattle.tables.proofs.Valid.{absent}
-use Rattle.tables.proofs.StateCases.{StateOk}
 use Rattle.tables.proofs.ReadState.{resources-read, resource-of, slot-in-length}
 use Rattle.tables.proofs.Conditions.{each-at, each-intro}
-use Rattle.tables.proofs.FollowedChains.{follow-null}
 use Rattle.tables.proofs.PaperWords.{heads-zero}
 use Rattle.table_names.specs.Names.{named, slot-fine, name-in, apart, apart-after, names-differ}
 use Rattle.check_laws.specs.Check.{row-in, free-row, used-row, row-fine, resource-fine, on-named, fields-fine}

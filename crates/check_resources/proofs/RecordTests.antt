@@ -1,5 +1,5 @@
 -- What the code tests of each record, and of the sizes.
-use mathlib.Core.Path.{_≡_, refl, sym}
+use mathlib.Core.Path.{_≡_, sym}
 use mathlib.Core.Bool.{Bool, true, false, not, _&&_, and-false}
 use mathlib.Core.List.{List}
 use Prim.Native.Nat.{ℕ, _+_, _-_, _*_, _<_}
@@ -10,7 +10,7 @@ use borrow.Author.Needs.{needs}
 use borrow.Author.Tests.{not-true, not-false, eq-eqb, ne-eqb}
 use Rattle.tables.specs.Lists.{bit}
 use Rattle.tables.specs.State.{most-resources, most-locks}
-use Rattle.tables.specs.Layout.{header-width, resource-width, size, slot-width, resources-in, locks-in}
+use Rattle.tables.specs.Layout.{header-width, resource-width, size, resources-in, locks-in}
 use Rattle.tables.specs.Sound.{sizes-right}
 use Rattle.table_names.specs.Names.{slot-fine}
 use Rattle.check_laws.specs.declared.ResourceRow.{ResourceRow}

@@ -14,7 +14,6 @@ use Rattle.tables.specs.State.{Tables, lock, blocked-lock, blocked}
 use Rattle.tables.specs.Layout.{of-lock, resources-in, locks-in, word-in, read-lock, of-resource}
 use Rattle.tables.proofs.Counts.{within-le}
 use Rattle.tables.specs.Validity.{used, Core}
-use Rattle.tables.proofs.StateCases.{StateOk, ok-numbered}
 use Rattle.tables.proofs.Valid.{used-within, blocked-lock-place}
 use Rattle.tables.proofs.ChainMembers.{on-chain, chain-has, blocked-within}
 use Rattle.rules.specs.Deadlock.{owner}

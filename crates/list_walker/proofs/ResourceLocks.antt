@@ -16,7 +16,6 @@ use Rattle.tables.proofs.ThreadedChains.{each-counted, belongs-home}
 use Rattle.tables.specs.Validity.{used, Core}
 use Rattle.tables.proofs.Valid.{ok-at, used-within}
 use Rattle.tables.proofs.ChainMembers.{on-chain, chain-once, on-grants, on-converts, on-waits}
-use Rattle.table_fields.proofs.StateWords.{core-sized}
 use Rattle.table_chains.specs.Contracts.{Resourced}
 use Rattle.list_walker.specs.Order.{locks-on, queues-past, Queued}
 use Rattle.list_walker.proofs.ListsInARow.{next-skip, next-in, next-end, at-on}

@@ -1,10 +1,10 @@
 -- However an input is cut into chunks, what is printed for them, with the last line if one has begun, is what its lines print.
-use mathlib.Core.Path.{_≡_, refl, sym, ap, ap₂, _∙_}
+use mathlib.Core.Path.{_≡_, refl, sym, ap, _∙_}
 use mathlib.Core.Bool.{Bool, true, false, cond}
 use mathlib.Core.List.{List, [], _∷_, _++_, map, flatten, append-assoc, append-nil}
 use Prim.Native.Nat.{ℕ}
 use Rattle.rules.specs.Entries.{Lent}
-use Rattle.play_commands.specs.Forms.{Meaning, meant}
+use Rattle.play_commands.specs.Forms.{meant}
 use Rattle.play_lines.specs.InputLines.{KeptLine, kept-line, meant-kept, lines, Came, whole, more, comes, begun, given, gives}
 use Rattle.play_print.specs.PrintedLines.{printed}
 use Rattle.play_lines.proofs.FedBytes.{kept-means, gives-lines}

@@ -13,13 +13,13 @@ use Rattle.play_lines.specs.declared.Line.{Line}
 use Rattle.play_lines.specs.declared.Fed.{Fed}
 use Rattle.play_lines.specs.declared.Fed.the-variants.{More, Whole}
 use Rattle.play_print.specs.declared.LineAnswer.{LineAnswer}
-use Rattle.play_lines.specs.InputLines.{kept-line, keeps, meant-kept, comes, came, Room, Feeds, begun}
+use Rattle.play_lines.specs.InputLines.{kept-line, keeps, meant-kept, came, Room, Feeds, begun}
 use Rattle.play_print.specs.PrintedLines.{printed, Wrote, printed-width}
 use Rattle.play_lines.proofs.FedBytes.{keeps-none, room-more, room-whole, room-start}
 use Rattle.play_session.specs.declared.Progress.{Progress}
 use Rattle.rules.specs.Entries.{lent}
 use Rattle.play_calls.specs.Plays.{played, played-with}
-use Rattle.play_session.specs.Sessions.{Session, taken, fed, fed-all, ended, standing, Ready, Spacious, WroteWithin, Ends}
+use Rattle.play_session.specs.Sessions.{taken, fed, fed-all, ended, standing, Ready, Spacious, WroteWithin, Ends}
 
 -- what stands in front after a write
 wrote-front : (out : List ℕ) (at : ℕ) (ys zs : List ℕ) (r : ℕ) → Wrote out at ys zs r → take r zs ≡ take at out ++ ys

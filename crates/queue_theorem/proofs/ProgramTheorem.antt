@@ -3,7 +3,7 @@ use mathlib.Core.Path.{_≡_, refl, sym, ap, ap₂, subst, _∙_}
 use mathlib.Core.List.{List, [], _∷_}
 use Prim.Native.Nat.{ℕ, _+_}
 use Rattle.rules.specs.declared.Said.{Said}
-use Rattle.rules.specs.Entries.{Lent, Outcome, Call, call-entry, Keeps, start-entry}
+use Rattle.rules.specs.Entries.{Lent, Outcome, Call, call-entry, Keeps}
 use Rattle.rules.specs.Theorem.{lent-after-calls, sum-of, requests-accepted, releases-accepted, requests-cancelled, locks-purged, polled-denials, Demand}
 use Rattle.rules.proofs.QueueTheorem.{queue-theorem}
 use Rattle.queue_theorem.specs.Runs.{Turn, said, Run, lent-after-run, calls, sum-of-run, RunHolds, ProgramTheorem}

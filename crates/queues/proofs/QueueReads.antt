@@ -19,7 +19,6 @@ use Rattle.tables.proofs.ThreadedChains.{each-counted, core-threaded}
 use Rattle.tables.specs.Validity.{line}
 use Rattle.tables.proofs.ChainMembers.{holder-range}
 use Rattle.tables.proofs.Links.{first-of, first-after}
-use Rattle.table_fields.proofs.StateWords.{resources-is, locks-is, core-sized}
 use Rattle.table_chains.specs.Contracts.{Some, Tells, Resourced}
 use Rattle.table_chains.proofs.ChainWalks.{queue-present, queue-onward, queue-first, here-sized, here-low, here-high, here-grants, here-converts}
 use Rattle.table_chains.proofs.LockLimits.{held-few, walk-modes}

@@ -1,7 +1,7 @@
 -- The M table holds: the entries answer as document 01's bench sequences say. Computed on states, and carried over by the law that entries on the
 -- written form of a valid state give what the rules say of it.
 use mathlib.Core.Path.{_≡_, refl, ap, _∙_}
-use mathlib.Core.Bool.{Bool, true, false, _&&_}
+use mathlib.Core.Bool.{Bool, true, _&&_}
 use mathlib.Core.List.{List, [], _∷_}
 use Prim.Native.Nat.{ℕ}
 use Rattle.modes.specs.Modes.{matrix, compatible, all-modes, down}

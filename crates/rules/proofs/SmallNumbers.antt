@@ -8,7 +8,7 @@ use lib.ListN.{length, length-append, length-map}
 use lib.Dec.{T as Holds, eqb, ltb, lit<}
 use Rattle.tables.specs.declared.Lock.{Lock}
 use Rattle.tables.specs.declared.LockEntry.{LockEntry}
-use Rattle.tables.specs.Lists.{count, keep, first-that, first, from}
+use Rattle.tables.specs.Lists.{count, first-that, first, from}
 use Rattle.tables.specs.State.{Tables, lock, resource, converting, grants, converts, waits, LockChain, free-locks, blocked, notices, queue, chain}
 use Rattle.tables.specs.Layout.{read}
 use Rattle.tables.specs.Grants.{holders, admits}
@@ -22,7 +22,7 @@ use Rattle.tables.proofs.Pigeonhole.{length-from}
 use Rattle.tables.proofs.Soundness.{sound-valid}
 use Rattle.rules.specs.Queues.{find}
 use Rattle.rules.specs.Deadlock.{victim}
-use Rattle.rules.specs.Calls.{Said, accepted, refused, Step, unless, refused-or, resource-for, with-resource, request-on, request-change, request-refusal, request, in-place, convert-change, convert-refusal, convert, release-change, release-refusal, release, cancel-change, cancel-refusal, cancel, locks-of, purge-change, purge-refusal, purge, deny-victim, break, poll-notice, poll-change, poll-refusal, poll}
+use Rattle.rules.specs.Calls.{accepted, refused, Step, unless, refused-or, resource-for, with-resource, request-on, request-change, request-refusal, request, in-place, convert-change, convert-refusal, convert, release-change, release-refusal, release, cancel-change, cancel-refusal, cancel, locks-of, purge-change, purge-refusal, purge, deny-victim, break, poll-notice, poll-change, poll-refusal, poll}
 use Rattle.rules.specs.Entries.{Lent, Call, to-request, to-convert, to-release, to-cancel, to-purge, to-break, to-poll, step-of, written-back, if-sound, entry, call-entry, start-accepts, start-if, start-entry, look-refusal, read-value, read-if, read-entry, lock-entry, listed, list-locks, list-if, list-entry}
 use Rattle.rules.specs.Images.{image-refusal, image-into, image-entry, load-refusal, load-into, load-entry}
 use Rattle.rules.specs.Numbers.{Small, reading-said, listing-said, imaged-said, NumbersSmall}

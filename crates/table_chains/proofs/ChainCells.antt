@@ -5,7 +5,7 @@ use mathlib.Core.List.{List}
 use Prim.Native.Nat.{ℕ, _+_, _*_, _-_, _<_, _≤_}
 use native.Mathlib.Omega.{arith}
 use lib.ListN.{length}
-use Rattle.tables.specs.State.{Tables, free-locks, denied, blocked, notices, queue, Chain, free-resources, of-locks, chain-of, most-resources, most-locks}
+use Rattle.tables.specs.State.{Tables, free-locks, denied, blocked, notices, queue, Chain, free-resources, of-locks, chain-of}
 use Rattle.tables.specs.Layout.{Address, place, head, link, cell, words, resources-in, locks-in, most}
 use Rattle.tables.specs.Threads.{Absent}
 use Rattle.tables.proofs.Links.{each-on}

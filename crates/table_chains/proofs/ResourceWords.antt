@@ -5,12 +5,12 @@ use mathlib.Core.List.{List, [], _∷_}
 use Prim.Native.Nat.{ℕ, _≤_}
 use native.Mathlib.Omega.{arith}
 use borrow.Author.Needs.{needs}
-use lib.ListN.{set, length}
+use lib.ListN.{length}
 use lib.Dec.{eqb}
 use borrow.Author.Tests.{ne-eqb}
 use Rattle.tables.specs.Lists.{null}
 use Rattle.tables.specs.State.{Resource, Tables, resource, free-resources, move-resource}
-use Rattle.tables.specs.Layout.{of-resource, place, words, resources-in, word-in}
+use Rattle.tables.specs.Layout.{of-resource, words, resources-in, word-in}
 use Rattle.tables.proofs.Counts.{within-le, le-within}
 use Rattle.tables.proofs.WordChanges.{stands}
 use Rattle.tables.proofs.ReadBack.{word-read}

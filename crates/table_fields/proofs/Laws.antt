@@ -7,7 +7,7 @@ use lib.ListN.{getD, set, length-set}
 use lib.Seq.{getD-set-other}
 use borrow.Author.Needs.{needs}
 use Rattle.tables.specs.declared.Lock.{Lock}
-use Rattle.tables.specs.Layout.{header-width, resource-width, lock-width, of-resource, of-lock, place, resources-in, locks-in, word-in, read-lock}
+use Rattle.tables.specs.Layout.{header-width, resource-width, lock-width, of-resource, of-lock, resources-in, locks-in, word-in, read-lock}
 use Rattle.tables.specs.Stores.{set-cells}
 use Rattle.table_fields.specs.Sizes.{Sized, Kept}
 use Rattle.table_fields.specs.declared.ResourceFields.{ResourceFields}

@@ -9,10 +9,9 @@ use lib.ListN.{length}
 use borrow.Author.Tests.{ne-eqb}
 use Rattle.tables.specs.Lists.{put}
 use Rattle.tables.specs.State.{Resource, Tables, no-resource, lock, resource, Queue, grants, converts, waits, Queue-discrete, free-locks, denied, blocked, notices, queue, LockChain-discrete, Chain, free-resources, of-locks, Chain-discrete, queue-of, chain-of, home-at}
-use Rattle.tables.specs.Layout.{Address, place, head}
+use Rattle.tables.specs.Layout.{Address, place}
 use Rattle.tables.proofs.Counts.{length-put, nth-put-other}
 use Rattle.tables.proofs.Numbered.{nth-put-here, nth-put-blind}
-use Rattle.tables.specs.Threads.{Within}
 use Rattle.tables.specs.Threads.{Present}
 
 unfoldable pub chain? : Discrete Chain

@@ -1,7 +1,7 @@
 -- Lock k becomes m: it leaves each chain on which it no longer belongs, its fields become m's, and it joins each on which it newly belongs.
 use mathlib.Core.Path.{_≡_, refl, sym, _∙_, ap, ap₂, subst}
 use mathlib.Core.Logic.{_≢_, inr}
-use mathlib.Core.Bool.{Bool, true, false, _&&_}
+use mathlib.Core.Bool.{Bool, true, false}
 use mathlib.Core.List.{List, [], _∷_, _++_}
 use Prim.Native.Nat.{ℕ, _≤_}
 use native.Mathlib.Omega.{arith}
@@ -23,7 +23,7 @@ use Rattle.tables.specs.Threads.{Stands}
 use Rattle.tables.proofs.WordChanges.{stands, put-lock-words}
 use Rattle.tables.proofs.ReadBack.{chain-most}
 use Rattle.tables.proofs.Frame.{Homed, homed, in-same, threaded-put-lock}
-use Rattle.tables.specs.Stores.{join-cells, push-cells, leave-cells, cell-place}
+use Rattle.tables.specs.Stores.{leave-cells, cell-place}
 use Rattle.tables.proofs.WordSteps.{join, push, leave, join-is, push-is, leave-is}
 use Rattle.tables.specs.Threads.{Sane}
 use Rattle.tables.proofs.HomeChange.{sane-leave, sane-join, sane-push, elsewhere, home-short, lifted, sane-lifted, lock-lifted, high-lifted, link-zero, sane-set, present-set, absent-set, stands-set}

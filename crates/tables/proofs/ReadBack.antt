@@ -9,7 +9,7 @@ use lib.ListN.{getD, length, take, drop, replicate, length-append, length-replic
 use lib.Seq.{take-append-seam, take-at, drop-at}
 use Rattle.tables.specs.Lists.{from}
 use Rattle.tables.specs.State.{Resource, Tables, name-width, value-width, no-lock, no-resource, lock, resource, grants, converts, waits, free-locks, denied, blocked, notices, queue, Chain, free-resources, of-locks, chain-of}
-use Rattle.tables.specs.Layout.{resource-width, lock-width, Address, of-header, of-resource, of-lock, place, cell, link, content, word-value, words, slot-width, slot, slots, word-in, follow, most, read-chain, read-lock, slot-in, read-resource, read}
+use Rattle.tables.specs.Layout.{resource-width, lock-width, Address, of-header, of-resource, of-lock, place, cell, link, content, words, slot-width, slot, slots, word-in, follow, most, read-chain, read-lock, slot-in, read-resource, read}
 use Rattle.tables.proofs.Blocks.{drop-blocks, tabulated}
 use Rattle.tables.proofs.Links.{each-map, few}
 use Rattle.tables.specs.Threads.{In, Present}

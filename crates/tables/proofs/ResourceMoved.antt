@@ -17,7 +17,7 @@ use Rattle.tables.specs.Threads.{Stands}
 use Rattle.tables.proofs.WordChanges.{stands, put-resource-words}
 use Rattle.tables.proofs.ReadBack.{chain-most}
 use Rattle.tables.proofs.SlotChanges.{slots-put, slots-move-resource}
-use Rattle.tables.specs.Stores.{push-cells, leave-cells, cell-place}
+use Rattle.tables.specs.Stores.{cell-place}
 use Rattle.tables.proofs.WordSteps.{push, leave, push-is, leave-is}
 use Rattle.tables.specs.Threads.{Sane}
 use Rattle.tables.proofs.HomeChange.{sane-leave, sane-push}

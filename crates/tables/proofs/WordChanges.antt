@@ -11,8 +11,8 @@ use Rattle.tables.specs.Lists.{remove, first, next}
 use Rattle.tables.specs.State.{Lock, Resource, Tables, lock, resource, Queue, grants, converts, waits, free-locks, denied, blocked, notices, queue, Chain, free-resources, of-locks, queue-of, chain-of, home-at, home}
 use Rattle.tables.specs.Layout.{Address, of-header, of-resource, of-lock, size, by-address, link, cell, resource-links, lock-links, resource-fields, lock-fields, Word, plain, following, header-words, resource-words, lock-words, word-at, word-value, content, words}
 use Rattle.tables.proofs.Numbered.{put-lock, put-resource, locks-put, lock-put-here, lock-put-other, resource-put-lock, chains-put-lock, resources-put, resource-put-here, resource-put-other, lock-put-resource, chains-put-resource}
-use Rattle.tables.specs.Threads.{Absent, Distinct, Each}
-use Rattle.tables.proofs.Links.{holder, each-on, each-absent, holder-on, holder-here, next-here, next-past, next-append-here, next-append-past, remove-here, without, next-remove-here, next-remove-gone, next-remove-past, next-push-past}
+use Rattle.tables.specs.Threads.{Absent}
+use Rattle.tables.proofs.Links.{holder, each-on, each-absent, holder-on, next-here, next-past, next-append-here, next-append-past, next-remove-here, next-remove-gone, next-remove-past, next-push-past}
 use Rattle.tables.specs.Stores.{store-run}
 use Rattle.tables.proofs.Grid.{address?, update, update-here, update-past, Side, on, off, lock-side, resource-side, updates, stores-written, updates-past, row-agrees, length-written, getD-written, written-same, set-written}
 use Rattle.tables.specs.Threads.{In, Present}

@@ -17,7 +17,7 @@ use Rattle.tables.specs.Sound.{sizes-right, zeros-right, resource-index,
 use Rattle.tables.proofs.Cases.{by-cases, by-equal, clash, eqb-same, and-intro, or-left, or-right}
 use Rattle.tables.proofs.Counts.{within-le, le-within, all-intro, nil-of-counts, null-nil, null-some}
 use Rattle.tables.specs.Validity.{used, Core, Valid}
-use Rattle.tables.proofs.StateCases.{StateOk, ok-numbered}
+use Rattle.tables.proofs.StateCases.{ok-numbered}
 use Rattle.tables.proofs.Valid.{ok-at, housed}
 use Rattle.tables.proofs.ChainMembers.{and-bit, on-chain, on-grants, on-converts, on-waits, in-holder, idle-no-head}
 use Rattle.tables.proofs.Blocks.{length-blocks}
