@@ -14,7 +14,7 @@ use Rattle.tables.proofs.Counts.{within-le, le-within}
 use Rattle.tables.specs.Validity.{Core}
 use Rattle.rules.specs.Queues.{settle}
 use Rattle.rules.specs.Calls.{settle-all}
-use Rattle.rules.proofs.CallsKeepSound.{settle-settles}
+use Rattle.rules.proofs.ChangesKeepSound.{settle-settles}
 use Rattle.table_fields.specs.Sizes.{resource-places}
 use Rattle.table_fields.proofs.StateWords.{resources-is}
 use Rattle.table_chains.specs.Contracts.{Changes, Resourced}

@@ -3,10 +3,12 @@ use mathlib.Core.Path.{_≡_, refl, sym, ap, ap₂, subst, _∙_}
 use mathlib.Core.List.{List, [], _∷_}
 use Prim.Native.Nat.{ℕ, _+_}
 use Rattle.rules.specs.declared.Said.{Said}
-use Rattle.rules.specs.Entries.{Lent, Outcome, Call, call-entry, Keeps}
+use Rattle.rules.specs.Entries.{Lent, Outcome, outcome, Call, call-entry, start-entry, Keeps}
 use Rattle.rules.specs.Theorem.{lent-after-calls, sum-of, requests-accepted, releases-accepted, requests-cancelled, locks-purged, polled-denials, Demand}
+use Rattle.rules.specs.Marks.{MarksRight, MarksAfter}
 use Rattle.rules.proofs.QueueTheorem.{queue-theorem}
-use Rattle.queue_theorem.specs.Runs.{Turn, said, Run, lent-after-run, calls, sum-of-run, RunHolds, ProgramTheorem}
+use Rattle.rules.proofs.MarksTheorem.{marks-theorem}
+use Rattle.queue_theorem.specs.Runs.{Turn, said, Run, lent-after-run, calls, sum-of-run, RunHolds, ProgramTheorem, ProgramMarks}
 
 -- what a turn left is what the definition of its call leaves
 left-is : (t : Lent) (u : Turn) → Keeps (u .call) t (said u) (u .left) → u .left ≡ call-entry (u .call) t .lent-after
@@ -35,8 +37,21 @@ holds t us r d =
           (d .balance);
     }
 
+-- what start left, and that it accepted, as its definition has it
+module _ (t u : Lent) (r l : ℕ) (x : Said) (started : outcome x u ≡ start-entry t r l) (accepted : x .refusal ≡ 0) where
+  left-by-start : start-entry t r l .lent-after ≡ u
+  left-by-start = sym (ap (λ (o : Outcome). o .lent-after) started)
+
+  start-accepts : start-entry t r l .said .refusal ≡ 0
+  start-accepts = sym (ap (λ (o : Outcome). o .said .refusal) started) ∙ accepted
+
 pub program-theorem : ProgramTheorem
 program-theorem t r l x u started accepted us run =
     holds u us run
-    (subst (λ (a : Lent). Demand (calls us) a) (sym (ap (λ (o : Outcome). o .lent-after) started))
-    (queue-theorem t r l (sym (ap (λ (o : Outcome). o .said .refusal) started) ∙ accepted) (calls us)))
+    (subst (λ (a : Lent). Demand (calls us) a) (left-by-start t u r l _ started accepted) (queue-theorem t r l (start-accepts t u r l _ started accepted) (calls us)))
+
+pub program-marks : ProgramMarks
+program-marks t r l x u started accepted us run v kept =
+    subst (λ (o : Outcome). MarksRight (v .call) (lent-after-run u us) o) (sym kept)
+    (subst (λ (a : Lent). MarksRight (v .call) a (call-entry (v .call) a)) (sym (last-is u us run))
+    (subst (MarksAfter (calls us) (v .call)) (left-by-start t u r l _ started accepted) (marks-theorem t r l (start-accepts t u r l _ started accepted) (calls us) (v .call))))

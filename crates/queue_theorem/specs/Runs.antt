@@ -6,6 +6,7 @@ use Prim.Native.Nat.{ℕ, _+_}
 use Rattle.rules.specs.declared.Said.{Said}
 use Rattle.rules.specs.Entries.{Lent, outcome, Call, to-request, to-convert, to-release, to-cancel, to-purge, to-break, to-poll, Keeps, start-entry}
 use Rattle.rules.specs.Theorem.{QueuesHold, in-use, requests-accepted, releases-accepted, requests-cancelled, locks-purged, polled-denials}
+use Rattle.rules.specs.Marks.{MarksRight}
 use Rattle.answers.specs.declared.Done.{Done}
 use Rattle.answers.specs.declared.Requested.{Requested}
 use Rattle.answers.specs.declared.Converted.{Converted}
@@ -73,3 +74,10 @@ abbrev pub ProgramTheorem : Type 0
 ProgramTheorem =
     (t : Lent) (r l : ℕ) (x : Done) (u : Lent) → outcome (answers.done x) u ≡ start-entry t r l → answers.done x .refusal ≡ 0
     → (us : List Turn) → Run u us → RunHolds u us
+
+-- THE MARKS THEOREM ABOUT THE PROGRAM: after every run, every further turn does to the marks what R-1 promises. Proved as `program-marks`.
+abbrev pub ProgramMarks : Type 0
+ProgramMarks =
+    (t : Lent) (r l : ℕ) (x : Done) (u : Lent) → outcome (answers.done x) u ≡ start-entry t r l → answers.done x .refusal ≡ 0
+    → (us : List Turn) → Run u us → (v : Turn) → Keeps (v .call) (lent-after-run u us) (said v) (v .left)
+    → MarksRight (v .call) (lent-after-run u us) (outcome (said v) (v .left))

@@ -14,7 +14,7 @@ use Rattle.rules.specs.Queues.{sweep, free-lock, settle, find}
 use Rattle.rules.specs.Calls.{leave-value, new-resource}
 use Rattle.rules.proofs.SweepLaws.{sweep-swept}
 use Rattle.rules.proofs.ResourceChanges.{resources-kept, core-resource, no-value-length, leave-quiet}
-use Rattle.rules.proofs.CallsKeepSound.{settle-settles}
+use Rattle.rules.proofs.ChangesKeepSound.{settle-settles}
 use Rattle.rules.proofs.RequestKeepsSound.{missing, unused-chains}
 use Rattle.table_chains.specs.Contracts.{Resourced}
 use Rattle.queues.specs.Contracts.{Locked, Takes, Valued}

@@ -7,7 +7,7 @@ use native.Mathlib.Omega.{arith}
 use lib.ListN.{length}
 use borrow.Author.Tests.{leb-true, eqb-true, not-true}
 use Rattle.tables.specs.Lists.{null}
-use Rattle.tables.specs.State.{Tables, name-width, value-width, last-mode}
+use Rattle.tables.specs.State.{Tables, lock, unread, name-width, value-width, last-mode}
 use Rattle.tables.proofs.Cases.{clash, parts}
 use Rattle.tables.proofs.Fields.{client-is}
 use Rattle.tables.specs.Validity.{Valid}
@@ -62,9 +62,11 @@ module _ (t : Tables) (val : Valid t) where
   convert-passed c k m f v h =
       let h3 = next-test _ 2 _ h in
       let h5 = next-test _ 4 _ (next-test _ 3 _ h3) in
-      let h9 = next-test _ 8 _ (next-test _ 7 _ (next-test _ 6 _ h5)) in
+      let h8 = next-test _ 7 _ (next-test _ 6 _ h5) in
+      let h9 = next-test _ 8 _ h8 in
       record {
         valid = val;
+        is-read = not-true (unread (lock t k)) (passed _ 8 _ h8);
         is-granted = passed _ 9 _ h9;
         mode = leb-true m last-mode (passed _ 3 _ h3);
         right = right-value f v (passed _ 6 _ h5);

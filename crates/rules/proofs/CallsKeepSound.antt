@@ -24,108 +24,9 @@ use Rattle.rules.specs.Queues.{sweep, free-lock, settle}
 use Rattle.rules.specs.Deadlock.{victim}
 use Rattle.rules.specs.Calls.{stores, strong, leave-value, held-at, asking, in-place, convert-change, release-change, restored, cancel-change, deny, deny-victim, break, notice-read, take-notice, poll-notice, poll-change}
 use Rattle.rules.proofs.SweepLaws.{Swept, free-kept, sweep-swept}
+use Rattle.rules.proofs.ChangesKeepSound.{After, unchanged-after, then-sweep, then-stop, quiet-after, freed-settle, freed-sweep, freed-stop, full-of, granted-full, fits-alone, Grows, grows-move, head-still, head-new, nothing-at-zero}
+use Rattle.rules.proofs.NoticesKeepSound.{noted-ok, noted-after, told-after}
 use Rattle.rules.proofs.ResourceChanges.{empty-chains, used-changed, free-empty, Quiet, leave-quiet}
-
--- settling: what a call does last on the resource r
-pub record Settles (r : ℕ) (t t′ : Tables) : Type 0 where
-  pub core : Core t′
-  pub here : Settled t′ r
-  pub others : (s : ℕ) → s ≢ r → Settled t s → Settled t′ s
-  pub free-same : t′ .free-locks ≡ t .free-locks
-  pub locks-same : length (t′ .locks) ≡ length (t .locks)
-  pub resources-same : length (t′ .resources) ≡ length (t .resources)
-
-swept-settles : (r : ℕ) (t t′ : Tables) → Swept r t t′ → (used t′ r ≡ true → empty (resource t′ r) ≡ false) → Settles r t t′
-swept-settles r t t′ s h =
-    record {
-      core = s .core;
-      here = record { still = s .still; peopled = h };
-      others = s .others;
-      free-same = s .free-same;
-      locks-same = s .locks-same;
-      resources-same = s .resources-same;
-    }
-
-pub sweep-settles : (r : ℕ) (t : Tables) → Core t → empty (resource t r) ≡ false → Settles r t (sweep r t)
-sweep-settles r t c h = swept-settles r t (sweep r t) (sweep-swept r t c) (λ u. sweep-swept r t c .peopled h)
-
-pub settle-settles : (r : ℕ) (t : Tables) → Core t → within (length (t .resources)) r ≡ true → Settles r t (settle r t)
-unfolding settle
-settle-settles r t c w =
-    by-cases (empty (resource t r))
-    (λ h. rw (h, settle) (swept-settles r t _ (free-empty r t c w h) (λ v. clash (used (move-resource r no-resource t) r) v (used-changed r no-resource t w))))
-    (λ h. rw (h, settle) (sweep-settles r t c h))
-
--- what a call leaves
-pub record After (t t′ : Tables) (fs : List ℕ) : Type 0 where
-  pub valid : Valid t′
-  pub free-is : t′ .free-locks ≡ fs
-  pub locks-are : length (t′ .locks) ≡ length (t .locks)
-  pub resources-are : length (t′ .resources) ≡ length (t .resources)
-
-pub unchanged-after : (t : Tables) (fs : List ℕ) → Valid t → t .free-locks ≡ fs → After t t fs
-unchanged-after t fs val e = record { valid = val; free-is = e; locks-are = refl; resources-are = refl }
-
--- what a move does to the free locks
-pub free-gained : (r k : ℕ) (m : Lock) (t : Tables) → eqb (lock t k .state) 0 ≡ false → eqb (m .state) 0 ≡ true → move r k m t .free-locks ≡ k ∷ t .free-locks
-unfolding move shift-front
-free-gained r k m t p q = rw (p, q)
-
-pub free-taken : (r k : ℕ) (m : Lock) (t : Tables) → eqb (lock t k .state) 0 ≡ true → eqb (m .state) 0 ≡ false → move r k m t .free-locks ≡ remove k (t .free-locks)
-unfolding move shift-front
-free-taken r k m t p q = rw (p, q)
-
--- a lock of a sound state changes, and its resource is settled, swept or left
-module _ (t : Tables) (c : Core t) (r k : ℕ) (m : Lock) (rest : (s : ℕ) → s ≢ r → Settled t s)
-    (w : within (length (t .locks)) k ≡ true) (near-old : Near r (lock t k)) (near-new : Near r m)
-    (ok : LockOk (used t) m) (fit : holds m ≡ true → Fits t (m .resource) k (m .held)) (fs : List ℕ) (frees : move r k m t .free-locks ≡ fs) where
-  pub moved : Core (move r k m t)
-  moved = core-move r k m t c w near-old near-new ok fit
-
-  after : (t′ : Tables) → Settles r (move r k m t) t′ → After t t′ fs
-  after t′ s =
-      record {
-        valid = record { core = s .core; settled = λ q. by-equal q r (λ e. rw e (s .here)) (λ n. s .others q n (settled-other t c r k m near-old q n (rest q n))) };
-        free-is = s .free-same ∙ frees;
-        locks-are = s .locks-same ∙ locks-length r k m t;
-        resources-are = s .resources-same ∙ resources-length r k m t;
-      }
-
-  pub then-settle : within (length (t .resources)) r ≡ true → After t (settle r (move r k m t)) fs
-  then-settle v = after _ (settle-settles r (move r k m t) moved (rw (resources-length r k m t) v))
-
-  pub then-sweep : empty (resource (move r k m t) r) ≡ false → After t (sweep r (move r k m t)) fs
-  then-sweep h = after _ (sweep-settles r (move r k m t) moved h)
-
-  pub then-stop : Settled (move r k m t) r → After t (move r k m t) fs
-  then-stop h = after _ (record { core = moved; here = h; others = λ s n q. q; free-same = refl; locks-same = refl; resources-same = refl })
-
--- after a change that no lock sees
-quiet-after : (t t0 t′ : Tables) (fs gs : List ℕ) → Quiet t t0 → fs ≡ gs → After t0 t′ fs → After t t′ gs
-quiet-after t t0 t′ fs gs q e a =
-    record { valid = a .valid; free-is = a .free-is ∙ e; locks-are = a .locks-are ∙ q .locks-are; resources-are = a .resources-are ∙ q .resources-are }
-
--- a lock is freed
-module _ (t : Tables) (c : Core t) (r k : ℕ) (e : lock t k .resource ≡ r) (rest : (s : ℕ) → s ≢ r → Settled t s)
-    (stands : eqb (lock t k .state) 0 ≡ false) (w : within (length (t .locks)) k ≡ true) where
-  is-move : free-lock k t ≡ move r k no-lock t
-  unfolding free-lock
-  is-move = rw e
-
-  pub freed-settle : within (length (t .resources)) r ≡ true → After t (settle r (free-lock k t)) (k ∷ t .free-locks)
-  freed-settle v =
-      rw is-move
-      (then-settle t c r k no-lock rest w (λ z. e) (λ z. absurd (z refl)) (as-free refl) (λ z. clash false z refl) _ (free-gained r k no-lock t stands refl) v)
-
-  pub freed-sweep : empty (resource (move r k no-lock t) r) ≡ false → After t (sweep r (free-lock k t)) (k ∷ t .free-locks)
-  freed-sweep v =
-      rw is-move
-      (then-sweep t c r k no-lock rest w (λ z. e) (λ z. absurd (z refl)) (as-free refl) (λ z. clash false z refl) _ (free-gained r k no-lock t stands refl) v)
-
-  pub freed-stop : Settled (move r k no-lock t) r → After t (free-lock k t) (k ∷ t .free-locks)
-  freed-stop v =
-      rw is-move
-      (then-stop t c r k no-lock rest w (λ z. e) (λ z. absurd (z refl)) (as-free refl) (λ z. clash false z refl) _ (free-gained r k no-lock t stands refl) v)
 
 -- RELEASE
 pub release-after : (k f : ℕ) (v : List ℕ) (t : Tables) → Valid t → granted (lock t k) ≡ true → (stores f ≡ true → length v ≡ value-width) →
@@ -144,22 +45,7 @@ release-after k f v t val g right =
     (rw (q .resources-are) (used-within t r (p .in-use))))
 
 -- CANCEL
-pub full-of : (x : Resource) (j : ℕ) → 1 ≤ count j (x .grant) + count j (x .convert) + count j (x .wait) → empty x ≡ false
-full-of x j m =
-    by-cases (empty x)
-    (λ h. let e = empty-chains x h in absurd (omega (arith, rw (e .0, e .1, e .2, count-nil j) at m)))
-    (λ h. h)
-
-pub granted-full : (t : Tables) (r k : ℕ) (m : Lock) → Core (move r k m t) → within (length (t .locks)) k ≡ true → granted m ≡ true → m .resource ≡ r → empty (resource (move r k m t) r) ≡ false
-granted-full t r k m c w g e =
-    full-of _ k
-    (omega (arith, chain-has (move r k m t) (c .linked) (queue r grants) k (rw (locks-length r k m t) w) (rw (lock-same r k m t w, g, e, eqb-same r))))
-
 -- a lock waits for somebody
-pub fits-alone : (t : Tables) (r k m : ℕ) → resource t r .grant ≡ [] → resource t r .convert ≡ [] → fits t r k m ≡ true
-unfolding fits holders all
-fits-alone t r k m a b = rw (a, b)
-
 waited-for : (t : Tables) → Valid t → (r k : ℕ) → 1 ≤ count k (resource t r .wait) → (null (resource t r .grant) && null (resource t r .convert)) ≡ false
 unfolding line idle convert-grantable
 waited-for t val r k m =
@@ -186,7 +72,7 @@ waiter-gone t val k m h g c =
 restored-ok : (u : ℕ → Bool) (l : Lock) (n : ℕ) → Place u l → n ≤ 3 → n ≢ 2 → LockOk u (restored n l)
 restored-ok u l n p a b =
     as-granted refl (record {
-      place = record { in-use = p .in-use; client-low = p .client-low; client-high = p .client-high; held-mode = p .held-mode; asked-mode = omega arith };
+      place = record { in-use = p .in-use; client-low = p .client-low; client-high = p .client-high; held-mode = p .held-mode; asked-mode = omega arith; mark-mode = p .mark-mode };
       asks = refl;
       notice = a;
       not-denied = b;
@@ -217,57 +103,6 @@ cancel-after k t val b =
     (freed-sweep t (val .core) (lock t k .resource) k refl (λ q i. val .settled q) (rw s) (state-within t k 2 s) (waiter-gone t val k no-lock a refl refl)))
 
 -- POLL
--- what was not grantable stays so where no mode is given up
-abbrev pub Grows : Tables → Tables → ℕ → Type 0
-Grows t t′ r =
-    (j : ℕ) → holds (lock t j) ≡ true → lock t j .resource ≡ r →
-    (holds (lock t′ j) ≡ true) × (lock t′ j .resource ≡ r) × (lock t′ j .held ≡ lock t j .held)
-
-fits-less : (t t′ : Tables) → Core t → Core t′ → (r h a : ℕ) → Grows t t′ r → fits t r h a ≡ false → fits t′ r h a ≡ false
-fits-less t t′ c c′ r h a g f =
-    by-cases (fits t′ r h a)
-    (λ y. clash (fits t r h a) (true-fits t (c .linked) r h a (λ j n o e. rw (g j o e .2) at (fits-true t′ (c′ .linked) r h a y j n (g j o e .0) (g j o e .1)))) f)
-    (λ y. y)
-
-pub grows-move : (t : Tables) (r k : ℕ) (m : Lock) → within (length (t .locks)) k ≡ true →
-    (holds (lock t k) ≡ true → lock t k .resource ≡ r → (holds m ≡ true) × (m .resource ≡ r) × (m .held ≡ lock t k .held)) → Grows t (move r k m t) r
-grows-move t r k m w h j =
-    by-equal j k
-    (λ e. rw (e, lock-same r k m t w) h)
-    (λ n. rw (lock-other r k m t j n) (λ o e. (o, e, refl)))
-
--- the head of the line stays where it is, and is not k
-module _ (t : Tables) (c : Core t) (r k : ℕ) (m : Lock) (c′ : Core (move r k m t)) (w : within (length (t .locks)) k ≡ true) (free-k : blocked-lock (lock t k) ≡ false)
-    (grows : Grows t (move r k m t) r) where
-  pub head-still : (h : ℕ) (hs hs′ : List ℕ) → line t r ≡ h ∷ hs → line (move r k m t) r ≡ h ∷ hs′ → idle t r (line t r) ≡ true → idle (move r k m t) r (line (move r k m t) r) ≡ true
-  unfolding idle convert-grantable
-  head-still h hs hs′ e e′ i =
-      let n : h ≢ k = λ q. clash (blocked-lock (lock t k)) (rw q at (line-blocked t c r h (head-in (line t r) h hs e))) free-k in
-      let f : convert-grantable t r h ≡ false = not-true _ (rw e at i) in
-      rw e′ (rw (lock-other r k m t h n, fits-less t (move r k m t) c c′ r h (lock t h .asked) grows f))
-
-  -- k is the new head, and does not fit
-  pub head-new : (ks : List ℕ) → line (move r k m t) r ≡ k ∷ ks → fits t r k (m .asked) ≡ false → idle (move r k m t) r (line (move r k m t) r) ≡ true
-  unfolding idle convert-grantable
-  head-new ks e f = rw e (rw (lock-same r k m t w, fits-less t (move r k m t) c c′ r k (m .asked) grows f))
-
-  -- a lock that is not blocked changes to another that is not: the line stays
-  line-stays : within (length (t .resources)) r ≡ true → blocked-lock m ≡ false → line (move r k m t) r ≡ line t r
-  unfolding line relist shift
-  line-stays v b =
-      rw (resource-same r k m t v, nor-left (converting (lock t k)) _ free-k, nor-right (converting (lock t k)) (waiting (lock t k)) free-k, nor-left (converting m) _ b, nor-right (converting m) (waiting m) b)
-
-  pub still-stays : within (length (t .resources)) r ≡ true → blocked-lock m ≡ false → idle t r (line t r) ≡ true → idle (move r k m t) r (line (move r k m t) r) ≡ true
-  still-stays v b i = go (line t r) refl
-    where
-      go : (qs : List ℕ) → line t r ≡ qs → idle (move r k m t) r (line (move r k m t) r) ≡ true
-      go [] e = rw (line-stays v b, e) (unfold idle in refl)
-      go (h ∷ hs) e = head-still h hs hs e (line-stays v b ∙ e) i
-
-pub nothing-at-zero : (t : Tables) → Settled t 0
-unfolding line resource idle
-nothing-at-zero t = record { still = refl; peopled = λ u. clash (used t 0) u (used-zero t) }
-
 noticed-denied : (u : ℕ → Bool) (l : Lock) (s : ℕ) → StateOk u l s → l .completion ≡ 2 → s ≡ 4
 noticed-denied u l zero ok e = absurd (omega (arith, ap (λ (x : Lock). x .completion) ok))
 noticed-denied u l (suc zero) ok e = absurd (ok .not-denied e)
@@ -276,13 +111,14 @@ noticed-denied u l (suc (suc (suc zero))) ok e = absurd (omega (arith, ok .notic
 noticed-denied u l (suc (suc (suc (suc zero)))) ok e = refl
 noticed-denied u l (suc (suc (suc (suc (suc n))))) ok e = absurd ok
 
-noticed-granted : (u : ℕ → Bool) (l : Lock) (s : ℕ) → StateOk u l s → l .completion ≢ 0 → l .completion ≢ 2 → s ≡ 1
-noticed-granted u l zero ok a b = absurd (a (ap (λ (x : Lock). x .completion) ok))
-noticed-granted u l (suc zero) ok a b = refl
-noticed-granted u l (suc (suc zero)) ok a b = absurd (a (ok .notice))
-noticed-granted u l (suc (suc (suc zero))) ok a b = absurd (a (ok .notice))
-noticed-granted u l (suc (suc (suc (suc zero)))) ok a b = absurd (b (ok .notice))
-noticed-granted u l (suc (suc (suc (suc (suc n))))) ok a b = absurd ok
+-- a lock that has a notice, and not that its request was denied, holds a mode
+noticed-holds : (u : ℕ → Bool) (l : Lock) (s : ℕ) → l .state ≡ s → StateOk u l s → noticed l ≡ true → l .completion ≢ 2 → holds l ≡ true
+noticed-holds u l zero q ok h b = clash (noticed l) h (rw ok)
+noticed-holds u l (suc zero) q ok h b = rw q
+noticed-holds u l (suc (suc zero)) q ok h b = rw q
+noticed-holds u l (suc (suc (suc zero))) q ok h b = clash (noticed l) h (rw (ok .notice, ok .unmarked))
+noticed-holds u l (suc (suc (suc (suc zero)))) q ok h b = absurd (b (ok .notice))
+noticed-holds u l (suc (suc (suc (suc (suc n))))) q ok h b = absurd ok
 
 taken-after : (k : ℕ) (t : Tables) → Valid t → noticed (lock t k) ≡ true → within (length (t .locks)) k ≡ true →
     After t (take-notice k t) (cond (eqb (lock t k .completion) 2) (k ∷ t .free-locks) (t .free-locks))
@@ -292,30 +128,9 @@ taken-after k t val h w =
     (λ d. let s = noticed-denied (used t) (lock t k) (lock t k .state) (ok-numbered (val .core .lock-ok k)) (eqb-true (lock t k .completion) 2 d) in
     let ok = ok-at (used t) (lock t k) 4 (val .core .lock-ok k) (rw s) in
     rw (d, take-notice) (freed-stop t (val .core) 0 k (ok .nowhere) (λ q i. val .settled q) (rw s) w (nothing-at-zero _)))
-    (λ d. rw (d, take-notice) (read d))
-  where
-    read : eqb (lock t k .completion) 2 ≡ false → After t (move (lock t k .resource) k (notice-read (lock t k)) t) (t .free-locks)
-    read d =
-        let s = noticed-granted (used t) (lock t k) (lock t k .state) (ok-numbered (val .core .lock-ok k)) (eqb-false _ 0 (not-true _ h)) (eqb-false _ 2 d) in
-        let r = lock t k .resource in
-        let m = notice-read (lock t k) in
-        let old = ok-at (used t) (lock t k) 1 (val .core .lock-ok k) (rw s) in
-        let p = old .place in
-        let g : granted m ≡ true = rw s in
-        let b : blocked-lock m ≡ false = rw s in
-        let ok : LockOk (used t) m = as-granted s (record {
-          place = record { in-use = p .in-use; client-low = p .client-low; client-high = p .client-high; held-mode = p .held-mode; asked-mode = p .asked-mode };
-          asks = old .asks;
-          notice = omega arith;
-          not-denied = omega arith;
-        }) in
-        let fit : holds m ≡ true → Fits t r k (m .held) = λ z j i q e. val .core .agree j k i q z e in
-        let c1 = core-move r k m t (val .core) w (λ z. refl) (λ z. refl) ok fit in
-        then-stop t (val .core) r k m (λ q i. val .settled q) w (λ z. refl) (λ z. refl) ok fit _ (free-kept r k m t (rw s) (rw s))
-        (record {
-          still = still-stays t (val .core) r k m c1 w b (grows-move t r k m w (λ o e. (o, refl, refl))) (used-within t r (p .in-use)) b (val .settled r .still);
-          peopled = λ u. granted-full t r k m c1 w g refl;
-        })
+    (λ d. let g = noticed-holds (used t) (lock t k) (lock t k .state) refl (ok-numbered (val .core .lock-ok k)) h (eqb-false _ 2 d) in
+    rw (d, take-notice)
+    (noted-after k 0 0 t val g (noted-ok (used t) (lock t k) 0 0 (val .core .lock-ok k) g (omega arith) (λ o. (omega arith, omega arith)) (λ o. refl))))
 
 pub poll-after : (c : ℕ) (t : Tables) → Valid t →
     After t (poll-change c t .tables) (cond (eqb (poll-change c t .said .answer) 2) (poll-change c t .said .number ∷ t .free-locks) (t .free-locks))
@@ -335,11 +150,12 @@ deny-after k t val b =
     (λ h. rw (h, deny) (restored-after 3 (omega arith) (omega arith) k t val h))
     (λ h. let a : waiting (lock t k) ≡ true = rw h at b in
     let s = eqb-true (lock t k .state) 3 a in
-    let p = ok-at (used t) (lock t k) 3 (val .core .lock-ok k) a .place in
+    let o = ok-at (used t) (lock t k) 3 (val .core .lock-ok k) a in
+    let p = o .place in
     let m = denied-lock (lock t k) in
     rw (h, deny)
     (then-sweep t (val .core) (lock t k .resource) k m (λ q i. val .settled q) (state-within t k 2 s) (λ z. refl) (λ z. absurd (z refl))
-    (as-denied refl (record { client-low = p .client-low; client-high = p .client-high; nowhere = refl; holds = refl; asks = refl; notice = refl }))
+    (as-denied refl (record { client-low = p .client-low; client-high = p .client-high; nowhere = refl; holds = refl; asks = refl; notice = refl; unmarked = o .unmarked }))
     (λ z. clash false z refl) _ (free-kept (lock t k .resource) k m t (rw s) refl) (waiter-gone t val k m a refl refl)))
 
 pub break-after : (t : Tables) → Valid t → After t (break t .tables) (t .free-locks)
@@ -359,7 +175,7 @@ convert-fits k m t c g h =
     (compatible-sym (lock t k .held) (lock t j .held) ∙ c .agree j k n o (or-left _ _ g) e))
     (λ d. fits-true t (c .linked) (lock t k .resource) k m (and-right (null (resource t (lock t k .resource) .convert)) _ (rw d at h)))
 
-in-place-after : (k m : ℕ) (b : Bool) (f : ℕ) (v : List ℕ) (t : Tables) → Valid t → granted (lock t k) ≡ true → m ≤ last-mode → (stores f ≡ true → length v ≡ value-width) → in-place k m t ≡ true →
+pub in-place-after : (k m : ℕ) (b : Bool) (f : ℕ) (v : List ℕ) (t : Tables) → Valid t → granted (lock t k) ≡ true → m ≤ last-mode → (stores f ≡ true → length v ≡ value-width) → in-place k m t ≡ true →
     After t (sweep (lock t k .resource) (move (lock t k .resource) k (held-at m (lock t k)) (leave-value b f v (lock t k .resource) t))) (t .free-locks)
 in-place-after k m b f v t val g low right h =
     let r = lock t k .resource in
@@ -371,7 +187,7 @@ in-place-after k m b f v t val g low right h =
     let w : within (length (t0 .locks)) k ≡ true = rw (q .locks-are) (state-within t k 0 s) in
     let near : Near r (lock t0 k) = λ z. rw (q .lock-is k) in
     let ok : LockOk (used t0) l = as-granted refl (record {
-      place = record { in-use = rw (q .used-is r) (p .in-use); client-low = p .client-low; client-high = p .client-high; held-mode = low; asked-mode = omega arith };
+      place = record { in-use = rw (q .used-is r) (p .in-use); client-low = p .client-low; client-high = p .client-high; held-mode = low; asked-mode = omega arith; mark-mode = p .mark-mode };
       asks = refl;
       notice = omega arith;
       not-denied = omega arith;
@@ -381,7 +197,7 @@ in-place-after k m b f v t val g low right h =
     (then-sweep t0 (q .core) r k l (λ s n. q .settled s (val .settled s)) w near (λ z. refl) ok fit _ (free-kept r k l t0 (rw (q .lock-is k, s)) refl)
     (granted-full t0 r k l (core-move r k l t0 (q .core) w near (λ z. refl) ok fit) w refl refl))
 
-queue-after : (k m : ℕ) (t : Tables) → Valid t → granted (lock t k) ≡ true → m ≤ last-mode → in-place k m t ≡ false →
+pub queue-after : (k m : ℕ) (t : Tables) → Valid t → granted (lock t k) ≡ true → m ≤ last-mode → in-place k m t ≡ false →
     After t (move (lock t k .resource) k (asking m (lock t k)) t) (t .free-locks)
 unfolding in-place
 queue-after k m t val g low h =
@@ -411,7 +227,7 @@ queue-after k m t val g low h =
 
     ok : LockOk (used t) l
     ok = as-converting refl (record {
-      place = record { in-use = p .in-use; client-low = p .client-low; client-high = p .client-high; held-mode = p .held-mode; asked-mode = low };
+      place = record { in-use = p .in-use; client-low = p .client-low; client-high = p .client-high; held-mode = p .held-mode; asked-mode = low; mark-mode = p .mark-mode };
       notice = refl;
     })
 
@@ -441,4 +257,4 @@ unfolding convert-change
 convert-after k m f v t val g low right =
     by-cases (in-place k m t)
     (λ h. rw (h, convert-change) (in-place-after k m _ f v t val g low right h))
-    (λ h. rw (h, convert-change) (queue-after k m t val g low h))
+    (λ h. rw (h, convert-change) (told-after k t _ _ (queue-after k m t val g low h)))

@@ -14,7 +14,8 @@ use Rattle.tables.specs.Validity.{Core, Valid}
 use Rattle.tables.proofs.Pigeonhole.{length-from, same-length}
 use Rattle.rules.specs.Queues.{find}
 use Rattle.rules.specs.Calls.{stores, request-change, convert-change, release-change, cancel-change, locks-of, purge-change, break, poll-change}
-use Rattle.rules.proofs.CallsKeepSound.{After, release-after, cancel-after, poll-after, break-after, convert-after}
+use Rattle.rules.proofs.ChangesKeepSound.{After}
+use Rattle.rules.proofs.CallsKeepSound.{release-after, cancel-after, poll-after, break-after, convert-after}
 use Rattle.rules.proofs.RequestKeepsSound.{request-after}
 use Rattle.rules.proofs.PurgeKeepsSound.{length-pushed, purge-after}
 

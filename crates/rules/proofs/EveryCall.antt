@@ -22,7 +22,8 @@ use Rattle.rules.specs.Theorem.{requests-accepted, releases-accepted, re
 use Rattle.rules.proofs.ResourceChanges.{no-value-length}
 use Rattle.rules.specs.Accepted.{Requestable, Releasable, Convertible, Cancellable, Purgeable}
 use Rattle.rules.proofs.AcceptedCalls.{request-passed, convert-passed, release-passed, cancel-passed, purge-passed}
-use Rattle.rules.proofs.CallsKeepSound.{After, release-after, cancel-after, poll-after, break-after, convert-after}
+use Rattle.rules.proofs.ChangesKeepSound.{After}
+use Rattle.rules.proofs.CallsKeepSound.{release-after, cancel-after, poll-after, break-after, convert-after}
 use Rattle.rules.proofs.RequestKeepsSound.{request-after}
 use Rattle.rules.proofs.PurgeKeepsSound.{purge-after}
 use Rattle.rules.proofs.ChainLengths.{used-locks, release-count, cancel-count, convert-count, poll-count, break-count, purge-count, request-count}

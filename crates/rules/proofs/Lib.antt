@@ -1,6 +1,8 @@
 pub mod WalkSearch
 pub mod SweepLaws
 pub mod ResourceChanges
+pub mod ChangesKeepSound
+pub mod NoticesKeepSound
 pub mod CallsKeepSound
 pub mod RequestKeepsSound
 pub mod PurgeKeepsSound
@@ -11,5 +13,7 @@ pub mod SmallNumbers
 pub mod DeadlockVictim
 pub mod QueueProperties
 pub mod QueueTheorem
+pub mod MarkLaws
+pub mod MarksTheorem
 pub mod BenchTable
 pub mod TheoremExamples

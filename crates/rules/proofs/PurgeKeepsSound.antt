@@ -21,7 +21,7 @@ use Rattle.tables.proofs.ChainMembers.{chain-has, settled-other}
 use Rattle.rules.specs.Queues.{free-lock, settle}
 use Rattle.rules.specs.Calls.{stores, strong, leave-value, locks-of, purge-lock, purge-locks, stands-on, settle-all, purge-change}
 use Rattle.rules.proofs.ResourceChanges.{leave-quiet}
-use Rattle.rules.proofs.CallsKeepSound.{settle-settles, After, free-gained, nothing-at-zero}
+use Rattle.rules.proofs.ChangesKeepSound.{settle-settles, After, free-gained, nothing-at-zero}
 
 -- numbers pushed on a chain one by one
 unfoldable pub pushed : List ℕ → List ℕ → List ℕ

@@ -24,7 +24,7 @@ use Rattle.tables.proofs.StateCases.{StateOk, ok-numbered}
 use Rattle.tables.proofs.Valid.{used-within}
 use Rattle.tables.proofs.ChainMembers.{true-fits, on-chain, holder-within, on-queue, three-queues}
 use Rattle.tables.proofs.Links.{next-here}
-use Rattle.rules.specs.Theorem.{IsLock, IsResource, IsChain, queue-count, home-count, kept-out, convert-head, wait-head, conversion-waits, in-use, QueuesHold}
+use Rattle.rules.specs.Theorem.{IsLock, IsResource, IsChain, queue-count, home-count, keeps-out, kept-out, convert-head, wait-head, conversion-waits, in-use, QueuesHold}
 
 -- res is one of 1..r + 1 exactly if it is one of 1..r, or r + 1
 bits : (q : Bool) (r res : ℕ) → bit (q && within r res) + bit (q && eqb res (suc r)) ≡ bit (q && within (suc r) res)
@@ -52,7 +52,7 @@ module _ (t : Tables) (val : Valid t) where
   lock-high : (k : ℕ) → IsLock (words t) k → k ≤ length (t .locks)
   lock-high k i = omega (arith, locks-word t, i .high)
 
-  lock-is : (k : ℕ) → IsLock (words t) k → read-lock (words t) k ≡ lock t k
+  pub lock-is : (k : ℕ) → IsLock (words t) k → read-lock (words t) k ≡ lock t k
   lock-is k i = lock-read t k (i .low) (lock-high k i)
 
   queue-present : (r : ℕ) → IsResource (words t) r → (f : ℕ) → f < 8 → (1 ≤ r) × (r ≤ length (t .resources)) × (f < 8)
@@ -67,7 +67,7 @@ module _ (t : Tables) (val : Valid t) where
   present (queue r converts) i = queue-present r i 2 (omega arith)
   present (queue r waits) i = queue-present r i 3 (omega arith)
 
-  chain-is : (c : LockChain) → IsChain (words t) c → read-chain (words t) (of-locks c) ≡ chain t c
+  pub chain-is : (c : LockChain) → IsChain (words t) c → read-chain (words t) (of-locks c) ≡ chain t c
   chain-is c i = chain-read t (of-locks c) (valid-readable t val .chains (of-locks c) (present c i))
 
   -- (a)
@@ -137,7 +137,7 @@ module _ (t : Tables) (val : Valid t) where
       of-queue waits = let h = three-ended in search parts depth 20
 
   -- (d) what does not fit is kept out by a lock
-  is-lock : (k : ℕ) → within (length (t .locks)) k ≡ true → IsLock (words t) k
+  pub is-lock : (k : ℕ) → within (length (t .locks)) k ≡ true → IsLock (words t) k
   is-lock k w = let p = within-le (length (t .locks)) k w in record { low = p .0; high = omega (arith, locks-word t) }
 
   kept : (r k i m : ℕ) → ((j : ℕ) → j ≢ k → within (length (t .locks)) j ≡ true → j ≢ i) → fits t r k m ≡ false → kept-out (words t) r i m ≡ true
@@ -147,7 +147,7 @@ module _ (t : Tables) (val : Valid t) where
       (λ z. clash (fits t r k m) (true-fits t (val .core .linked) r k m (λ j n h e. goes j n h e z)) f)
     where
       bars : ℕ → Bool
-      bars j = not (eqb j i) && (holds (read-lock (words t) j) && (eqb (read-lock (words t) j .resource) r && not (compatible (read-lock (words t) j .held) m)))
+      bars j = keeps-out r i m j (read-lock (words t) j)
 
       goes : (j : ℕ) → j ≢ k → holds (lock t j) ≡ true → lock t j .resource ≡ r → kept-out (words t) r i m ≡ false → compatible (lock t j .held) m ≡ true
       goes j n h e z =

@@ -20,7 +20,8 @@ use Rattle.tables.proofs.ChainMembers.{and-bit, on-chain, chain-has, chain-once
 use Rattle.rules.specs.Queues.{find}
 use Rattle.rules.specs.Calls.{new-resource, resource-for, with-resource, holding, queued, request-on, request-change}
 use Rattle.rules.proofs.ResourceChanges.{changed, resources-kept, used-changed, SameChains, core-resource, settled-kept, no-value-length}
-use Rattle.rules.proofs.CallsKeepSound.{After, free-taken, then-stop, full-of, granted-full, fits-alone, Grows, grows-move, head-still, head-new, still-stays}
+use Rattle.rules.proofs.ChangesKeepSound.{After, free-taken, then-stop, full-of, granted-full, fits-alone, Grows, grows-move, head-still, head-new, still-stays}
+use Rattle.rules.proofs.NoticesKeepSound.{told-after}
 
 front-nil : (xs ys : List ℕ) → xs ++ ys ≡ [] → xs ≡ []
 front-nil [] ys e = refl
@@ -58,7 +59,7 @@ module _ (t : Tables) (co : Core t) (r k c m : ℕ) (ks : List ℕ) (rest : (s :
   enter-granted h =
       let l = holding r c m in
       let ok : LockOk (used t) l = as-granted refl (record {
-        place = record { in-use = u; client-low = low; client-high = high; held-mode = mode; asked-mode = omega arith };
+        place = record { in-use = u; client-low = low; client-high = high; held-mode = mode; asked-mode = omega arith; mark-mode = omega arith };
         asks = refl;
         notice = omega arith;
         not-denied = omega arith;
@@ -85,9 +86,10 @@ module _ (t : Tables) (co : Core t) (r k c m : ℕ) (ks : List ℕ) (rest : (s :
 
       ok : LockOk (used t) l
       ok = as-waiting refl (record {
-        place = record { in-use = u; client-low = low; client-high = high; held-mode = omega arith; asked-mode = mode };
+        place = record { in-use = u; client-low = low; client-high = high; held-mode = omega arith; asked-mode = mode; mark-mode = omega arith };
         notice = refl;
         holds = refl;
+        unmarked = refl;
       })
 
       fit : holds l ≡ true → Fits t r k 0
@@ -144,7 +146,7 @@ module _ (c m : ℕ) (n : List ℕ) (t : Tables) (val : Valid t) (low : 1 ≤ c)
       let u : used t (suc r) ≡ true = unfold used in rw (found n t r e, some) in
       by-cases (admits t (suc r) m)
       (λ h. rw (h, request-on) (enter-granted t (val .core) (suc r) k c m ks (λ s i. val .settled s) u (val .settled (suc r) .still) frees low high mode h))
-      (λ h. rw (h, request-on) (enter-waiting t (val .core) (suc r) k c m ks (λ s i. val .settled s) u (val .settled (suc r) .still) frees low high mode h))
+      (λ h. rw (h, request-on) (told-after k t _ ks (enter-waiting t (val .core) (suc r) k c m ks (λ s i. val .settled s) u (val .settled (suc r) .still) frees low high mode h)))
 
   -- on a new name it is always granted
   module _ (r : ℕ) (e : find n t ≡ 0) (spare : 1 ≤ count r (t .free-resources)) where

@@ -58,13 +58,13 @@ unfolding look-refusal
 look-small c k t = search tests-small depth 20
 
 -- ANSWERS of the calls on a state
-completion-small : (u : ℕ → Bool) (l : Lock) (s : ℕ) → StateOk u l s → l .completion < 2 ^ 16
-completion-small u l zero ok = omega (arith, ap (λ (x : Lock). x .completion) ok)
-completion-small u l (suc zero) ok = omega (arith, ok .notice)
-completion-small u l (suc (suc zero)) ok = omega (arith, ok .notice)
-completion-small u l (suc (suc (suc zero))) ok = omega (arith, ok .notice)
-completion-small u l (suc (suc (suc (suc zero)))) ok = omega (arith, ok .notice)
-completion-small u l (suc (suc (suc (suc (suc n))))) ok = absurd ok
+notice-small : (u : ℕ → Bool) (l : Lock) (s : ℕ) → StateOk u l s → (l .completion < 2 ^ 16) × (l .mark < 2 ^ 16)
+notice-small u l zero ok = (omega (arith, ap (λ (x : Lock). x .completion) ok), omega (arith, ap (λ (x : Lock). x .mark) ok))
+notice-small u l (suc zero) ok = (omega (arith, ok .notice), omega (arith, ok .place .mark-mode))
+notice-small u l (suc (suc zero)) ok = (omega (arith, ok .notice), omega (arith, ok .place .mark-mode))
+notice-small u l (suc (suc (suc zero))) ok = (omega (arith, ok .notice), omega (arith, ok .unmarked))
+notice-small u l (suc (suc (suc (suc zero)))) ok = (omega (arith, ok .notice), omega (arith, ok .unmarked))
+notice-small u l (suc (suc (suc (suc (suc n))))) ok = absurd ok
 
 convert-small : (k m f : ℕ) (v : List ℕ) (t : Tables) → Small (convert-change k m f v t .said)
 unfolding convert-change
@@ -123,8 +123,8 @@ module _ (t : Tables) (c : Core t) where
       go : (n : ℕ) → first-that (λ k. eqb (lock t k .client) i) (t .notices) ≡ n → Small (poll-notice n t .said)
       go zero e = answer-small 0 (omega arith)
       go (suc k) e =
-          small-accepted (lock t (suc k) .completion) (suc k)
-          (completion-small (used t) (lock t (suc k)) (lock t (suc k) .state) (ok-numbered (c .lock-ok (suc k)))) (number-small notices (suc k) (first-in _ (t .notices) k e))
+          let n = notice-small (used t) (lock t (suc k)) (lock t (suc k) .state) (ok-numbered (c .lock-ok (suc k))) in
+          record { refusal = omega arith; answer = n .0; number = number-small notices (suc k) (first-in _ (t .notices) k e); extra = n .1; silent = λ z. absurd (z refl) }
 
   step-small : (call : Call) → Small (step-of call t .said)
   unfolding request convert release cancel purge poll request-refusal convert-refusal release-refusal cancel-refusal purge-refusal poll-refusal release-change

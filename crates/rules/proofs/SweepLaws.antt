@@ -25,7 +25,7 @@ module _ (t : Tables) (c : Core t) where
       let b = blocked-place t c r k m in
       core-move r k (granted-lock (lock t k)) t c (b .2) (λ z. b .1) (λ z. b .1)
       (as-granted refl (record {
-        place = record { in-use = b .0 .in-use; client-low = b .0 .client-low; client-high = b .0 .client-high; held-mode = b .0 .asked-mode; asked-mode = omega arith };
+        place = record { in-use = b .0 .in-use; client-low = b .0 .client-low; client-high = b .0 .client-high; held-mode = b .0 .asked-mode; asked-mode = omega arith; mark-mode = b .0 .mark-mode };
         asks = refl;
         notice = omega arith;
         not-denied = omega arith;
@@ -152,25 +152,3 @@ sweep-is-line r t c = loops-line r (resource t r .convert) (resource t r .wait) 
 
 pub sweep-swept : (r : ℕ) (t : Tables) → Core t → Swept r t (sweep r t)
 sweep-swept r t c = rw (sweep-is-line r t c) (swept r (line t r) t c refl)
-
--- a move written out, where the states are known: a conversion is granted
-pub grant-converting : (r k : ℕ) (t : Tables) → lock t k .state ≡ 2 → lock t k .completion ≡ 0 →
-    grant-lock r k t ≡
-    record {
-      resources = put (t .resources) r (record {
-        name = resource t r .name;
-        value = resource t r .value;
-        valid = resource t r .valid;
-        grant = resource t r .grant ++ (k ∷ []);
-        convert = remove k (resource t r .convert);
-        wait = resource t r .wait;
-      });
-      locks = put (t .locks) k (granted-lock (lock t k));
-      free-resources = t .free-resources;
-      free-locks = t .free-locks;
-      denied = t .denied;
-      blocked = remove k (t .blocked);
-      notices = t .notices ++ (k ∷ []);
-    }
-unfolding grant-lock move relist shift shift-front granted-lock
-grant-converting r k t s c = rw (s, c)

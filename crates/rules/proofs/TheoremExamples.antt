@@ -12,13 +12,14 @@ use Rattle.tables.specs.Layout.{rows, sheet, by-address, words, slot, slots, fo
 use Rattle.tables.specs.Grants.{holders, fits, convert-grantable, admits, wait-grantable, grantable-head, no-grantable-head, empty}
 use Rattle.tables.specs.Sound.{sizes-right, zeros-right, resource-index, lock-index, indices-right, ends, chain-ends, chains-end, all-zero, free-resource-right, name-unique, used-resource-right, resource-right, stands-right, home-right, client-right, modes-right, on-resource, fields-right, lock-right, linked-right, holders-compatible, state-right, sound}
 use Rattle.rules.specs.Queues.{granted-lock, grant-lock, grant-while, grant-converts, grant-waits, sweep, free-lock, settle, find}
-use Rattle.rules.specs.Calls.{accepted, unless, refused-or, stores, spoils, no-queue, request-flags, convert-flags, name-right, value-right, own, strong, with-value, leave-value, resource-for, with-resource, request-on, request-change, at-once, request-refusal, request, in-place, convert-change, convert-refusal, convert, cancel-change, cancel-refusal, cancel}
+use Rattle.rules.specs.Deadlock.{obstacles}
+use Rattle.rules.specs.Calls.{accepted, unless, refused-or, stores, spoils, no-queue, request-flags, convert-flags, name-right, value-right, own, strong, with-value, leave-value, larger, mark-lock, mark-locks, tell-obstacles, resource-for, with-resource, request-on, request-change, at-once, request-refusal, request, in-place, convert-change, convert-refusal, convert, cancel-change, cancel-refusal, cancel}
 use Rattle.rules.specs.Entries.{Lent, lent, lent-of, Call, to-cancel, written-back, if-sound, entry, call-entry}
 use Rattle.rules.specs.Bench.{requests-a, converts-to, NL, CR, EX}
 use Rattle.rules.specs.Theorem.{lent-after-calls, sum-of, requests-accepted, releases-accepted, requests-cancelled, locks-purged, polled-denials, in-use, queue-count, home-count, kept-out, QueuesHold, Demand}
 
 -- One resource and three locks. Lock 1 holds CR, and lock 2 NL. Lock 2 asks for EX, takes that back and asks again: it waits on the convert chain,
--- kept out by the CR. Lock 3 asks for CR, which goes with both held modes: it waits behind the conversion.
+-- kept out by the CR, whose lock has the mark EX. Lock 3 asks for CR, which goes with both held modes: it waits behind the conversion.
 abbrev three-locks : List Call
 three-locks =
     requests-a 1 CR ∷ requests-a 2 NL ∷ converts-to 2 2 EX ∷ to-cancel 2 2 ∷ converts-to 2 2 EX ∷ requests-a 3 CR ∷ []
@@ -27,11 +28,11 @@ three-locks =
 abbrev three-left : Lent
 three-left =
     lent
-    (1 ∷ 3 ∷ 0 ∷ 0 ∷ 0 ∷ 2 ∷ 0 ∷ 0
+    (1 ∷ 3 ∷ 0 ∷ 0 ∷ 0 ∷ 2 ∷ 1 ∷ 0
     ∷ 0 ∷ 1 ∷ 2 ∷ 3 ∷ 1 ∷ 1 ∷ 0 ∷ 0
-    ∷ 0 ∷ 0 ∷ 0 ∷ 1 ∷ 1 ∷ 1 ∷ CR ∷ 0 ∷ 0
-    ∷ 0 ∷ 3 ∷ 0 ∷ 1 ∷ 2 ∷ 2 ∷ NL ∷ EX ∷ 0
-    ∷ 0 ∷ 0 ∷ 0 ∷ 1 ∷ 3 ∷ 3 ∷ 0 ∷ CR ∷ 0 ∷ [])
+    ∷ 0 ∷ 0 ∷ 0 ∷ 1 ∷ 1 ∷ 1 ∷ CR ∷ 0 ∷ 0 ∷ EX
+    ∷ 0 ∷ 3 ∷ 0 ∷ 1 ∷ 2 ∷ 2 ∷ NL ∷ EX ∷ 0 ∷ 0
+    ∷ 0 ∷ 0 ∷ 0 ∷ 1 ∷ 3 ∷ 3 ∷ 0 ∷ CR ∷ 0 ∷ 0 ∷ [])
     (65 ∷ replicate 95 0)
 
 -- there is no lock 0 and none above 3, no resource 0 and none above 1
@@ -108,5 +109,5 @@ conversion-taken-back = refl
 
 -- DEMAND 3 for these calls: they leave `three-left`, and their answers add up
 pub three-locks-hold : Demand three-locks (lent-of (started 1 3))
-unfolding lent-after-calls sum-of requests-accepted releases-accepted requests-cancelled locks-purged polled-denials in-use call-entry entry if-sound written-back started no-value lock resource shift shift-front relist move move-resource rows sheet by-address words slot slots follow read-chain read-lock slot-in read-resource read count remove all any keep first-that next same holders fits convert-grantable admits wait-grantable grantable-head no-grantable-head empty sizes-right zeros-right resource-index lock-index indices-right ends chain-ends chains-end all-zero free-resource-right name-unique used-resource-right resource-right stands-right home-right client-right modes-right on-resource fields-right lock-right linked-right holders-compatible state-right sound granted-lock grant-lock grant-while grant-converts grant-waits sweep free-lock settle find unless refused-or stores spoils no-queue request-flags convert-flags name-right value-right own strong with-value leave-value resource-for with-resource request-on request-change at-once request-refusal request in-place convert-change convert-refusal convert cancel-change cancel-refusal cancel matrix compatible all-modes down
+unfolding lent-after-calls sum-of requests-accepted releases-accepted requests-cancelled locks-purged polled-denials in-use call-entry entry if-sound written-back started no-value lock resource shift shift-front relist move move-resource rows sheet by-address words slot slots follow read-chain read-lock slot-in read-resource read count remove all any keep first-that next same holders fits convert-grantable admits wait-grantable grantable-head no-grantable-head empty sizes-right zeros-right resource-index lock-index indices-right ends chain-ends chains-end all-zero free-resource-right name-unique used-resource-right resource-right stands-right home-right client-right modes-right on-resource fields-right lock-right linked-right holders-compatible state-right sound granted-lock grant-lock grant-while grant-converts grant-waits sweep free-lock settle find unless refused-or stores spoils no-queue request-flags convert-flags name-right value-right own strong with-value leave-value obstacles larger mark-lock mark-locks tell-obstacles resource-for with-resource request-on request-change at-once request-refusal request in-place convert-change convert-refusal convert cancel-change cancel-refusal cancel matrix compatible all-modes down
 three-locks-hold = record { queues = three-hold; balance = refl }

@@ -6,7 +6,7 @@ use Prim.Native.Nat.{ℕ, _≤_}
 use lib.ListN.{length}
 use lib.Dec.{eqb}
 use Rattle.tables.specs.Lists.{null}
-use Rattle.tables.specs.State.{Tables, lock, granted, blocked-lock, last-client, last-mode, name-width, value-width}
+use Rattle.tables.specs.State.{Tables, lock, granted, blocked-lock, unread, last-client, last-mode, name-width, value-width}
 use Rattle.tables.specs.Validity.{Valid}
 use Rattle.rules.specs.Queues.{find}
 use Rattle.rules.specs.Calls.{stores, no-queue, at-once, in-place}
@@ -29,9 +29,10 @@ pub record Releasable (k f : ℕ) (v : List ℕ) (t : Tables) : Type 0 where
   pub is-granted : granted (lock t k) ≡ true
   pub right : stores f ≡ true → length v ≡ value-width
 
--- .. m is a mode, and where flag 4 forbids to queue the lock takes it in place
+-- .. its completion is read, m is a mode, and where flag 4 forbids to queue the lock takes it in place
 pub record Convertible (k m f : ℕ) (v : List ℕ) (t : Tables) : Type 0 where
   pub valid : Valid t
+  pub is-read : unread (lock t k) ≡ false
   pub is-granted : granted (lock t k) ≡ true
   pub mode : m ≤ last-mode
   pub right : stores f ≡ true → length v ≡ value-width

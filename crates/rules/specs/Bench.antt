@@ -1,4 +1,5 @@
--- The bench sequences that document 01 marks M, as one table of calls and what each answers. Every completion is polled before the next step.
+-- The bench sequences that document 01 marks M, as one table of calls and what each answers, with the marks that polls show since R-1. Every completion
+-- is polled before the next step.
 use mathlib.Core.Path.{_≡_}
 use mathlib.Core.Bool.{Bool, true, _&&_}
 use mathlib.Core.List.{List, [], _∷_}
@@ -70,7 +71,7 @@ PW = 4
 abbrev pub EX : ℕ
 EX = 5
 
--- the client c requests the mode m; converts its lock k; releases it; has no completion, or reads that of k
+-- the client c requests the mode m; converts its lock k; releases it; has no notice, or that k is granted; ..
 abbrev pub requests-a : ℕ → ℕ → Call
 requests-a c m = to-request c m 0 name-a
 
@@ -89,35 +90,45 @@ hears-nothing c = says (to-poll c) 0 0
 abbrev pub hears-granted : ℕ → ℕ → BenchLine
 hears-granted c k = says (to-poll c) 1 k
 
+-- .. or that k is in the way of the mode m, without a completion or with one
+abbrev pub hears-both : ℕ → ℕ → ℕ → ℕ → BenchLine
+hears-both c e k m = calls (to-poll c) (record { refusal = 0; answer = e; number = k; extra = m })
+
+abbrev pub hears-mark : ℕ → ℕ → ℕ → BenchLine
+hears-mark c k m = hears-both c 0 k m
+
 -- M: PR, PR; lock 1 to CW answers 2
 abbrev pub shared-to-concurrent : List BenchLine
-shared-to-concurrent = says (requests-a 1 PR) 1 1 ∷ says (requests-a 2 PR) 1 2 ∷ says (converts-to 1 1 CW) 2 0 ∷ []
+shared-to-concurrent =
+    says (requests-a 1 PR) 1 1 ∷ says (requests-a 2 PR) 1 2 ∷ says (converts-to 1 1 CW) 2 0 ∷ hears-mark 2 2 CW ∷ hears-nothing 1 ∷ []
 
 -- M: PR held, CW waits; lock 1 to CW answers 1, lock 2 is granted
 abbrev pub alone-to-concurrent : List BenchLine
 alone-to-concurrent =
-    says (requests-a 1 PR) 1 1 ∷ says (requests-a 2 CW) 2 2 ∷ says (converts-to 1 1 CW) 1 0 ∷ hears-granted 2 2 ∷ hears-nothing 2 ∷ []
+    says (requests-a 1 PR) 1 1 ∷ says (requests-a 2 CW) 2 2 ∷ hears-mark 1 1 CW ∷ says (converts-to 1 1 CW) 1 0 ∷ hears-granted 2 2 ∷ hears-nothing 2
+    ∷ hears-nothing 1 ∷ []
 
 -- M: EX held; CR waits; flag 4 instead gives 13
 abbrev pub reader-waits : List BenchLine
-reader-waits = says (requests-a 1 EX) 1 1 ∷ says (requests-a 2 CR) 2 2 ∷ []
+reader-waits = says (requests-a 1 EX) 1 1 ∷ says (requests-a 2 CR) 2 2 ∷ hears-mark 1 1 CR ∷ hears-nothing 1 ∷ []
 
 abbrev pub reader-declines : List BenchLine
-reader-declines = says (requests-a 1 EX) 1 1 ∷ refuses (to-request 2 CR 4 name-a) 13 ∷ []
+reader-declines = says (requests-a 1 EX) 1 1 ∷ refuses (to-request 2 CR 4 name-a) 13 ∷ hears-nothing 1 ∷ []
 
 -- M: NL beside EX is granted
 abbrev pub null-beside-exclusive : List BenchLine
-null-beside-exclusive = says (requests-a 1 EX) 1 1 ∷ says (requests-a 2 NL) 1 2 ∷ []
+null-beside-exclusive = says (requests-a 1 EX) 1 1 ∷ says (requests-a 2 NL) 1 2 ∷ hears-nothing 1 ∷ []
 
 -- M: one client, EX then EX on one name: break answers 2
 abbrev pub own-deadlock : List BenchLine
-own-deadlock = says (requests-a 1 EX) 1 1 ∷ says (requests-a 1 EX) 2 2 ∷ says to-break 2 2 ∷ says (to-poll 1) 2 2 ∷ []
+own-deadlock =
+    says (requests-a 1 EX) 1 1 ∷ says (requests-a 1 EX) 2 2 ∷ says to-break 2 2 ∷ hears-mark 1 1 EX ∷ says (to-poll 1) 2 2 ∷ hears-nothing 1 ∷ []
 
 -- M: 1 holds A, 2 holds B (EX), 1 requests B, 2 requests A: break answers 3, then 0
 abbrev pub crossed-deadlock : List BenchLine
 crossed-deadlock =
     says (requests-a 1 EX) 1 1 ∷ says (requests-b 2 EX) 1 2 ∷ says (requests-b 1 EX) 2 3 ∷ says (requests-a 2 EX) 2 4
-    ∷ says to-break 3 3 ∷ says (to-poll 1) 2 3 ∷ says to-break 0 0 ∷ []
+    ∷ says to-break 3 3 ∷ hears-mark 1 1 EX ∷ says (to-poll 1) 2 3 ∷ hears-mark 2 2 EX ∷ says to-break 0 0 ∷ []
 
 -- M (guide 2.3.9): PW held; three NL convert to EX, PW, CR; CR, PR, CR wait. Lock 1 to CR: nothing moves. Release 1: lock 2 has EX.
 -- Lock 2 to NL: 3, 4, 5 granted; 6, 7 wait. Release 4, 5: nothing. Release 3: 6 and 7 granted.
@@ -126,7 +137,7 @@ guide =
     says (requests-a 1 PW) 1 1 ∷ says (requests-a 2 NL) 1 2 ∷ says (requests-a 3 NL) 1 3 ∷ says (requests-a 4 NL) 1 4
     ∷ says (converts-to 2 2 EX) 2 0 ∷ says (converts-to 3 3 PW) 2 0 ∷ says (converts-to 4 4 CR) 2 0
     ∷ says (requests-a 5 CR) 2 5 ∷ says (requests-a 6 PR) 2 6 ∷ says (requests-a 7 CR) 2 7
-    ∷ says (converts-to 1 1 CR) 1 0 ∷ hears-nothing 2 ∷ hears-nothing 3 ∷ hears-nothing 4 ∷ hears-nothing 5 ∷ hears-nothing 6 ∷ hears-nothing 7
+    ∷ hears-mark 1 1 EX ∷ says (converts-to 1 1 CR) 1 0 ∷ hears-nothing 2 ∷ hears-nothing 3 ∷ hears-nothing 4 ∷ hears-nothing 5 ∷ hears-nothing 6 ∷ hears-nothing 7
     ∷ says (gives-up 1 1) 0 0 ∷ hears-granted 2 2 ∷ hears-nothing 3 ∷ hears-nothing 4 ∷ hears-nothing 5 ∷ hears-nothing 6 ∷ hears-nothing 7
     ∷ says (converts-to 2 2 NL) 1 0 ∷ hears-nothing 2 ∷ hears-granted 3 3 ∷ hears-granted 4 4 ∷ hears-granted 5 5 ∷ hears-nothing 6 ∷ hears-nothing 7
     ∷ says (gives-up 4 4) 0 0 ∷ hears-nothing 6 ∷ hears-nothing 7
@@ -150,13 +161,13 @@ bench =
 abbrev pub requests-c : ℕ → ℕ → Call
 requests-c c m = to-request c m 0 (67 ∷ [])
 
--- a cancel sweeps: the request behind the cancelled one is granted
+-- a cancel sweeps: the request behind the cancelled one is granted; lock 1's mark has outlasted its conversion and the request that it kept waiting
 abbrev pub cancel-sweeps : List BenchLine
 cancel-sweeps =
     says (requests-a 1 PR) 1 1 ∷ says (requests-a 2 EX) 2 2 ∷ says (requests-a 3 CW) 2 3 ∷ says (converts-to 1 1 CW) 1 0 ∷ hears-nothing 3
-    ∷ says (to-cancel 2 2) 2 0 ∷ hears-granted 3 3 ∷ []
+    ∷ says (to-cancel 2 2) 2 0 ∷ hears-granted 3 3 ∷ hears-mark 1 1 EX ∷ []
 
--- every release sweeps, the second too, while the first one's notice is unread
+-- every release sweeps, the second too, while the first one's notice is unread; a mark stops none
 abbrev pub releases-sweep : List BenchLine
 releases-sweep =
     says (requests-a 1 EX) 1 1 ∷ says (requests-a 2 EX) 2 2 ∷ says (requests-b 1 EX) 1 3 ∷ says (requests-b 3 EX) 2 4
@@ -166,7 +177,8 @@ releases-sweep =
 abbrev pub behind-the-cycle : List BenchLine
 behind-the-cycle =
     says (requests-a 1 EX) 1 1 ∷ says (requests-b 2 EX) 1 2 ∷ says (requests-c 1 EX) 1 3 ∷ says (requests-c 3 EX) 2 4
-    ∷ says (requests-b 1 EX) 2 5 ∷ says (requests-a 2 EX) 2 6 ∷ says to-break 5 5 ∷ says (to-poll 1) 2 5 ∷ says to-break 0 0 ∷ []
+    ∷ says (requests-b 1 EX) 2 5 ∷ says (requests-a 2 EX) 2 6 ∷ says to-break 5 5 ∷ hears-mark 1 3 EX ∷ hears-mark 1 1 EX
+    ∷ says (to-poll 1) 2 5 ∷ says to-break 0 0 ∷ []
 
 -- a purge counts locks, and not the resources where they stood
 abbrev pub purge-counts-locks : List BenchLine
@@ -205,6 +217,19 @@ notices-in-order =
     says (requests-a 1 EX) 1 1 ∷ says (requests-a 2 NL) 1 2 ∷ says (requests-a 2 CR) 2 3 ∷ says (converts-to 2 2 PR) 2 0
     ∷ says (gives-up 1 1) 0 0 ∷ hears-granted 2 2 ∷ hears-granted 2 3 ∷ hears-nothing 2 ∷ []
 
+-- a raised mark leaves its lock in its place; it is polled once; and a mark goes with its lock
+abbrev pub raised-in-place : List BenchLine
+raised-in-place =
+    says (requests-a 1 PR) 1 1 ∷ says (requests-b 1 PR) 1 2 ∷ says (requests-a 2 CW) 2 3 ∷ says (requests-b 2 CW) 2 4 ∷ says (requests-a 3 EX) 2 5
+    ∷ hears-mark 1 1 EX ∷ hears-mark 1 2 CW ∷ hears-nothing 1 ∷ says (requests-b 3 EX) 2 6 ∷ says (gives-up 1 2) 0 0 ∷ hears-nothing 1 ∷ []
+
+-- a converting lock is told too, after the granted ones, and hears of its mark with its completion
+abbrev pub converting-told : List BenchLine
+converting-told =
+    says (requests-a 1 PR) 1 1 ∷ says (requests-a 2 PR) 1 2 ∷ says (requests-a 1 PR) 1 3 ∷ says (converts-to 1 1 EX) 2 0 ∷ hears-mark 1 3 EX ∷ hears-mark 2 2 EX
+    ∷ says (requests-a 3 CW) 2 4 ∷ hears-mark 2 2 CW ∷ says (gives-up 2 2) 0 0 ∷ hears-mark 1 3 CW ∷ says (gives-up 1 3) 0 0
+    ∷ hears-both 1 1 1 CW ∷ hears-nothing 1 ∷ []
+
 -- 11 before 12: neither a resource nor a lock is left
 abbrev pub no-record-left : List BenchLine
 no-record-left =
@@ -215,7 +240,7 @@ no-record-left =
 abbrev pub mistakes : List (List BenchLine)
 mistakes =
     cancel-sweeps ∷ releases-sweep ∷ behind-the-cycle ∷ purge-counts-locks ∷ flags-act ∷ reader-leaves-no-value ∷ purge-spoils ∷ notices-in-order
-    ∷ no-record-left ∷ []
+    ∷ raised-in-place ∷ converting-told ∷ no-record-left ∷ []
 
 -- each sequence starts on fresh tables with R 4, L 8, whatever was in them
 abbrev pub fresh : Lent → Lent

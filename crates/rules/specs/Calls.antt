@@ -1,4 +1,5 @@
--- The seven calls on a state: for each its refusals, in document 01's order, and what it answers and changes where none fits.
+-- The seven calls on a state: for each its refusals, in document 01's order, and what it answers and changes where none fits. Marks are document 02's
+-- (R-1).
 use mathlib.Core.Bool.{Bool, true, false, _&&_, _||_, not, cond}
 use mathlib.Core.List.{List, [], _∷_, _++_}
 use Prim.Native.Nat.{ℕ, zero, suc, _/_, _%_}
@@ -7,15 +8,15 @@ use lib.Dec.{eqb, leb, ltb}
 use Rattle.modes.specs.Modes.{down}
 use Rattle.tables.specs.Lists.{within, any, keep, first, first-that, null, from}
 use Rattle.tables.specs.declared.Lock.{Lock}
-use Rattle.tables.specs.State.{Resource, Tables, name-width, value-width, no-value, new-lock, denied-lock, changed-lock, lock, resource, granted, converting, blocked-lock, unread, move, move-resource, state-free, state-granted, state-converting, state-waiting, completion-none, completion-denied, completion-conversion-denied, last-mode}
+use Rattle.tables.specs.State.{Resource, Tables, name-width, value-width, no-value, new-lock, denied-lock, changed-lock, with-notice, lock, resource, granted, converting, blocked-lock, unread, move, move-resource, state-free, state-granted, state-converting, state-waiting, completion-none, completion-denied, completion-conversion-denied, mark-none, last-mode}
 use Rattle.tables.specs.Grants.{holders, fits, admits}
 use Rattle.tables.specs.Sound.{client-right}
 use Rattle.rules.specs.Queues.{sweep, free-lock, settle, find}
-use Rattle.rules.specs.Deadlock.{victim}
+use Rattle.rules.specs.Deadlock.{obstacles, victim}
 pub use Rattle.rules.specs.declared.Said.{Said}
 
--- WHAT A CALL SAYS: a refusal, or 0 where it is accepted; its answer; a lock's number, or a further count; and room for one number more. What it
--- doesn't say is zero. The record is the code's struct, `Said`.
+-- WHAT A CALL SAYS: a refusal, or 0 where it is accepted; its answer; a lock's number, or a further count; and one number more, which is poll's mark.
+-- What it doesn't say is zero. The record is the code's struct, `Said`.
 abbrev pub accepted : ℕ → ℕ → Said
 accepted a k = record { refusal = 0; answer = a; number = k; extra = 0 }
 
@@ -89,6 +90,25 @@ with-value f v x =
 unfoldable pub leave-value : Bool → ℕ → List ℕ → ℕ → Tables → Tables
 leave-value acts f v r t = elim acts [ true ↦ move-resource r (with-value f v (resource t r)) t | false ↦ t ]
 
+-- MARKS. "a mark: the asked mode, or the larger of that and a mark it has". `move` puts a lock that had no notice at the end of the notice chain, and
+-- leaves one that had in its place.
+unfoldable pub larger : ℕ → ℕ → ℕ
+larger a b = cond (leb a b) b a
+
+unfoldable pub mark-lock : ℕ → ℕ → Tables → Tables
+mark-lock m j t =
+    let l = lock t j in
+    move (l .resource) j (with-notice (l .completion) (larger m (l .mark)) l) t
+
+unfoldable pub mark-locks : ℕ → List ℕ → Tables → Tables
+mark-locks m [] t = t
+mark-locks m (j ∷ js) t = mark-locks m js (mark-lock m j t)
+
+-- the lock k has begun to wait: "each other lock there whose held mode is incompatible with the asked one gets a mark", "in grant, then convert chain
+-- order". These are the locks by which it waits in the break rule too.
+unfoldable pub tell-obstacles : ℕ → Tables → Tables
+tell-obstacles k t = mark-locks (lock t k .asked) (obstacles t k) t
+
 -- REQUEST. "A new name takes a resource: value zeros, valid."
 abbrev pub new-resource : List ℕ → Resource
 new-resource n = record { name = n; value = no-value; valid = 1; grant = []; convert = []; wait = [] }
@@ -108,10 +128,14 @@ holding r c m = new-lock r c state-granted m 0
 abbrev pub queued : ℕ → ℕ → ℕ → Lock
 queued r c m = new-lock r c state-waiting 0 m
 
--- the lock k is granted (answer 1) if the convert chain is empty and the mode is compatible with every held mode; else it waits (2)
+-- the lock k is granted (answer 1) if the convert chain is empty and the mode is compatible with every held mode; else it waits (2), and whoever is
+-- in its way is told
 unfoldable pub request-on : ℕ → ℕ → ℕ → ℕ → Tables → Step
 request-on r k c m t =
-    elim (admits t r m) [ true ↦ accepted-step 1 k (move r k (holding r c m) t) | false ↦ accepted-step 2 k (move r k (queued r c m) t) ]
+    elim (admits t r m) [
+      | true ↦ accepted-step 1 k (move r k (holding r c m) t)
+      | false ↦ accepted-step 2 k (tell-obstacles k (move r k (queued r c m) t))
+    ]
 
 unfoldable pub request-change : ℕ → ℕ → List ℕ → Tables → Step
 request-change c m n t = request-on (resource-for (find n t) t) (first (t .free-locks)) c m (with-resource (find n t) n t)
@@ -147,7 +171,7 @@ convert-change k m f v t =
     let r = lock t k .resource in
     elim (in-place k m t) [
       | true ↦ accepted-step 1 0 (sweep r (move r k (held-at m (lock t k)) (leave-value (strong (lock t k .held) && ltb m (lock t k .held)) f v r t)))
-      | false ↦ accepted-step 2 0 (move r k (asking m (lock t k)) t)
+      | false ↦ accepted-step 2 0 (tell-obstacles k (move r k (asking m (lock t k)) t))
     ]
 
 unfoldable pub convert-refusal : ℕ → ℕ → ℕ → ℕ → List ℕ → Tables → ℕ
@@ -240,9 +264,9 @@ deny-victim (suc k) t = accepted-step (suc k) (suc k) (deny (suc k) t)
 unfoldable pub break : Tables → Step
 break t = deny-victim (victim t) t
 
--- POLL
+-- POLL. It "answers the mark too and clears both".
 abbrev pub notice-read : Lock → Lock
-notice-read l = changed-lock (l .state) (l .held) (l .asked) completion-none l
+notice-read l = with-notice completion-none mark-none l
 
 -- "Completion 2 frees the lock."
 unfoldable pub take-notice : ℕ → Tables → Tables
@@ -254,7 +278,9 @@ take-notice k t =
 
 unfoldable pub poll-notice : ℕ → Tables → Step
 poll-notice zero t = accepted-step completion-none 0 t
-poll-notice (suc k) t = accepted-step (lock t (suc k) .completion) (suc k) (take-notice (suc k) t)
+poll-notice (suc k) t =
+    let l = lock t (suc k) in
+    record { said = record { refusal = 0; answer = l .completion; number = suc k; extra = l .mark }; tables = take-notice (suc k) t }
 
 unfoldable pub poll-change : ℕ → Tables → Step
 poll-change c t = poll-notice (first-that (λ k. eqb (lock t k .client) c) (t .notices)) t

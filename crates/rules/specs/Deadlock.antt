@@ -26,9 +26,11 @@ ahead t a =
     cond (waiting (lock t a)) (x .convert ++ before a (x .wait)) (before a (x .convert))
 
 -- "any lock other than a whose held mode there is incompatible with a's asked mode"
+abbrev pub in-the-way : Tables → ℕ → ℕ → Bool
+in-the-way t a j = not (eqb j a) && not (compatible (lock t j .held) (lock t a .asked))
+
 unfoldable pub obstacles : Tables → ℕ → List ℕ
-obstacles t a =
-    keep (λ j. not (eqb j a) && not (compatible (lock t j .held) (lock t a .asked))) (holders t (lock t a .resource))
+obstacles t a = keep (in-the-way t a) (holders t (lock t a .resource))
 
 -- who owns a lock; a blocked lock leads to the blocked locks of the owners that are in its way
 abbrev pub owner : Lock → ℕ

@@ -6,5 +6,6 @@ pub mod Entries
 pub mod Images
 pub mod Numbers
 pub mod Theorem
+pub mod Marks
 pub mod Bench
 pub mod Accepted

@@ -8,6 +8,7 @@ use lib.ListN.{length}
 use lib.Dec.{eqb}
 use Rattle.modes.specs.Modes.{compatible}
 use Rattle.tables.specs.Lists.{count, bit, any, keep, from}
+use Rattle.tables.specs.declared.Lock.{Lock}
 use Rattle.tables.specs.State.{holds, grants, converts, waits, LockChain, free-locks, denied, blocked, notices, queue, of-locks, state-free, completion-denied}
 use Rattle.tables.specs.Layout.{of-resource, resources-in, locks-in, word-in, link-in, read-chain, read-lock}
 use Rattle.tables.specs.Sound.{ends, sound}
@@ -81,11 +82,13 @@ IsChain ws blocked = Unit {0}
 IsChain ws notices = Unit {0}
 IsChain ws (queue r q) = IsResource ws r
 
--- some lock other than k holds a mode on r that is incompatible with m
+-- the lock j, whose record is l, is another than k and holds a mode on r that is incompatible with m
+abbrev pub keeps-out : ℕ → ℕ → ℕ → ℕ → Lock → Bool
+keeps-out r k m j l = not (eqb j k) && (holds l && (eqb (l .resource) r && not (compatible (l .held) m)))
+
+-- some lock does so
 unfoldable pub kept-out : List ℕ → ℕ → ℕ → ℕ → Bool
-kept-out ws r k m =
-    any (λ j. not (eqb j k) && (holds (read-lock ws j) && (eqb (read-lock ws j .resource) r && not (compatible (read-lock ws j .held) m))))
-    (from 1 (locks-in ws))
+kept-out ws r k m = any (λ j. keeps-out r k m j (read-lock ws j)) (from 1 (locks-in ws))
 
 abbrev pub convert-head : List ℕ → ℕ → ℕ
 convert-head ws r = word-in ws (of-resource r 2)

@@ -55,21 +55,23 @@ module _ (ws : List ℕ) (s : Sized ws) where
       held = getD ws (x + 6) 0;
       asked = getD ws (x + 7) 0;
       completion = getD ws (x + 8) 0;
+      mark = getD ws (x + 9) 0;
     } ≡ read-lock ws k
     unfolding read-lock
     lock-read = rw e
 
-    pub lock-stored : (m : Lock) → set (set (set (set (set (set ws (x + 3) (m .resource)) (x + 4) (m .client)) (x + 5) (m .state)) (x + 6) (m .held)) (x + 7) (m .asked)) (x + 8) (m .completion) ≡ set-cells (resources-in ws) k m ws
+    pub lock-stored : (m : Lock) → set (set (set (set (set (set (set ws (x + 3) (m .resource)) (x + 4) (m .client)) (x + 5) (m .state)) (x + 6) (m .held)) (x + 7) (m .asked)) (x + 8) (m .completion)) (x + 9) (m .mark) ≡ set-cells (resources-in ws) k m ws
     unfolding set-cells
     lock-stored m = rw e
 
-    pub lock-kept : (a b c d f g : ℕ) → Kept ws (set (set (set (set (set (set ws (x + 3) a) (x + 4) b) (x + 5) c) (x + 6) d) (x + 7) f) (x + 8) g)
-    lock-kept a b c d f g =
+    pub lock-kept : (a b c d f g h : ℕ) → Kept ws (set (set (set (set (set (set (set ws (x + 3) a) (x + 4) b) (x + 5) c) (x + 6) d) (x + 7) f) (x + 8) g) (x + 9) h)
+    lock-kept a b c d f g h =
         let k₀ = kept-set ws ws (x + 3) a (omega arith) (kept-all ws s) in
         let k₁ = kept-set ws _ (x + 4) b (omega arith) k₀ in
         let k₂ = kept-set ws _ (x + 5) c (omega arith) k₁ in
         let k₃ = kept-set ws _ (x + 6) d (omega arith) k₂ in
         let k₄ = kept-set ws _ (x + 7) f (omega arith) k₃ in
-        kept-set ws _ (x + 8) g (omega arith) k₄
+        let k₅ = kept-set ws _ (x + 8) g (omega arith) k₄ in
+        kept-set ws _ (x + 9) h (omega arith) k₅
 
 pub ruleset field-laws = (needs, resource-read, fields-read, fields-stored, fields-kept, lock-word-read, lock-read, lock-stored, lock-kept)

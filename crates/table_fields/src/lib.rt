@@ -25,7 +25,7 @@ pub const HEADER_WORDS: usize = 8;
 
 pub const RESOURCE_WORDS: usize = 8;
 
-pub const LOCK_WORDS: usize = 9;
+pub const LOCK_WORDS: usize = 10;
 
 // The header: how many records there are, and the first of each chain that is no resource's.
 pub const RESOURCES: usize = 0;
@@ -82,6 +82,8 @@ pub const LOCK_ASKED: usize = 7;
 
 pub const LOCK_COMPLETION: usize = 8;
 
+pub const LOCK_MARK: usize = 9;
+
 // The states of a lock.
 pub const STATE_FREE: u32 = 0;
 
@@ -102,6 +104,9 @@ pub const COMPLETION_DENIED: u32 = 2;
 
 pub const COMPLETION_CONVERSION_DENIED: u32 = 3;
 
+// The mark of a lock that has none; else a mode.
+pub const MARK_NONE: u32 = 0;
+
 // Clients are 1 to 255, modes 0 to 5.
 pub const LAST_CLIENT: u32 = 255;
 
@@ -115,6 +120,7 @@ pub const NO_LOCK: Lock = Lock {
     held: 0,
     asked: 0,
     completion: COMPLETION_NONE,
+    mark: MARK_NONE,
 };
 
 // A resource's record beside its links: how many bytes its name has, and whether its value is valid.
@@ -202,6 +208,7 @@ pub fn lock_at(words: &[u32], k: u32) -> Lock
         held: words[start + LOCK_HELD],
         asked: words[start + LOCK_ASKED],
         completion: words[start + LOCK_COMPLETION],
+        mark: words[start + LOCK_MARK],
     }
 }
 
@@ -232,6 +239,7 @@ pub fn put_lock(words: &mut [u32], k: u32, m: Lock)
     words[start + LOCK_HELD] = m.held;
     words[start + LOCK_ASKED] = m.asked;
     words[start + LOCK_COMPLETION] = m.completion;
+    words[start + LOCK_MARK] = m.mark;
 }
 
 // The record of resource r becomes x; its links stay.
@@ -269,5 +277,5 @@ pub fn is_blocked(l: Lock) -> bool
 pub fn is_noticed(l: Lock) -> bool
     ensures { λ r. ⌜ r ≡ noticed l ⌝ }
 {
-    l.completion != COMPLETION_NONE
+    (l.completion != COMPLETION_NONE) | (l.mark != MARK_NONE)
 }

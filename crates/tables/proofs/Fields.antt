@@ -33,6 +33,7 @@ place-is t l r c m =
       client-high = client-is (l .client) c .1;
       held-mode = leb-true (l .held) last-mode (search parts);
       asked-mode = leb-true (l .asked) last-mode (search parts);
+      mark-mode = leb-true (l .mark) last-mode (search parts);
     }
 
 module _ (t : Tables) (l : Lock) (p : Place (used t) l) where
@@ -71,7 +72,8 @@ fields-are t l zero e h =
     let c : l .held ≡ 0 = eqb-true (l .held) 0 (search parts depth 20) in
     let d : l .asked ≡ 0 = eqb-true (l .asked) 0 (search parts depth 20) in
     let f : l .completion ≡ 0 = eqb-true (l .completion) 0 (search parts depth 20) in
-    λ i. record { resource = a i; client = b i; state = e i; held = c i; asked = d i; completion = f i }
+    let g : l .mark ≡ 0 = eqb-true (l .mark) 0 (search parts depth 20) in
+    λ i. record { resource = a i; client = b i; state = e i; held = c i; asked = d i; completion = f i; mark = g i }
 fields-are t l (suc zero) e h =
     let n = notice-is (l .completion) (search parts depth 20) in
     record {
@@ -90,6 +92,7 @@ fields-are t l (suc (suc (suc zero))) e h =
       place = place-is t l (search parts depth 20) (search parts depth 20) (search parts depth 20);
       notice = eqb-true (l .completion) 0 (search parts depth 20);
       holds = eqb-true (l .held) 0 (search parts depth 20);
+      unmarked = eqb-true (l .mark) 0 (search parts depth 20);
     }
 fields-are t l (suc (suc (suc (suc zero)))) e h =
     let c = client-is (l .client) (search parts depth 20) in
@@ -100,6 +103,7 @@ fields-are t l (suc (suc (suc (suc zero)))) e h =
       holds = eqb-true (l .held) 0 (search parts depth 20);
       asks = eqb-true (l .asked) 0 (search parts depth 20);
       notice = eqb-true (l .completion) 2 (search parts depth 20);
+      unmarked = eqb-true (l .mark) 0 (search parts depth 20);
     }
 fields-are t l (suc (suc (suc (suc (suc n))))) e h =
     let s = suc (suc (suc (suc (suc n)))) in

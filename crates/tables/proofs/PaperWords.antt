@@ -412,9 +412,10 @@ module _ (ws ss : List ℕ) (h : sound ws ss ≡ true) where
       go (suc (suc (suc (suc (suc (suc zero)))))) a b = field (λ (l : Lock). l .held)
       go (suc (suc (suc (suc (suc (suc (suc zero))))))) a b = field (λ (l : Lock). l .asked)
       go (suc (suc (suc (suc (suc (suc (suc (suc zero)))))))) a b = field (λ (l : Lock). l .completion)
-      go (suc (suc (suc (suc (suc (suc (suc (suc (suc f))))))))) a b = absurd (omega arith)
+      go (suc (suc (suc (suc (suc (suc (suc (suc (suc zero))))))))) a b = field (λ (l : Lock). l .mark)
+      go (suc (suc (suc (suc (suc (suc (suc (suc (suc (suc f)))))))))) a b = absurd (omega arith)
 
-  -- 4. "The blocked chain has exactly the converting and waiting locks, once each; the notice chain exactly those with a completion"
+  -- 4. "The blocked chain has exactly the converting and waiting locks, once each; the notice chain exactly those with a completion" or a mark
   pub blocked-exactly : (k : ℕ) → count k (read ws ss .blocked) ≡ bit (within (locks-in ws) k && blocked-lock (lock (read ws ss) k))
   blocked-exactly k = rw (locks-read ws ss) at (sound-valid ws ss h .core .linked blocked k)
 

@@ -82,6 +82,7 @@ module _ (t : Tables) where
         held = at-field 6 (omega arith) i;
         asked = at-field 7 (omega arith) i;
         completion = at-field 8 (omega arith) i;
+        mark = at-field 9 (omega arith) i;
       }
 
   module _ (h : Readable t) where

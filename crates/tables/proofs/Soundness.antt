@@ -264,7 +264,8 @@ module _ (ws ss : List ℕ) (h : sound ws ss ≡ true) where
   word-is (of-lock (suc k) (suc (suc (suc (suc (suc (suc zero))))))) i = field k (i .1) (λ (l : Lock). l .held)
   word-is (of-lock (suc k) (suc (suc (suc (suc (suc (suc (suc zero)))))))) i = field k (i .1) (λ (l : Lock). l .asked)
   word-is (of-lock (suc k) (suc (suc (suc (suc (suc (suc (suc (suc zero))))))))) i = field k (i .1) (λ (l : Lock). l .completion)
-  word-is (of-lock (suc k) (suc (suc (suc (suc (suc (suc (suc (suc (suc f)))))))))) i = absurd (omega arith)
+  word-is (of-lock (suc k) (suc (suc (suc (suc (suc (suc (suc (suc (suc zero)))))))))) i = field k (i .1) (λ (l : Lock). l .mark)
+  word-is (of-lock (suc k) (suc (suc (suc (suc (suc (suc (suc (suc (suc (suc f))))))))))) i = absurd (omega arith)
 
   pub sound-words : ws ≡ words (read ws ss)
   unfolding words

@@ -210,13 +210,13 @@ module _ (r k : ℕ) (m : Lock) (t : Tables) (ok-old : LockOk (used t) (lock t k
         (λ n. rw (lock-other r k m t j n) (at-other c j n ∙ linked c j)))
 
 place-map : (u v : ℕ → Bool) (l : Lock) → (u (l .resource) ≡ true → v (l .resource) ≡ true) → Place u l → Place v l
-place-map u v l h p = record { in-use = h (p .in-use); client-low = p .client-low; client-high = p .client-high; held-mode = p .held-mode; asked-mode = p .asked-mode }
+place-map u v l h p = record { in-use = h (p .in-use); client-low = p .client-low; client-high = p .client-high; held-mode = p .held-mode; asked-mode = p .asked-mode; mark-mode = p .mark-mode }
 
 pub ok-map : (u v : ℕ → Bool) (l : Lock) → (u (l .resource) ≡ true → v (l .resource) ≡ true) → LockOk u l → LockOk v l
 ok-map u v l h (as-free e) = as-free e
 ok-map u v l h (as-granted s ok) = as-granted s (record { place = place-map u v l h (ok .place); asks = ok .asks; notice = ok .notice; not-denied = ok .not-denied })
 ok-map u v l h (as-converting s ok) = as-converting s (record { place = place-map u v l h (ok .place); notice = ok .notice })
-ok-map u v l h (as-waiting s ok) = as-waiting s (record { place = place-map u v l h (ok .place); notice = ok .notice; holds = ok .holds })
+ok-map u v l h (as-waiting s ok) = as-waiting s (record { place = place-map u v l h (ok .place); notice = ok .notice; holds = ok .holds; unmarked = ok .unmarked })
 ok-map u v l h (as-denied s ok) = as-denied s ok
 
 same-resource-ok : (x y : Resource) → y .name ≡ x .name → y .value ≡ x .value → y .valid ≡ x .valid → ResourceOk x → ResourceOk y

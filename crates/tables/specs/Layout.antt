@@ -13,7 +13,7 @@ abbrev pub resource-width : ℕ
 resource-width = 8
 
 abbrev pub lock-width : ℕ
-lock-width = 9
+lock-width = 10
 
 -- a field of the header, of a resource, of a lock; records are numbered from 1, fields from 0
 pub data Address : Type 0 where
@@ -87,7 +87,7 @@ abbrev pub resource-fields : Resource → List ℕ
 resource-fields x = length (x .name) ∷ x .valid ∷ []
 
 abbrev pub lock-fields : Lock → List ℕ
-lock-fields l = l .resource ∷ l .client ∷ l .state ∷ l .held ∷ l .asked ∷ l .completion ∷ []
+lock-fields l = l .resource ∷ l .client ∷ l .state ∷ l .held ∷ l .asked ∷ l .completion ∷ l .mark ∷ []
 
 -- what a word says: a number; or what follows the record k on a chain, or 0 (k = 0: the chain's first)
 pub data Word : Type 0 where
@@ -182,6 +182,7 @@ read-lock ws k =
       held = word-in ws (of-lock k 6);
       asked = word-in ws (of-lock k 7);
       completion = word-in ws (of-lock k 8);
+      mark = word-in ws (of-lock k 9);
     }
 
 -- the mode that it holds

@@ -1,4 +1,4 @@
--- Sound tables: document 01's list, a definition for each of its five points, in its order and words.
+-- Sound tables: document 01's list, a definition for each of its five points, in its order and words; and what document 02 says of marks.
 use mathlib.Core.Bool.{Bool, true, false, _&&_, _||_, not, cond}
 use mathlib.Core.List.{List, [], _∷_}
 use Prim.Native.Nat.{ℕ, zero, suc, _*_}
@@ -6,7 +6,7 @@ use lib.ListN.{length, take, drop}
 use lib.Dec.{eqb, leb}
 use Rattle.modes.specs.Modes.{compatible}
 use Rattle.tables.specs.Lists.{count, bit, all, from, null, same}
-use Rattle.tables.specs.State.{Lock, Tables, most-resources, most-locks, last-client, last-mode, name-width, state-free, state-granted, state-converting, state-waiting, state-denied, completion-none, completion-granted, completion-denied, completion-conversion-denied, lock, resource, grants, converts, waits, LockChain, free-locks, denied, blocked, notices, queue, Chain, free-resources, of-locks, chain, belongs}
+use Rattle.tables.specs.State.{Lock, Tables, most-resources, most-locks, last-client, last-mode, name-width, state-free, state-granted, state-converting, state-waiting, state-denied, completion-none, completion-granted, completion-denied, completion-conversion-denied, mark-none, lock, resource, grants, converts, waits, LockChain, free-locks, denied, blocked, notices, queue, Chain, free-resources, of-locks, chain, belongs}
 use Rattle.tables.specs.Layout.{of-header, of-resource, of-lock, size, slot-width, resources-in, locks-in, word-in, most, link-in, slot-in, read}
 use Rattle.tables.specs.Grants.{holders, no-grantable-head, empty}
 
@@ -95,12 +95,12 @@ home-right t k =
     stands-right t free-locks k && stands-right t denied k
     && all (λ r. stands-right t (queue r grants) k && stands-right t (queue r converts) k && stands-right t (queue r waits) k) (from 1 (length (t .resources)))
 
--- "Clients are 1 to 255, modes 0 to 5", and a lock on a resource's chain has a resource that is in use (one chain has it, and none of a free one)
+-- "Clients are 1 to 255, modes 0 to 5", a mark "at most 5", and a lock on a resource's chain has a resource that is in use (one chain has it, and none of a free one)
 unfoldable pub client-right : ℕ → Bool
 client-right c = leb 1 c && leb c last-client
 
 unfoldable pub modes-right : Lock → Bool
-modes-right l = leb (l .held) last-mode && leb (l .asked) last-mode
+modes-right l = leb (l .held) last-mode && leb (l .asked) last-mode && leb (l .mark) last-mode
 
 unfoldable pub on-resource : Tables → Lock → Bool
 on-resource t l = not (null (resource t (l .resource) .name))
@@ -110,25 +110,26 @@ abbrev pub granted-completion : ℕ → Bool
 granted-completion c = eqb c completion-none || eqb c completion-granted || eqb c completion-conversion-denied
 
 -- "Free: all but home next zero. Denied: resource, held and asked zero, completion 2. Granted: asked zero, completion 0, 1 or 3.
--- Converting and waiting: completion 0. Waiting: held zero, and it holds no mode." There is no other state.
+-- Converting and waiting: completion 0. Waiting: held zero, and it holds no mode." There is no other state. "A free, waiting or denied lock has
+-- none", no mark.
 unfoldable pub fields-right : Tables → Lock → ℕ → Bool
 unfolding client-right modes-right on-resource
 fields-right t l state =
     let standing = on-resource t l && client-right (l .client) && modes-right l in
-    cond (eqb state state-free) (eqb (l .resource) 0 && eqb (l .client) 0 && eqb (l .held) 0 && eqb (l .asked) 0 && eqb (l .completion) completion-none)
+    cond (eqb state state-free) (eqb (l .resource) 0 && eqb (l .client) 0 && eqb (l .held) 0 && eqb (l .asked) 0 && eqb (l .completion) completion-none && eqb (l .mark) mark-none)
     (cond (eqb state state-granted)
     (standing && eqb (l .asked) 0 && granted-completion (l .completion))
     (cond (eqb state state-converting) (standing && eqb (l .completion) completion-none)
-    (cond (eqb state state-waiting) (standing && eqb (l .completion) completion-none && eqb (l .held) 0)
+    (cond (eqb state state-waiting) (standing && eqb (l .completion) completion-none && eqb (l .held) 0 && eqb (l .mark) mark-none)
     (cond (eqb state state-denied)
-    (client-right (l .client) && eqb (l .resource) 0 && eqb (l .held) 0 && eqb (l .asked) 0 && eqb (l .completion) completion-denied)
+    (client-right (l .client) && eqb (l .resource) 0 && eqb (l .held) 0 && eqb (l .asked) 0 && eqb (l .completion) completion-denied && eqb (l .mark) mark-none)
     false))))
 
 unfoldable pub lock-right : Tables → ℕ → Bool
 unfolding home-right fields-right
 lock-right t k = home-right t k && fields-right t (lock t k) (lock t k .state)
 
--- 4. "The blocked chain has exactly the converting and waiting locks, once each; the notice chain exactly those with a completion; a lock off one
+-- 4. "The blocked chain has exactly the converting and waiting locks, once each; the notice chain exactly those with a completion" or a mark; "a lock off one
 -- of these has zero as its link there." (A free lock's three links: "all but home next zero".)
 unfoldable pub linked-right : List ℕ → Tables → LockChain → ℕ → Bool
 unfolding stands-right

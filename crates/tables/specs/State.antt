@@ -7,7 +7,7 @@ use lib.Dec.{eqb}
 use Rattle.tables.specs.Lists.{nth, put, remove, null, from}
 pub use Rattle.tables.specs.declared.Lock.{Lock}
 
--- RECORDS. A lock has a resource, a client, a state, the held and the asked mode and a completion; the record is the code's struct.
+-- RECORDS. A lock has a resource, a client, a state, the held and the asked mode, a completion and a mark; the record is the code's struct.
 -- These are its states ..
 abbrev pub state-free : ℕ
 state-free = 0
@@ -24,7 +24,7 @@ state-waiting = 3
 abbrev pub state-denied : ℕ
 state-denied = 4
 
--- .. and its completions: none, granted, request denied, conversion denied
+-- .. its completions: none, granted, request denied, conversion denied ..
 abbrev pub completion-none : ℕ
 completion-none = 0
 
@@ -36,6 +36,10 @@ completion-denied = 2
 
 abbrev pub completion-conversion-denied : ℕ
 completion-conversion-denied = 3
+
+-- .. and its mark where it has none. Else the mark is the largest mode that had to wait because of the lock since it was last polled.
+abbrev pub mark-none : ℕ
+mark-none = 0
 
 pub record Resource : Type 0 where
   pub name : List ℕ
@@ -79,19 +83,25 @@ no-value = replicate value-width 0
 
 -- a freed record keeps nothing
 abbrev pub no-lock : Lock
-no-lock = record { resource = 0; client = 0; state = state-free; held = 0; asked = 0; completion = completion-none }
+no-lock = record { resource = 0; client = 0; state = state-free; held = 0; asked = 0; completion = completion-none; mark = mark-none }
 
 -- a new lock of the client c on the resource r
 abbrev pub new-lock : ℕ → ℕ → ℕ → ℕ → ℕ → Lock
-new-lock r c s h a = record { resource = r; client = c; state = s; held = h; asked = a; completion = completion-none }
+new-lock r c s h a = record { resource = r; client = c; state = s; held = h; asked = a; completion = completion-none; mark = mark-none }
 
--- the lock of a denied request: it keeps its client alone
+-- the lock of a denied request: it keeps its client (and the mark, of which a waiting lock has none)
 abbrev pub denied-lock : Lock → Lock
-denied-lock l = record { resource = 0; client = l .client; state = state-denied; held = 0; asked = 0; completion = completion-denied }
+denied-lock l =
+    record { resource = 0; client = l .client; state = state-denied; held = 0; asked = 0; completion = completion-denied; mark = l .mark }
 
 -- the lock l with another state, held and asked mode and completion: it keeps the rest
 abbrev pub changed-lock : ℕ → ℕ → ℕ → ℕ → Lock → Lock
-changed-lock s h a e l = record { resource = l .resource; client = l .client; state = s; held = h; asked = a; completion = e }
+changed-lock s h a e l = record { resource = l .resource; client = l .client; state = s; held = h; asked = a; completion = e; mark = l .mark }
+
+-- the lock l with another completion and mark
+abbrev pub with-notice : ℕ → ℕ → Lock → Lock
+with-notice e m l =
+    record { resource = l .resource; client = l .client; state = l .state; held = l .held; asked = l .asked; completion = e; mark = m }
 
 abbrev pub no-resource : Resource
 no-resource = record { name = []; value = no-value; valid = 0; grant = []; convert = []; wait = [] }
@@ -137,9 +147,13 @@ holds l = granted l || converting l
 abbrev pub unread : Lock → Bool
 unread l = not (eqb (l .completion) completion-none)
 
--- it belongs on the notice chain, which has "exactly those with a completion"
+-- it has a mark
+abbrev pub has-mark : Lock → Bool
+has-mark l = not (eqb (l .mark) mark-none)
+
+-- it belongs on the notice chain, which has "exactly the locks with a completion or a mark, converting ones included"
 abbrev pub noticed : Lock → Bool
-noticed l = unread l
+noticed l = unread l || has-mark l
 
 -- CHAINS. The eight kinds: of free resources; of free, denied, blocked and noticed locks; and the three of each resource.
 pub data Queue : Type 0 where

@@ -7,7 +7,7 @@ use Prim.Native.Nat.{ℕ, _≤_}
 use lib.ListN.{length}
 use Rattle.modes.specs.Modes.{compatible}
 use Rattle.tables.specs.Lists.{within, count, bit, null}
-use Rattle.tables.specs.State.{Lock, Resource, Tables, most-resources, most-locks, last-client, last-mode, name-width, value-width, no-value, no-lock, lock, resource, holds, LockChain, chain, belongs, state-granted, state-converting, state-waiting, state-denied, completion-none, completion-denied, completion-conversion-denied}
+use Rattle.tables.specs.State.{Lock, Resource, Tables, most-resources, most-locks, last-client, last-mode, name-width, value-width, no-value, no-lock, lock, resource, holds, LockChain, chain, belongs, state-granted, state-converting, state-waiting, state-denied, completion-none, completion-denied, completion-conversion-denied, mark-none}
 use Rattle.tables.specs.Grants.{convert-grantable, empty}
 
 -- a resource in use has a name
@@ -21,6 +21,7 @@ pub record Place (u : ℕ → Bool) (l : Lock) : Type 0 where
   pub client-high : l .client ≤ last-client
   pub held-mode : l .held ≤ last-mode
   pub asked-mode : l .asked ≤ last-mode
+  pub mark-mode : l .mark ≤ last-mode
 
 pub record Granted (u : ℕ → Bool) (l : Lock) : Type 0 where
   pub place : Place u l
@@ -36,6 +37,7 @@ pub record Waiting (u : ℕ → Bool) (l : Lock) : Type 0 where
   pub place : Place u l
   pub notice : l .completion ≡ completion-none
   pub holds : l .held ≡ 0
+  pub unmarked : l .mark ≡ mark-none
 
 pub record Denied (l : Lock) : Type 0 where
   pub client-low : 1 ≤ l .client
@@ -44,6 +46,7 @@ pub record Denied (l : Lock) : Type 0 where
   pub holds : l .held ≡ 0
   pub asks : l .asked ≡ 0
   pub notice : l .completion ≡ completion-denied
+  pub unmarked : l .mark ≡ mark-none
 
 -- a lock is in one of the five states, and has that state's fields
 pub data LockOk (u : ℕ → Bool) (l : Lock) : Type 0 where

@@ -9,6 +9,7 @@ pub struct Lock {
     pub held: u32,
     pub asked: u32,
     pub completion: u32,
+    pub mark: u32,
 }
 
 // What a listing says of a lock.
