@@ -58,7 +58,7 @@ module _ (r : ℕ) (t : Tables) (c : Core t) where
         near-old = λ z. b .1;
         near-new = λ z. b .1;
         ok = as-granted refl (record {
-          place = record { in-use = b .0 .in-use; client-low = b .0 .client-low; client-high = b .0 .client-high; held-mode = b .0 .asked-mode; asked-mode = omega arith };
+          place = record { in-use = b .0 .in-use; client-low = b .0 .client-low; client-high = b .0 .client-high; held-mode = b .0 .asked-mode; asked-mode = omega arith; mark-mode = b .0 .mark-mode };
           asks = refl;
           notice = omega arith;
           not-denied = omega arith;
