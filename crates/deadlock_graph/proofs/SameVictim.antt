@@ -1,13 +1,15 @@
 -- The state in the words is the state whose words they are, but for names and values: both have the same victim.
 use mathlib.Core.Path.{_≡_, refl, sym, ap, ap₂, _∙_}
+use mathlib.Core.Bool.{_&&_, not}
 use mathlib.Core.List.{List, [], map}
 use Prim.Native.Nat.{ℕ, zero, suc, _+_, _≤_, _<_}
 use native.Mathlib.Omega.{arith}
 use native.Mathlib.Nat.{add-comm}
 use native.Mathlib.Numerals.{add-one}
 use lib.ListN.{getD, length, List·getD-eq-default}
-use lib.Dec.{ltb}
+use lib.Dec.{eqb, ltb}
 use borrow.Author.Tests.{ltb-true, ltb-false, le-ltb}
+use Rattle.modes.specs.Modes.{compatible}
 use Rattle.tables.specs.Lists.{from, first-that}
 use Rattle.tables.specs.State.{Tables, no-lock, no-resource, lock, resource, Queue, grants, converts, waits, blocked, queue, of-locks, queue-of}
 use Rattle.tables.specs.Layout.{words, read-lock, read-resource, read, resources-in}
@@ -19,7 +21,7 @@ use Rattle.tables.proofs.ThreadedChains.{core-threaded}
 use Rattle.tables.specs.Validity.{Core}
 use Rattle.tables.proofs.Valid.{absent}
 use Rattle.rules.specs.Walks.{reaches}
-use Rattle.rules.specs.Deadlock.{ahead, obstacles, leads, deadlocked, victim}
+use Rattle.rules.specs.Deadlock.{ahead, in-the-way, obstacles, leads, deadlocked, victim}
 use Rattle.deadlock_graph.specs.Contracts.{seen}
 
 -- u has the locks of t, and their chains
@@ -83,9 +85,12 @@ module _ (t u : Tables) (a : Alike t u) where
   unfolding ahead
   ahead-alike k = simp (a .locks, convert-is, wait-is)
 
+  way-alike : (k : ℕ) → in-the-way u k ≡ in-the-way t k
+  way-alike k = λ i j. not (eqb j k) && not (compatible (a .locks j i .held) (a .locks k i .asked))
+
   pub obstacles-alike : (k : ℕ) → obstacles u k ≡ obstacles t k
   unfolding obstacles holders
-  obstacles-alike k = simp (a .locks, grant-is, convert-is)
+  obstacles-alike k = simp (way-alike, a .locks, grant-is, convert-is)
 
   pub leads-alike : (j k : ℕ) → leads u j k ≡ leads t j k
   unfolding leads
