@@ -7,10 +7,12 @@ use Prim.Native.Nat.{ℕ, _≤_}
 use native.Mathlib.Omega.{arith}
 use lib.ListN.{length}
 use lib.Dec.{eqb, leb}
-use borrow.Author.Tests.{eqb-true, eq-eqb, ne-eqb, leb-true, leb-false}
+use borrow.Author.Tests.{eqb-true, eq-eqb, ne-eqb, leb-true, leb-false, not-true}
+use Rattle.modes.specs.Modes.{matrix, compatible, all-modes}
+use Rattle.modes.proofs.Laws.{all-modes-at}
 use Rattle.tables.specs.declared.Lock.{Lock}
 use Rattle.tables.specs.Lists.{within, count, keep}
-use Rattle.tables.specs.State.{Resource, Tables, no-lock, with-notice, no-resource, lock, resource, unread, noticed, holds, shift, move, move-resource, queue, grants, converts}
+use Rattle.tables.specs.State.{Resource, Tables, no-lock, with-notice, no-resource, lock, resource, unread, noticed, holds, shift, move, move-resource, queue, grants, converts, last-mode}
 use Rattle.tables.specs.Grants.{holders, empty}
 use Rattle.tables.specs.Validity.{Core}
 use Rattle.tables.proofs.Cases.{by-cases, by-equal, clash, and-left, and-right, or-right}
@@ -22,6 +24,17 @@ use Rattle.rules.specs.Deadlock.{in-the-way, obstacles}
 use Rattle.rules.specs.Calls.{leave-value, larger, mark-lock, mark-locks, tell-obstacles, purge-lock, purge-locks, settle-all}
 use Rattle.rules.specs.Theorem.{keeps-out}
 use Rattle.rules.proofs.NoticesKeepSound.{noted-resource, holder-stands, obstacle-in}
+
+-- nobody is in the way of NL
+null-goes : (a : ℕ) → a ≤ last-mode → compatible a 0 ≡ true
+unfolding all-modes compatible matrix
+null-goes a h = all-modes-at (λ x. compatible x 0) refl a h
+
+pub hindered-mode : (h m : ℕ) → h ≤ last-mode → not (compatible h m) ≡ true → 1 ≤ m
+hindered-mode h m le n =
+    by-equal m 0
+    (λ z. clash (compatible h m) (rw z (null-goes h le)) (not-true _ n))
+    (λ z. omega arith)
 
 -- MARKING locks one after the other: what it does to each lock ..
 mark-other : (m i : ℕ) (t : Tables) (j : ℕ) → j ≢ i → lock (mark-lock m i t) j ≡ lock t j
@@ -47,7 +60,7 @@ marks-set m (i ∷ is) t j o h =
     marks-set m is (mark-lock m i t) j (sym (count-other j i is n) ∙ o) (rw same h) ∙ (rw same))
 
 -- .. to each resource: nothing ..
-mark-resource : (m j : ℕ) (t : Tables) (s : ℕ) → resource (mark-lock m j t) s ≡ resource t s
+pub mark-resource : (m j : ℕ) (t : Tables) (s : ℕ) → resource (mark-lock m j t) s ≡ resource t s
 unfolding mark-lock
 mark-resource m j t s =
     by-equal s (lock t j .resource)
@@ -68,7 +81,7 @@ pub larger-second : (a b : ℕ) → b ≤ larger a b
 unfolding larger
 larger-second a b = by-cases (leb a b) (λ h. rw h (omega arith)) (λ h. rw h (omega (arith, leb-false a b h)))
 
-mark-chain : (m j : ℕ) (t : Tables) → 1 ≤ m → mark-lock m j t .notices ≡ shift (noticed (lock t j)) true j (t .notices)
+pub mark-chain : (m j : ℕ) (t : Tables) → 1 ≤ m → mark-lock m j t .notices ≡ shift (noticed (lock t j)) true j (t .notices)
 unfolding mark-lock move
 mark-chain m j t p =
     let a = larger m (lock t j .mark) in

@@ -8,8 +8,7 @@ use native.Mathlib.Omega.{arith}
 use lib.ListN.{length}
 use lib.Dec.{eqb, ltb}
 use borrow.Author.Tests.{eqb-true, eqb-false, eq-eqb, ne-eqb, not-true}
-use Rattle.modes.specs.Modes.{matrix, compatible, all-modes}
-use Rattle.modes.proofs.Laws.{all-modes-at}
+use Rattle.modes.specs.Modes.{compatible}
 use Rattle.tables.specs.declared.Lock.{Lock}
 use Rattle.tables.specs.Lists.{within, count, keep, first, first-that, null}
 use Rattle.tables.specs.State.{Tables, started, no-lock, denied-lock, lock, resource, converting, has-mark, unread, noticed, holds, shift, move, move-resource, free-locks, notices, queue, grants, converts, of-locks, last-mode}
@@ -38,7 +37,7 @@ use Rattle.rules.proofs.AcceptedCalls.{request-passed, convert-passed, 
 use Rattle.rules.proofs.EveryCall.{stepped}
 use Rattle.rules.proofs.QueueProperties.{lock-is, chain-is, is-lock}
 use Rattle.rules.proofs.QueueTheorem.{outcome-is, after-is, play, play-valid, from-start}
-use Rattle.rules.proofs.MarkLaws.{larger-first, larger-second, unnoticed, keep-keep, marks-resource, marks-chain, obstacle-once, keeps-out-way, tell-set, tell-not, Steady, steady-same, steady-then, steady-move, steady-sweep, steady-free, steady-settle, leave-lock, steady-leave, steady-purge, steady-all}
+use Rattle.rules.proofs.MarkLaws.{hindered-mode, larger-first, larger-second, unnoticed, keep-keep, marks-resource, marks-chain, obstacle-once, keeps-out-way, tell-set, tell-not, Steady, steady-same, steady-then, steady-move, steady-sweep, steady-free, steady-settle, leave-lock, steady-leave, steady-purge, steady-all}
 
 -- THE STATEMENT ON STATES. The lock k begins to wait, for m, and t becomes t2
 record Waited (t t2 : Tables) (k m : ℕ) : Type 0 where
@@ -79,11 +78,6 @@ steady-marks c t s val none unpolled st =
     silent-marks c t s none
     (λ j p n. st j (client-of (used (s .tables)) (lock (s .tables) j) (lock (s .tables) j .state) (ok-numbered (val .core .lock-ok j)) n) .1)
     (λ j low p. clash (answers-lock c (s .said) j) p (unpolled j))
-
--- nobody is in the way of NL
-null-goes : (a : ℕ) → a ≤ last-mode → compatible a 0 ≡ true
-unfolding all-modes compatible matrix
-null-goes a h = all-modes-at (λ x. compatible x 0) refl a h
 
 -- A CALL THAT BEGINS TO WAIT: the lock k becomes l on r, which stands in a queue and asks for m
 module _ (t : Tables) (r k m : ℕ) (l : Lock) (w : within (length (t .locks)) k ≡ true) (c1 : Core (move r k l t)) (same : l .mark ≡ lock t k .mark)
@@ -128,9 +122,7 @@ module _ (t : Tables) (r k m : ℕ) (l : Lock) (w : within (length (t .locks)) k
   positive j i =
       let o = obstacle-in t1 k j i in
       let p = holder-place (used t1) (lock t1 j) (c1 .lock-ok j) (in-holder t1 (c1 .linked) (lock t1 k .resource) j (o .0) .0) in
-      by-equal (lock t1 k .asked) 0
-      (λ z. clash (compatible (lock t1 j .held) (lock t1 k .asked)) (rw z (null-goes (lock t1 j .held) (p .held-mode))) (not-true _ (and-right (not (eqb j k)) _ (o .1))))
-      (λ z. omega arith)
+      hindered-mode (lock t1 j .held) (lock t1 k .asked) (p .held-mode) (and-right (not (eqb j k)) _ (o .1))
 
   queued-joined : t2 .notices ≡ t .notices ++ keep (λ j. keeps-out r k m j (lock t j) && unnoticed t j) (holders t2 r)
   unfolding tell-obstacles
@@ -355,7 +347,7 @@ module _ (c : Call) (t : Tables) (val : Valid t) where
       let a = and-right (not (eqb j k)) _ h in
       let held = and-left (holds (lock t j)) _ a in
       let b = and-right (eqb (lock t j .resource) r) _ (and-right (holds (lock t j)) _ a) in
-      clash (compatible (lock t j .held) m) (rw z (null-goes (lock t j .held) (holder-place (used t) (lock t j) (val .core .lock-ok j) held .held-mode))) (not-true _ b)
+      omega (arith, hindered-mode (lock t j .held) m (holder-place (used t) (lock t j) (val .core .lock-ok j) held .held-mode) b, z)
 
   noticed-on : (j : ℕ) → IsLock (words t) j → 1 ≤ lock (s .tables) j .mark → count j (read-chain (words (s .tables)) (of-locks notices)) ≡ 1
   noticed-on j i h =

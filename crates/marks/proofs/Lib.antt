@@ -1,0 +1,3 @@
+pub mod ToldLocks
+pub mod MarkedWords
+pub mod ToldQueues
