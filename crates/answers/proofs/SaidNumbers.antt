@@ -4,7 +4,7 @@ use Prim.Native.Nat.{ℕ, zero, suc}
 use native.Mathlib.Omega.{arith}
 use borrow.Author.Needs.{needs}
 use Rattle.rules.specs.declared.Said.{Said}
-use Rattle.rules.specs.Calls.{accepted}
+use Rattle.rules.specs.Calls.{accepted, notified}
 use Rattle.rules.specs.Entries.{Lent, Outcome, outcome, Call, call-entry, Keeps}
 use Rattle.rules.specs.Numbers.{Small}
 use Rattle.rules.proofs.SmallNumbers.{numbers-small}
@@ -17,11 +17,12 @@ use Rattle.answers.specs.declared.Purged.{Purged}
 use Rattle.answers.specs.declared.Broken.{Broken}
 use Rattle.answers.specs.declared.Broken.the-variants.{Denied}
 use Rattle.answers.specs.declared.Polled.{Polled}
+use Rattle.answers.specs.declared.Polled.the-variants.{Marked}
 use Rattle.answers.specs.declared.Listed.{Listed}
-use Rattle.answers.specs.Answers.{never, refused-with, done, released, requested, converted, cancelled, purged, denial, broken, polled, list-said}
+use Rattle.answers.specs.Answers.{never, refused-with, done, released, requested, converted, cancelled, purged, denial, broken, mark-alone, polled, list-said}
 use Rattle.answers.specs.Contracts.{Says}
 
--- CASE BY CASE. A refusal has a number from 1 on, and so has a denied lock
+-- CASE BY CASE. A refusal has a number from 1 on, and so have a denied lock and one with a mark alone
 pub says-refused : (n : ℕ) → Says (refused-with n) (record { refusal = n; answer = 0; number = 0; extra = 0 })
 says-refused zero = record { is = λ h. absurd (h refl) }
 says-refused (suc n) = record { is = λ h. refl }
@@ -29,6 +30,10 @@ says-refused (suc n) = record { is = λ h. refl }
 says-denied : (k : ℕ) (x : Said) → Says (accepted k k) x → Says (denial k) x
 says-denied zero x n = record { is = λ h. absurd (h refl) }
 says-denied (suc k) x n = n
+
+says-marked : (k m : ℕ) (x : Said) → Says (notified 0 k m) x → Says (mark-alone k m) x
+says-marked zero m x n = record { is = λ h. absurd (h refl) }
+says-marked (suc k) m x n = n
 
 -- the numbers of a case are those of the answer that is that case
 module _ (x : Said) where
@@ -59,10 +64,13 @@ module _ (x : Said) where
   pub in-polled : {r s : Polled} → r ≡ s → Says (polled s) x → Says (polled r) x
   in-polled e n = subst (λ (z : Polled). Says (polled z) x) (sym e) n
 
+  pub in-marked : {r : Polled} (k m : ℕ) → r ≡ Marked k m → Says (notified 0 k m) x → Says (polled r) x
+  in-marked k m e n = in-polled e (says-marked k m x n)
+
   pub in-listed : {r s : Listed} → r ≡ s → Says (list-said s) x → Says (list-said r) x
   in-listed e n = subst (λ (z : Listed). Says (list-said z) x) (sym e) n
 
-pub ruleset number-rules = (needs, says-refused, in-done, in-released, in-requested, in-converted, in-cancelled, in-purged, in-denied, in-broken, in-polled, in-listed)
+pub ruleset number-rules = (needs, says-refused, in-done, in-released, in-requested, in-converted, in-cancelled, in-purged, in-denied, in-broken, in-marked, in-polled, in-listed)
 
 -- WHAT AN ENTRY SAYS has small numbers, so it is no case that none may give
 pub said-is : (n x : Said) → Small n → Says n x → x ≡ n

@@ -1,8 +1,8 @@
--- What a call says, in document 01's numbers, for each case of each answer.
+-- What a call says, in the papers' numbers, for each case of each answer: document 01's, and document 02's for marks (R-1).
 use Prim.Native.Nat.{ℕ, zero, suc, _^_}
-use Rattle.tables.specs.State.{completion-none, completion-granted, completion-denied, completion-conversion-denied}
+use Rattle.tables.specs.State.{completion-none, completion-granted, completion-denied, completion-conversion-denied, mark-none}
 use Rattle.rules.specs.declared.Said.{Said}
-use Rattle.rules.specs.Calls.{accepted, refused}
+use Rattle.rules.specs.Calls.{accepted, notified, refused}
 use Rattle.answers.specs.declared.Done.{Done}
 use Rattle.answers.specs.declared.Requested.{Requested}
 use Rattle.answers.specs.declared.Converted.{Converted}
@@ -74,12 +74,18 @@ broken (broken-cases.Denied k) = denial k
 broken broken-cases.NoDeadlock = accepted 0 0
 broken (broken-cases.Refused n) = refused-with n
 
--- "completion and lock; 0 and 0 if there is none"
+-- "A mark alone is completion 0 with the lock. None is lock 0."
+abbrev pub mark-alone : ℕ → ℕ → Said
+mark-alone zero m = never
+mark-alone (suc k) m = notified completion-none (suc k) m
+
+-- "completion and lock; 0 and 0 if there is none", and "the mark too", which no denied request has
 abbrev pub polled : Polled → Said
-polled (polled-cases.Granted k) = accepted completion-granted k
-polled (polled-cases.RequestDenied k) = accepted completion-denied k
-polled (polled-cases.ConversionDenied k) = accepted completion-conversion-denied k
-polled polled-cases.NoNotice = accepted completion-none 0
+polled (polled-cases.Granted k m) = notified completion-granted k m
+polled (polled-cases.RequestDenied k) = notified completion-denied k mark-none
+polled (polled-cases.ConversionDenied k m) = notified completion-conversion-denied k m
+polled (polled-cases.Marked k m) = mark-alone k m
+polled polled-cases.NoNotice = notified completion-none 0 mark-none
 polled (polled-cases.Refused n) = refused-with n
 
 -- "and the true count"

@@ -1,6 +1,6 @@
-// What the calls answer, and what each answer says: document 01's numbers, as specs/Answers.antt gives them.
+// What the calls answer, and what each answer says: the papers' numbers, as specs/Answers.antt gives them.
 use rules::Said;
-ghost use Rattle.rules.specs.Calls.{accepted};
+ghost use Rattle.rules.specs.Calls.{accepted, notified};
 ghost use Rattle.answers.specs.Answers.{«refused-with», done, released, requested, converted, cancelled, purged, broken, polled, «list-said»};
 ghost use Rattle.answers.specs.Contracts.{Says};
 
@@ -12,6 +12,17 @@ fn accepted(answer: u32, number: u32) -> Said
         answer,
         number,
         extra: 0,
+    }
+}
+
+fn notified(completion: u32, number: u32, mark: u32) -> Said
+    ensures { λ s. ⌜ Says (notified completion number mark) s ⌝ }
+{
+    Said {
+        refusal: 0,
+        answer: completion,
+        number,
+        extra: mark,
     }
 }
 
@@ -153,11 +164,13 @@ impl Broken {
     }
 }
 
-// A poll: the client's first notice, if there was one.
+// A poll: the client's first notice, if there was one. It has the lock, and with it the mark: 0 for none, or the largest
+// mode that had to wait because of the lock. A denied request has no mark; `Marked` is a mark alone.
 pub enum Polled {
-    Granted(u32),
+    Granted(u32, u32),
     RequestDenied(u32),
-    ConversionDenied(u32),
+    ConversionDenied(u32, u32),
+    Marked(u32, u32),
     NoNotice,
     Refused(u32),
 }
@@ -167,10 +180,11 @@ impl Polled {
         ensures { λ s. ⌜ Says (polled self) s ⌝ }
     {
         match self {
-            Polled::Granted(k) => accepted(1, k),
-            Polled::RequestDenied(k) => accepted(2, k),
-            Polled::ConversionDenied(k) => accepted(3, k),
-            Polled::NoNotice => accepted(0, 0),
+            Polled::Granted(k, mark) => notified(1, k, mark),
+            Polled::RequestDenied(k) => notified(2, k, 0),
+            Polled::ConversionDenied(k, mark) => notified(3, k, mark),
+            Polled::Marked(k, mark) => notified(0, k, mark),
+            Polled::NoNotice => notified(0, 0, 0),
             Polled::Refused(n) => refused(n),
         }
     }

@@ -99,7 +99,8 @@ module _ (r l : ℕ) where
   lock-zero k (suc (suc (suc (suc (suc zero))))) = rw (started-lock r l k)
   lock-zero k (suc (suc (suc (suc (suc (suc zero)))))) = rw (started-lock r l k)
   lock-zero k (suc (suc (suc (suc (suc (suc (suc zero))))))) = rw (started-lock r l k)
-  lock-zero k (suc (suc (suc (suc (suc (suc (suc (suc f)))))))) = refl
+  lock-zero k (suc (suc (suc (suc (suc (suc (suc (suc zero)))))))) = rw (started-lock r l k)
+  lock-zero k (suc (suc (suc (suc (suc (suc (suc (suc (suc f))))))))) = refl
 
   lock-link : (k : ℕ) → content (started r l) (of-lock k 0) ≡ next k (0 ∷ from 1 l)
   lock-link k = rw (started-lock r l k) (unfold started in refl)

@@ -8,7 +8,7 @@ use lib.ListN.{replicate}
 use lib.Dec.{eqb}
 use Rattle.tables.specs.Lists.{same}
 use Rattle.tables.specs.State.{no-value, value-width}
-use Rattle.rules.specs.Calls.{Said, accepted, refused}
+use Rattle.rules.specs.Calls.{Said, accepted, notified, refused}
 use Rattle.rules.specs.Entries.{Lent, Call, to-request, to-convert, to-release, to-cancel, to-purge, to-break, to-poll, call-entry, start-entry, Reading, read-entry}
 
 -- a line: a call and what it says; or a read and the value and validity that it gives
@@ -92,7 +92,7 @@ hears-granted c k = says (to-poll c) 1 k
 
 -- .. or that k is in the way of the mode m, without a completion or with one
 abbrev pub hears-both : ℕ → ℕ → ℕ → ℕ → BenchLine
-hears-both c e k m = calls (to-poll c) (record { refusal = 0; answer = e; number = k; extra = m })
+hears-both c e k m = calls (to-poll c) (notified e k m)
 
 abbrev pub hears-mark : ℕ → ℕ → ℕ → BenchLine
 hears-mark c k m = hears-both c 0 k m

@@ -20,6 +20,10 @@ pub use Rattle.rules.specs.declared.Said.{Said}
 abbrev pub accepted : ℕ → ℕ → Said
 accepted a k = record { refusal = 0; answer = a; number = k; extra = 0 }
 
+-- what poll says of a notice: its completion and lock, and "the mark too"
+abbrev pub notified : ℕ → ℕ → ℕ → Said
+notified e k m = record { refusal = 0; answer = e; number = k; extra = m }
+
 -- "The first that fits is answered with zeros in all other fields; nothing lent changes."
 abbrev pub refused : ℕ → Said
 refused n = record { refusal = n; answer = 0; number = 0; extra = 0 }
@@ -280,7 +284,7 @@ unfoldable pub poll-notice : ℕ → Tables → Step
 poll-notice zero t = accepted-step completion-none 0 t
 poll-notice (suc k) t =
     let l = lock t (suc k) in
-    record { said = record { refusal = 0; answer = l .completion; number = suc k; extra = l .mark }; tables = take-notice (suc k) t }
+    record { said = notified (l .completion) (suc k) (l .mark); tables = take-notice (suc k) t }
 
 unfoldable pub poll-change : ℕ → Tables → Step
 poll-change c t = poll-notice (first-that (λ k. eqb (lock t k .client) c) (t .notices)) t
