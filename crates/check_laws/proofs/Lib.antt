@@ -1,3 +1,4 @@
+pub mod RecordPass
 pub mod ChainSteps
 pub mod HeldModes
 pub mod ResourceWalk

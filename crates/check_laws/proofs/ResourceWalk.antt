@@ -12,7 +12,7 @@ use Rattle.tables.specs.State.{Queue, grants, converts, waits, queue, of-locks}
 use Rattle.tables.specs.Layout.{of-resource, queue-head, locks-in, word-in, link-in, follow, read-lock, lock-link, held-in}
 use Rattle.tables.proofs.Cases.{by-cases, and-left, and-right}
 use Rattle.tables.proofs.FollowedChains.{follow-short}
-use Rattle.check_laws.specs.Check.{home-on, home-steps, fitting, gather, mode-steps, grant-walk, convert-fit, other-modes, convert-from, convert-walk, heads-wait, wait-part, convert-part, resource-walk}
+use Rattle.check_laws.specs.Check.{noticed-of, home-on, home-steps, fitting, gather, mode-steps, grant-walk, convert-fit, other-modes, convert-from, convert-walk, heads-wait, wait-part, convert-part, resource-walk}
 use Rattle.check_laws.proofs.ChainSteps.{Passed, steps-passed, passed-steps, holders-passed, passed-holders}
 
 abbrev pub asked-in : List ℕ → ℕ → ℕ
@@ -41,12 +41,12 @@ pub record Walked (ws : List ℕ) (r : ℕ) : Type 0 where
   pub heads : heads-wait ws r (gather (held-in ws) 0 (queue-in ws r grants)) (other-modes (held-in ws) (gather (held-in ws) 0 (queue-in ws r grants)) (queue-in ws r converts)) ≡ true
 
 module _ (ws : List ℕ) (r : ℕ) where
-  grant-met : grant-walk ws r .met ≤ locks-in ws → Right ws r grants 1 × (fitting fits-set (held-in ws) 0 (queue-in ws r grants) ≡ true)
+  pub grant-met : grant-walk ws r .met ≤ locks-in ws → Right ws r grants 1 × (fitting fits-set (held-in ws) 0 (queue-in ws r grants) ≡ true)
   unfolding grant-walk mode-steps queue-in
   grant-met h = holders-passed ws 1 r (fitting fits-set (held-in ws) 0) (gather (held-in ws) 0) (link-of ws r grants) (λ k. refl) (locks-in ws) (head-of ws r grants) h
 
-  grant-is : Right ws r grants 1 → fitting fits-set (held-in ws) 0 (queue-in ws r grants) ≡ true →
-      grant-walk ws r ≡ record { met = length (queue-in ws r grants); modes = gather (held-in ws) 0 (queue-in ws r grants) }
+  pub grant-is : Right ws r grants 1 → fitting fits-set (held-in ws) 0 (queue-in ws r grants) ≡ true →
+      grant-walk ws r ≡ record { met = length (queue-in ws r grants); modes = gather (held-in ws) 0 (queue-in ws r grants); noticed = noticed-of ws (queue-in ws r grants) }
   unfolding grant-walk mode-steps queue-in
   grant-is p f = passed-holders ws 1 r (fitting fits-set (held-in ws) 0) (gather (held-in ws) 0) (link-of ws r grants) (λ k. refl) (locks-in ws) (head-of ws r grants) p f
 
@@ -56,7 +56,7 @@ module _ (ws : List ℕ) (r : ℕ) where
     convert-met h = holders-passed ws 2 r (convert-fit (held-in ws) set) (other-modes (held-in ws) set) (link-of ws r converts) (λ k. refl) (locks-in ws) (head-of ws r converts) h
 
     pub convert-is : Right ws r converts 2 → convert-fit (held-in ws) set (queue-in ws r converts) ≡ true →
-        convert-walk ws r set ≡ record { met = length (queue-in ws r converts); modes = other-modes (held-in ws) set (queue-in ws r converts) }
+        convert-walk ws r set ≡ record { met = length (queue-in ws r converts); modes = other-modes (held-in ws) set (queue-in ws r converts); noticed = noticed-of ws (queue-in ws r converts) }
     unfolding convert-walk convert-from queue-in
     convert-is p f = passed-holders ws 2 r (convert-fit (held-in ws) set) (other-modes (held-in ws) set) (link-of ws r converts) (λ k. refl) (locks-in ws) (head-of ws r converts) p f
 
@@ -93,7 +93,7 @@ module _ (ws : List ℕ) (r : ℕ) where
       (λ a. absurd (omega (arith, rw a at h)))
     where
       go : Right ws r grants 1 × (fitting fits-set (held-in ws) 0 (queue-in ws r grants) ≡ true) →
-          convert-part ws r (record { met = length (queue-in ws r grants); modes = gather (held-in ws) 0 (queue-in ws r grants) }) ≤ locks-in ws → Walked ws r
+          convert-part ws r (record { met = length (queue-in ws r grants); modes = gather (held-in ws) 0 (queue-in ws r grants); noticed = noticed-of ws (queue-in ws r grants) }) ≤ locks-in ws → Walked ws r
       go g h =
           let set = gather (held-in ws) 0 (queue-in ws r grants) in
           by-cases (leb (convert-walk ws r set .met) (locks-in ws))

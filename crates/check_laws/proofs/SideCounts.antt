@@ -1,11 +1,11 @@
 -- What belongs on the blocked and on the notice chain, added up along the home chains: each lock stands on one of these.
 use mathlib.Core.Path.{_≡_, refl, sym, _∙_, ap}
-use mathlib.Core.Bool.{Bool, true, false, _&&_, _||_, not}
+use mathlib.Core.Bool.{Bool, true, false, _&&_, _||_}
 use mathlib.Core.List.{List, [], _∷_, _++_}
 use Prim.Native.Nat.{ℕ, suc, _+_, _≤_}
 use native.Mathlib.Omega.{arith}
 use lib.ListN.{length}
-use lib.Dec.{eqb, leb}
+use lib.Dec.{eqb}
 use borrow.Author.Tests.{eqb-true}
 use Rattle.tables.specs.declared.Lock.{Lock}
 use Rattle.tables.specs.Lists.{count, from, keep}
@@ -53,28 +53,27 @@ alone : (b : Bool) → (b || false) ≡ true → b ≡ true
 alone true h = refl
 alone false h = h
 
+silent : (l : Lock) → eqb (l .completion) 0 ≡ true → eqb (l .mark) 0 ≡ true → noticed l ≡ false
+silent l e m = rw (e, m)
+
 module _ (in-use : Bool) (l : Lock) (f : fields-fine in-use l ≡ true) where
-  free-silent : l .state ≡ 0 → eqb (l .completion) 0 ≡ true
+  free-silent : l .state ≡ 0 → noticed l ≡ false
   unfolding fields-fine
   free-silent e =
-      let z : (eqb (l .resource) 0 && eqb (l .client) 0 && eqb (l .held) 0 && eqb (l .asked) 0 && eqb (l .completion) 0) ≡ true = alone _ (alone _ (alone _ (alone _ (rw e at f)))) in
-      search parts depth 20
+      let z : (eqb (l .resource) 0 && eqb (l .client) 0 && eqb (l .held) 0 && eqb (l .asked) 0 && eqb (l .completion) 0 && eqb (l .mark) 0) ≡ true = alone _ (alone _ (alone _ (alone _ (rw e at f)))) in
+      silent l (search parts depth 20) (search parts depth 20)
 
-  converting-silent : l .state ≡ 2 → eqb (l .completion) 0 ≡ true
-  unfolding fields-fine modes-right
-  converting-silent e =
-      let z : (in-use && client-right (l .client) && (leb (l .held) 5 && leb (l .asked) 5) && eqb (l .completion) 0) ≡ true = alone _ (alone _ (rw e at f)) in
-      search parts depth 20
-
-  waiting-silent : l .state ≡ 3 → eqb (l .completion) 0 ≡ true
+  waiting-silent : l .state ≡ 3 → noticed l ≡ false
   unfolding fields-fine modes-right
   waiting-silent e =
-      let z : (in-use && client-right (l .client) && (leb (l .held) 5 && leb (l .asked) 5) && eqb (l .completion) 0 && eqb (l .held) 0) ≡ true = alone _ (rw e at f) in
-      search parts depth 20
+      let z : (in-use && client-right (l .client) && modes-right l && eqb (l .completion) 0 && eqb (l .held) 0 && eqb (l .mark) 0) ≡ true = alone _ (rw e at f) in
+      silent l (search parts depth 20) (search parts depth 20)
 
-  denied-told : l .state ≡ 4 → eqb (l .completion) 2 ≡ true
+  denied-told : l .state ≡ 4 → noticed l ≡ true
   unfolding fields-fine
-  denied-told e = let z = rw e at f in search parts depth 20
+  denied-told e =
+      let z = rw e at f in
+      let told : l .completion ≡ 2 = eqb-true (l .completion) 2 (search parts depth 20) in rw told
 
 -- on a home chain
 module _ (ws : List ℕ) (s r k : ℕ) (h : home-on ws s r k ≡ true) where
@@ -88,12 +87,6 @@ module _ (ws : List ℕ) (s r k : ℕ) (h : home-on ws s r k ≡ true) where
 pub queue-is : (ws : List ℕ) (r : ℕ) (q : Queue) → queue-in ws r q ≡ onward ws 0 (word-in ws (of-resource r (queue-head q)))
 unfolding queue-in onward
 queue-is ws r q = follow-agree (link-of ws r q) (lock-link ws 0) (λ k. refl) (locks-in ws) (head-of ws r q)
-
-silent : (n : ℕ) → eqb n 0 ≡ true → not (eqb n 0) ≡ false
-silent n e = rw e
-
-unread : (n : ℕ) → eqb n 2 ≡ true → not (eqb n 0) ≡ true
-unread n e = rw (eqb-true n 2 e)
 
 module _ (ws : List ℕ) (fine : homes-fine ws ≡ true) where
   homes : Homes ws
@@ -146,9 +139,8 @@ module _ (ws : List ℕ) (fine : homes-fine ws ≡ true) where
     unfolding noticed-at
     noticed-three =
         let p : ℕ → Bool = λ k. noticed (read-lock ws k) in
-        let b : length (keep p (queue-in ws r converts)) ≡ 0 = keep-none p (queue-in ws r converts) (λ k m. let h = on-queue converts k m in silent (read-lock ws k .completion) (converting-silent _ (read-lock ws k) (fields ws 2 r k h) (home-state ws 2 r k h))) in
-        let c : length (keep p (queue-in ws r waits)) ≡ 0 = keep-none p (queue-in ws r waits) (λ k m. let h = on-queue waits k m in silent (read-lock ws k .completion) (waiting-silent _ (read-lock ws k) (fields ws 3 r k h) (home-state ws 3 r k h))) in
-        three-parts p ∙ (rw (b, c, queue-is ws r grants) (omega arith))
+        let c : length (keep p (queue-in ws r waits)) ≡ 0 = keep-none p (queue-in ws r waits) (λ k m. let h = on-queue waits k m in waiting-silent _ (read-lock ws k) (fields ws 3 r k h) (home-state ws 3 r k h)) in
+        three-parts p ∙ (rw (c, queue-is ws r grants, queue-is ws r converts) (omega arith))
 
   pub blocked-counted : sum-over (blocked-at ws) (from 1 (resources-in ws)) ≡ length (keep (λ k. blocked-lock (read-lock ws k)) (from 1 (locks-in ws)))
   blocked-counted =
@@ -160,6 +152,6 @@ module _ (ws : List ℕ) (fine : homes-fine ws ≡ true) where
   pub noticed-counted : home-steps ws 4 0 (word-in ws (of-header 4)) + sum-over (noticed-at ws) (from 1 (resources-in ws)) ≡ length (keep (λ k. noticed (read-lock ws k)) (from 1 (locks-in ws)))
   noticed-counted =
       let p : ℕ → Bool = λ k. noticed (read-lock ws k) in
-      let a : length (keep p (free-in ws)) ≡ 0 = keep-none p (free-in ws) (λ k m. let h = free-member k m in silent (read-lock ws k .completion) (free-silent _ (read-lock ws k) (fields ws 0 0 k h) (home-state ws 0 0 k h))) in
-      let b : length (keep p (denied-in ws)) ≡ length (denied-in ws) = keep-whole p (denied-in ws) (λ k m. let h = denied-member k m in unread (read-lock ws k .completion) (denied-told _ (read-lock ws k) (fields ws 4 0 k h) (home-state ws 4 0 k h))) in
+      let a : length (keep p (free-in ws)) ≡ 0 = keep-none p (free-in ws) (λ k m. let h = free-member k m in free-silent _ (read-lock ws k) (fields ws 0 0 k h) (home-state ws 0 0 k h)) in
+      let b : length (keep p (denied-in ws)) ≡ length (denied-in ws) = keep-whole p (denied-in ws) (λ k m. let h = denied-member k m in denied-told _ (read-lock ws k) (fields ws 4 0 k h) (home-state ws 4 0 k h)) in
       omega (arith, parted p (noticed-at ws) noticed-three, a, b, denied-steps ws (homes .denied))

@@ -8,7 +8,7 @@ use lib.Dec.{eqb, leb}
 use Rattle.modes.specs.Sets.{fits-set, with-mode}
 use Rattle.tables.specs.declared.Lock.{Lock}
 use Rattle.tables.specs.Lists.{all, from, keep}
-use Rattle.tables.specs.State.{name-width, blocked-lock, noticed, state-free, state-granted, state-converting, state-waiting, state-denied, completion-none, completion-denied, grants, converts, waits}
+use Rattle.tables.specs.State.{name-width, blocked-lock, noticed, state-free, state-granted, state-converting, state-waiting, state-denied, completion-none, completion-denied, mark-none, grants, converts, waits}
 use Rattle.tables.specs.Layout.{of-header, of-resource, of-lock, resources-in, locks-in, word-in, follow, lock-link, onward, read-lock, queue-head, held-in}
 use Rattle.tables.specs.Sound.{ends, client-right, modes-right, sizes-right, granted-completion}
 use Rattle.table_names.specs.Names.{named, slot-fine, names-differ}
@@ -50,12 +50,12 @@ on-named ws r = leb 1 r && leb r (resources-in ws) && named ws r
 -- the fields of a lock are right for its state; the first argument says whether its resource is in use
 unfoldable pub fields-fine : Bool → Lock → Bool
 fields-fine in-use l =
-    eqb (l .state) state-free && eqb (l .resource) 0 && eqb (l .client) 0 && eqb (l .held) 0 && eqb (l .asked) 0 && eqb (l .completion) completion-none
+    eqb (l .state) state-free && eqb (l .resource) 0 && eqb (l .client) 0 && eqb (l .held) 0 && eqb (l .asked) 0 && eqb (l .completion) completion-none && eqb (l .mark) mark-none
     || eqb (l .state) state-granted && in-use && client-right (l .client) && modes-right l && eqb (l .asked) 0
     && granted-completion (l .completion)
     || eqb (l .state) state-converting && in-use && client-right (l .client) && modes-right l && eqb (l .completion) completion-none
-    || eqb (l .state) state-waiting && in-use && client-right (l .client) && modes-right l && eqb (l .completion) completion-none && eqb (l .held) 0
-    || eqb (l .state) state-denied && client-right (l .client) && eqb (l .resource) 0 && eqb (l .held) 0 && eqb (l .asked) 0 && eqb (l .completion) completion-denied
+    || eqb (l .state) state-waiting && in-use && client-right (l .client) && modes-right l && eqb (l .completion) completion-none && eqb (l .held) 0 && eqb (l .mark) mark-none
+    || eqb (l .state) state-denied && client-right (l .client) && eqb (l .resource) 0 && eqb (l .held) 0 && eqb (l .asked) 0 && eqb (l .completion) completion-denied && eqb (l .mark) mark-none
 
 -- if it does not belong on the blocked or the notice chain, its link there is zero
 unfoldable pub links-fine : List ℕ → ℕ → Bool
@@ -92,10 +92,14 @@ blocked-fine ws =
 unfoldable pub notice-on : List ℕ → ℕ → Bool
 notice-on ws k = leb k (locks-in ws) && noticed (read-lock ws k)
 
+-- how many of these locks belong on the notice chain
+abbrev pub noticed-of : List ℕ → List ℕ → ℕ
+noticed-of ws ks = length (keep (λ k. noticed (read-lock ws k)) ks)
+
 unfoldable pub notices-fine : List ℕ → Bool
 notices-fine ws =
     eqb (steps (lock-link ws 2) (notice-on ws) (locks-in ws) (word-in ws (of-header 6)))
-    (length (keep (λ k. noticed (read-lock ws k)) (from 1 (locks-in ws))))
+    (noticed-of ws (from 1 (locks-in ws)))
 
 -- a home chain: each lock has the chain's state and resource, and is fine
 unfoldable pub stands : List ℕ → ℕ → ℕ → ℕ → Bool
@@ -117,27 +121,29 @@ unfoldable pub gather : (ℕ → ℕ) → ℕ → List ℕ → ℕ
 gather held s [] = s
 gather held s (k ∷ ks) = gather held (with-mode s (held k)) ks
 
--- a home chain of holders whose modes fit: the number of steps, as above, and the set of the modes, or n + 1 and 0 (the record is the code's struct)
-unfoldable pub holder-steps : List ℕ → ℕ → ℕ → (List ℕ → Bool) → (List ℕ → ℕ) → ℕ → ℕ → HolderCount
-holder-steps ws s r fits modes n k =
+-- a home chain of holders whose modes fit: the number of steps, as above, the set of the modes, and how many belong on the notice chain, with those
+-- before k; or n + 1, 0 and 0 (the record is the code's struct)
+unfoldable pub holder-steps : List ℕ → ℕ → ℕ → (List ℕ → Bool) → (List ℕ → ℕ) → ℕ → ℕ → ℕ → HolderCount
+holder-steps ws s r fits modes n k before =
     let ks = follow (lock-link ws 0) n k in
-    cond (ends (lock-link ws 0) n k && (all (home-on ws s r) ks && fits ks)) (record { met = length ks; modes = modes ks }) (record { met = suc n; modes = 0 })
+    cond (ends (lock-link ws 0) n k && (all (home-on ws s r) ks && fits ks)) (record { met = length ks; modes = modes ks; noticed = before + noticed-of ws ks })
+    (record { met = suc n; modes = 0; noticed = 0 })
 
 -- such a chain, where each held mode must fit the set of those before it
-unfoldable pub mode-steps : List ℕ → ℕ → ℕ → (ℕ → ℕ → Bool) → ℕ → ℕ → ℕ → HolderCount
-mode-steps ws s r fit n k set = holder-steps ws s r (fitting fit (held-in ws) set) (gather (held-in ws) set) n k
+unfoldable pub mode-steps : List ℕ → ℕ → ℕ → (ℕ → ℕ → Bool) → ℕ → ℕ → ℕ → ℕ → HolderCount
+mode-steps ws s r fit n k set before = holder-steps ws s r (fitting fit (held-in ws) set) (gather (held-in ws) set) n k before
 
--- ONE RESOURCE. Its grant chain, from the empty set.
+-- ONE RESOURCE. Its grant chain, from the empty set and the number 0.
 unfoldable pub grant-walk : List ℕ → ℕ → HolderCount
-grant-walk ws r = mode-steps ws state-granted r fits-set (locks-in ws) (word-in ws (of-resource r 1)) 0
+grant-walk ws r = mode-steps ws state-granted r fits-set (locks-in ws) (word-in ws (of-resource r 1)) 0 0
 
 -- the locks behind the convert head, which holds h, starting from the set of the granted modes: each must fit h and those before it; the set leaves h
 -- out
 unfoldable pub fits-beside : ℕ → ℕ → ℕ → Bool
 fits-beside h set m = fits-set (with-mode set h) m
 
-abbrev pub tail-steps : List ℕ → ℕ → ℕ → ℕ → ℕ → ℕ → HolderCount
-tail-steps ws r h n k set = mode-steps ws state-converting r (fits-beside h) n k set
+abbrev pub tail-steps : List ℕ → ℕ → ℕ → ℕ → ℕ → ℕ → ℕ → HolderCount
+tail-steps ws r h n k set before = mode-steps ws state-converting r (fits-beside h) n k set before
 
 -- its convert chain: the head's mode fits the granted ones, and those behind it fit beside it
 unfoldable pub convert-fit : (ℕ → ℕ) → ℕ → List ℕ → Bool
@@ -150,7 +156,7 @@ other-modes held granted [] = granted
 other-modes held granted (k ∷ ks) = gather held granted ks
 
 unfoldable pub convert-from : List ℕ → ℕ → ℕ → ℕ → HolderCount
-convert-from ws r c granted = holder-steps ws state-converting r (convert-fit (held-in ws) granted) (other-modes (held-in ws) granted) (locks-in ws) c
+convert-from ws r c granted = holder-steps ws state-converting r (convert-fit (held-in ws) granted) (other-modes (held-in ws) granted) (locks-in ws) c 0
 
 unfoldable pub convert-walk : List ℕ → ℕ → ℕ → HolderCount
 convert-walk ws r granted = convert-from ws r (word-in ws (of-resource r 2)) granted
@@ -193,8 +199,9 @@ homes-fine ws =
 unfoldable pub blocked-at : List ℕ → ℕ → ℕ
 blocked-at ws r = length (onward ws 0 (word-in ws (of-resource r (queue-head converts)))) + length (onward ws 0 (word-in ws (of-resource r (queue-head waits))))
 
+-- only holders belong on the notice chain, beside the denied locks
 unfoldable pub noticed-at : List ℕ → ℕ → ℕ
-noticed-at ws r = length (keep (λ k. noticed (read-lock ws k)) (onward ws 0 (word-in ws (of-resource r (queue-head grants)))))
+noticed-at ws r = noticed-of ws (onward ws 0 (word-in ws (of-resource r (queue-head grants)))) + noticed-of ws (onward ws 0 (word-in ws (of-resource r (queue-head converts))))
 
 unfoldable pub sum-over : (ℕ → ℕ) → List ℕ → ℕ
 sum-over f [] = 0

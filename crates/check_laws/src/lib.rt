@@ -14,8 +14,10 @@ pub struct ResourceRow {
     pub last: u32,
 }
 
-// What a walk along holders finds: how many, and the set of their modes; or one more than there may be, and no modes.
+// What a walk along holders finds: how many, the set of their modes, and how many of them belong on the notice chain;
+// or one more than there may be, and nothing else.
 pub struct HolderCount {
     pub met: u32,
     pub modes: u32,
+    pub noticed: u32,
 }

@@ -7,16 +7,18 @@ use table_fields::LAST_CLIENT;
 use table_fields::LAST_MODE;
 use table_fields::LOCK_NEXT_BLOCKED;
 use table_fields::LOCK_NEXT_NOTICE;
+use table_fields::MARK_NONE;
 use table_fields::STATE_CONVERTING;
 use table_fields::STATE_DENIED;
 use table_fields::STATE_FREE;
 use table_fields::STATE_GRANTED;
 use table_fields::STATE_WAITING;
+use table_fields::is_noticed;
 use table_fields::lock_at;
 use table_fields::lock_word;
 use tables::Lock;
 ghost use mathlib.Core.Path.{_≡_};
-ghost use mathlib.Core.Bool.{true, _&&_, _||_};
+ghost use mathlib.Core.Bool.{true, _||_};
 ghost use Prim.Native.Nat.{_≤_};
 ghost use lib.Dec.{eqb};
 ghost use Rattle.tables.specs.State.{noticed, «state-free», «state-granted», «state-converting», «state-waiting», «state-denied»};
@@ -33,17 +35,22 @@ fn client_right(l: Lock) -> bool
     (1 <= l.client) & (l.client <= LAST_CLIENT)
 }
 
-// The completion of the granted lock k, whose record is l, is right. Either there is none, and its link on the notice
-// chain is zero; or it says that the lock was granted or that its conversion was denied.
-fn notice_right(words: &[u32], k: u32, l: Lock) -> bool
+// The granted lock has no completion, or one that says that it was granted or that its conversion was denied.
+fn granted_completion(l: Lock) -> bool
+    ensures { λ x. ⌜ x ≡ granted-completion (l .completion) ⌝ }
+{
+    (l.completion == COMPLETION_NONE)
+        | (l.completion == COMPLETION_GRANTED)
+        | (l.completion == COMPLETION_CONVERSION_DENIED)
+}
+
+// The lock k, whose record is l, belongs on the notice chain, or its link there is zero.
+fn notice_link_right(words: &[u32], k: u32, l: Lock) -> bool
     requires { ⌜ Sized (now words) ⌝ }
     requires { ⌜ (1 ≤ k) × (k ≤ locks-in (now words)) ⌝ }
-    ensures { λ x. ⌜ x ≡ (granted-completion (l .completion) && (noticed l || eqb (word-in (now (words .entry)) (of-lock k 2)) 0)) ⌝ }
+    ensures { λ x. ⌜ x ≡ (noticed l || eqb (word-in (now (words .entry)) (of-lock k 2)) 0) ⌝ }
 {
-    if l.completion == COMPLETION_NONE {
-        return lock_word(words, k, LOCK_NEXT_NOTICE) == 0;
-    }
-    (l.completion == COMPLETION_GRANTED) | (l.completion == COMPLETION_CONVERSION_DENIED)
+    is_noticed(l) | (lock_word(words, k, LOCK_NEXT_NOTICE) == 0)
 }
 
 // These tests are of a lock that is met on a home chain: its state and its resource are that chain's, its other fields
@@ -61,11 +68,12 @@ pub fn stands_free(words: &[u32], k: u32) -> bool
         & (l.held == 0)
         & (l.asked == 0)
         & (l.completion == COMPLETION_NONE)
+        & (l.mark == MARK_NONE)
         & (lock_word(words, k, LOCK_NEXT_BLOCKED) == 0)
         & (lock_word(words, k, LOCK_NEXT_NOTICE) == 0)
 }
 
-// A denied lock: it has a client, and a completion that is unread.
+// A denied lock: it has a client and a completion that is unread, and no mark.
 pub fn stands_denied(words: &[u32], k: u32) -> bool
     requires { ⌜ Sized (now words) ⌝ }
     requires { ⌜ (1 ≤ k) × (k ≤ locks-in (now words)) ⌝ }
@@ -78,10 +86,11 @@ pub fn stands_denied(words: &[u32], k: u32) -> bool
         & (l.held == 0)
         & (l.asked == 0)
         & (l.completion == COMPLETION_DENIED)
+        & (l.mark == MARK_NONE)
         & (lock_word(words, k, LOCK_NEXT_BLOCKED) == 0)
 }
 
-// A lock granted on resource r, which is in use: it asks for nothing, and its completion may be unread.
+// A lock granted on resource r, which is in use: it asks for nothing, and it may have an unread completion and a mark.
 pub fn stands_granted(words: &[u32], r: u32, k: u32) -> bool
     requires { ⌜ Sized (now words) ⌝ }
     requires { ⌜ (1 ≤ k) × (k ≤ locks-in (now words)) ⌝ }
@@ -94,12 +103,14 @@ pub fn stands_granted(words: &[u32], r: u32, k: u32) -> bool
         & (l.resource == r)
         & client_right(l)
         & (l.held <= LAST_MODE)
+        & (l.mark <= LAST_MODE)
         & (l.asked == 0)
+        & granted_completion(l)
         & (lock_word(words, k, LOCK_NEXT_BLOCKED) == 0)
-        & notice_right(words, k, l)
+        & notice_link_right(words, k, l)
 }
 
-// A lock converting on resource r, which is in use.
+// A lock converting on resource r, which is in use: it may have a mark.
 pub fn stands_converting(words: &[u32], r: u32, k: u32) -> bool
     requires { ⌜ Sized (now words) ⌝ }
     requires { ⌜ (1 ≤ k) × (k ≤ locks-in (now words)) ⌝ }
@@ -113,11 +124,12 @@ pub fn stands_converting(words: &[u32], r: u32, k: u32) -> bool
         & client_right(l)
         & (l.held <= LAST_MODE)
         & (l.asked <= LAST_MODE)
+        & (l.mark <= LAST_MODE)
         & (l.completion == COMPLETION_NONE)
-        & (lock_word(words, k, LOCK_NEXT_NOTICE) == 0)
+        & notice_link_right(words, k, l)
 }
 
-// A lock waiting on resource r, which is in use: it holds nothing.
+// A lock waiting on resource r, which is in use: it holds nothing and has no mark.
 pub fn stands_waiting(words: &[u32], r: u32, k: u32) -> bool
     requires { ⌜ Sized (now words) ⌝ }
     requires { ⌜ (1 ≤ k) × (k ≤ locks-in (now words)) ⌝ }
@@ -132,5 +144,6 @@ pub fn stands_waiting(words: &[u32], r: u32, k: u32) -> bool
         & (l.held == 0)
         & (l.asked <= LAST_MODE)
         & (l.completion == COMPLETION_NONE)
+        & (l.mark == MARK_NONE)
         & (lock_word(words, k, LOCK_NEXT_NOTICE) == 0)
 }

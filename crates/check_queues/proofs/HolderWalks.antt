@@ -5,12 +5,14 @@ use mathlib.Core.List.{List}
 use Prim.Native.Nat.{ℕ, suc, _+_, _-_, _≤_, _<_}
 use native.Mathlib.Nat.{sub-zero}
 use native.Mathlib.Omega.{arith}
-use lib.Dec.{eqb, leb}
+use lib.Dec.{eqb}
 use borrow.Author.Tests.{not-true, not-false, le-leb, lt-leb, leb-true, eqb-true}
 use Rattle.modes.specs.Sets.{fits-set, with-mode}
 use Rattle.tables.specs.declared.Lock.{Lock}
+use Rattle.tables.specs.Lists.{bit}
+use Rattle.tables.specs.State.{noticed}
 use Rattle.tables.specs.Layout.{of-resource, of-lock, locks-in, word-in, read-lock, held-in}
-use Rattle.tables.specs.Sound.{modes-right, client-right}
+use Rattle.tables.specs.Sound.{modes-right, client-right, granted-completion}
 use Rattle.tables.proofs.Cases.{and-left, and-right, parts}
 use Rattle.check_laws.specs.declared.HolderCount.{HolderCount}
 use Rattle.check_laws.specs.Check.{on-named, fields-fine, links-fine, lock-fine, stands, home-on, mode-steps, fits-beside, tail-steps, grant-walk}
@@ -34,21 +36,17 @@ both-zero l h a = record { held = omega (arith, eqb-true (l .held) 0 h); asked =
 
 both-right : (l : Lock) → modes-right l ≡ true → Modes l
 unfolding modes-right
-both-right l h =
-    record {
-      held = leb-true (l .held) 5 (and-left (leb (l .held) 5) (leb (l .asked) 5) h);
-      asked = leb-true (l .asked) 5 (and-right (leb (l .held) 5) (leb (l .asked) 5) h);
-    }
+both-right l h = record { held = leb-true (l .held) 5 (search parts); asked = leb-true (l .asked) 5 (search parts) }
 
 fields-modes : (u : Bool) (l : Lock) → fields-fine u l ≡ true → Modes l
 unfolding fields-fine
 fields-modes u l i =
     one-of-five
-    (eqb (l .state) 0 && eqb (l .resource) 0 && eqb (l .client) 0 && eqb (l .held) 0 && eqb (l .asked) 0 && eqb (l .completion) 0)
-    (eqb (l .state) 1 && u && client-right (l .client) && modes-right l && eqb (l .asked) 0 && (eqb (l .completion) 0 || eqb (l .completion) 1 || eqb (l .completion) 3))
+    (eqb (l .state) 0 && eqb (l .resource) 0 && eqb (l .client) 0 && eqb (l .held) 0 && eqb (l .asked) 0 && eqb (l .completion) 0 && eqb (l .mark) 0)
+    (eqb (l .state) 1 && u && client-right (l .client) && modes-right l && eqb (l .asked) 0 && granted-completion (l .completion))
     (eqb (l .state) 2 && u && client-right (l .client) && modes-right l && eqb (l .completion) 0)
-    (eqb (l .state) 3 && u && client-right (l .client) && modes-right l && eqb (l .completion) 0 && eqb (l .held) 0)
-    (eqb (l .state) 4 && client-right (l .client) && eqb (l .resource) 0 && eqb (l .held) 0 && eqb (l .asked) 0 && eqb (l .completion) 2)
+    (eqb (l .state) 3 && u && client-right (l .client) && modes-right l && eqb (l .completion) 0 && eqb (l .held) 0 && eqb (l .mark) 0)
+    (eqb (l .state) 4 && client-right (l .client) && eqb (l .resource) 0 && eqb (l .held) 0 && eqb (l .asked) 0 && eqb (l .completion) 2 && eqb (l .mark) 0)
     i
     (λ i. both-zero l (search parts depth 20) (search parts depth 20))
     (λ i. both-right l (search parts depth 20))
@@ -78,33 +76,33 @@ held-read ws k e = e
 -- STEPS along holders: the chain ends; it is too long; it leaves the table; it meets another lock; a mode that doesn't fit; it goes on
 pub walked-over : {n : ℕ} {whole x : HolderCount} → x ≡ over n → over n ≡ whole → Walked n whole x
 unfolding over
-walked-over e w = record { is = e ∙ w; short = rw e (omega arith); small = rw e (omega arith) }
+walked-over e w = record { is = e ∙ w; short = rw e (omega arith); small = rw e (omega arith); few = rw e (omega arith) }
 
 module _ (ws : List ℕ) (s r : ℕ) (fit : ℕ → ℕ → Bool) where
-  modes-at : (n m k set : ℕ) → (k ≡ 0 → ⊥) → m < n →
-      mode-steps ws s r fit (n - m) k set
-      ≡ cond (home-on ws s r k && fit set (held-in ws k)) (one-more (mode-steps ws s r fit (n - (m + 1)) (word-in ws (of-lock k 0)) (with-mode set (held-in ws k)))) (record { met = suc (n - m); modes = 0 })
-  modes-at n m k set e h = let z : n - m - 1 ≡ n - (m + 1) = omega arith in rw (modes-turn ws s r fit (n - m) k set (omega arith) e, z)
+  modes-at : (n m k set c : ℕ) → (k ≡ 0 → ⊥) → m < n →
+      mode-steps ws s r fit (n - m) k set c
+      ≡ cond (home-on ws s r k && fit set (held-in ws k)) (one-more (mode-steps ws s r fit (n - (m + 1)) (word-in ws (of-lock k 0)) (with-mode set (held-in ws k)) (c + bit (noticed (read-lock ws k))))) (record { met = suc (n - m); modes = 0; noticed = 0 })
+  modes-at n m k set c e h = let z : n - m - 1 ≡ n - (m + 1) = omega arith in rw (modes-turn ws s r fit (n - m) k set c (omega arith) e, z)
 
-  pub modes-end : (n : ℕ) {m k set : ℕ} {whole : HolderCount} → whole ≡ modes-left ws s r fit n m k set → k ≡ 0 → m ≤ n → set < 64 → Walked n whole (record { met = m; modes = set })
+  pub modes-end : (n : ℕ) {m k set c : ℕ} {whole : HolderCount} → whole ≡ modes-left ws s r fit n m k set c → k ≡ 0 → m ≤ n → set < 64 → c ≤ m + 1 → Walked n whole (record { met = m; modes = set; noticed = c })
   unfolding modes-left
-  modes-end n {m} {k} {set} i e l h =
+  modes-end n {m} {k} {set} {c} i e l h f =
       let z : m + 0 ≡ m = omega arith in
-      record { is = sym (i ∙ rw (e, modes-zero ws s r fit (n - m) set, z)); short = omega arith; small = h }
+      record { is = sym (i ∙ rw (e, modes-zero ws s r fit (n - m) set c, z)); short = omega arith; small = h; few = omega arith }
 
-  module _ (set : ℕ) {n m k : ℕ} {whole : HolderCount} (i : whole ≡ modes-left ws s r fit n m k set) (e : k ≡ 0 → ⊥) where
+  module _ (set c : ℕ) {n m k : ℕ} {whole : HolderCount} (i : whole ≡ modes-left ws s r fit n m k set c) (e : k ≡ 0 → ⊥) where
     pub modes-long : {x : HolderCount} → m ≤ n → n ≤ m → x ≡ over n → Walked n whole x
     unfolding modes-left over
     modes-long l h o =
         let z : n - m ≡ 0 = omega arith in
         let w : m + 1 ≡ n + 1 = omega arith in
-        walked-over o (sym (i ∙ rw (z, modes-none ws s r fit k set e, w)))
+        walked-over o (sym (i ∙ rw (z, modes-none ws s r fit k set c e, w)))
 
     modes-fail : {x : HolderCount} → m < n → (home-on ws s r k && fit set (held-in ws k)) ≡ false → x ≡ over n → Walked n whole x
     unfolding modes-left over
     modes-fail h f o =
         let w : m + suc (n - m) ≡ n + 1 = omega arith in
-        walked-over o (sym (i ∙ rw (modes-at n m k set e h, f, w)))
+        walked-over o (sym (i ∙ rw (modes-at n m k set c e h, f, w)))
 
     pub modes-off : {x : HolderCount} → m < n → locks-in ws < k → x ≡ over n → Walked n whole x
     unfolding home-on
@@ -120,20 +118,20 @@ module _ (ws : List ℕ) (s r : ℕ) (fit : ℕ → ℕ → Bool) where
         unfolding home-on
         modes-clash v = modes-fail h (rw (le-leb k (locks-in ws) b, ← t, not-false a f, ← held-read ws k g, ← u, not-true d v))
 
-        pub modes-on : {y j : ℕ} → not d ≡ false → y ≡ with-mode set l → j ≡ word-in ws (of-lock k 0) → whole ≡ modes-left ws s r fit n (m + 1) j y
+        pub modes-on : {y q j : ℕ} → not d ≡ false → y ≡ with-mode set l → q ≡ bit (noticed (read-lock ws k)) → j ≡ word-in ws (of-lock k 0) → whole ≡ modes-left ws s r fit n (m + 1) j y (c + q)
         unfolding modes-left home-on
-        modes-on {y} {j} v z w =
-            let p : m + suc (mode-steps ws s r fit (n - (m + 1)) j y .met) ≡ m + 1 + mode-steps ws s r fit (n - (m + 1)) j y .met = omega arith in
-            i ∙ rw (modes-at n m k set e h, le-leb k (locks-in ws) b, ← t, not-false a f, ← held-read ws k g, ← u, not-false d v, ← z, ← w, p)
+        modes-on {y} {q} {j} v z o w =
+            let p : m + suc (mode-steps ws s r fit (n - (m + 1)) j y (c + q) .met) ≡ m + 1 + mode-steps ws s r fit (n - (m + 1)) j y (c + q) .met = omega arith in
+            i ∙ rw (modes-at n m k set c e h, le-leb k (locks-in ws) b, ← t, not-false a f, ← held-read ws k g, ← u, not-false d v, ← z, ← o, ← w, p)
 
-  modes-start : (n k set : ℕ) → mode-steps ws s r fit n k set ≡ modes-left ws s r fit n 0 k set
+  modes-start : (n k set c : ℕ) → mode-steps ws s r fit n k set c ≡ modes-left ws s r fit n 0 k set c
   unfolding modes-left
-  modes-start n k set = let z : 0 + mode-steps ws s r fit n k set .met ≡ mode-steps ws s r fit n k set .met = omega arith in rw (sub-zero n, z)
+  modes-start n k set c = let z : 0 + mode-steps ws s r fit n k set c .met ≡ mode-steps ws s r fit n k set c .met = omega arith in rw (sub-zero n, z)
 
 -- the walks along the grant chain and behind the convert head are two such
-pub grant-start : (ws : List ℕ) (r : ℕ) {k : ℕ} → k ≡ word-in ws (of-resource r 1) → grant-walk ws r ≡ modes-left ws 1 r fits-set (locks-in ws) 0 k 0
+pub grant-start : (ws : List ℕ) (r : ℕ) {k : ℕ} → k ≡ word-in ws (of-resource r 1) → grant-walk ws r ≡ modes-left ws 1 r fits-set (locks-in ws) 0 k 0 0
 unfolding grant-walk
-grant-start ws r e = rw e (modes-start ws 1 r fits-set (locks-in ws) (word-in ws (of-resource r 1)) 0)
+grant-start ws r e = rw e (modes-start ws 1 r fits-set (locks-in ws) (word-in ws (of-resource r 1)) 0 0)
 
-pub tail-start : (ws : List ℕ) (r h n k set : ℕ) → tail-steps ws r h n k set ≡ modes-left ws 2 r (fits-beside h) n 0 k set
-tail-start ws r h n k set = modes-start ws 2 r (fits-beside h) n k set
+pub tail-start : (ws : List ℕ) (r h n k set c : ℕ) → tail-steps ws r h n k set c ≡ modes-left ws 2 r (fits-beside h) n 0 k set c
+tail-start ws r h n k set c = modes-start ws 2 r (fits-beside h) n k set c

@@ -1,3 +1,2 @@
 pub mod HolderWalks
-pub mod GrantChain
 pub mod ResourceQueues

@@ -8,16 +8,17 @@ use native.Mathlib.Omega.{arith}
 use lib.ListN.{length}
 use borrow.Author.Tests.{not-true, not-false, le-leb, lt-leb, eq-eqb, ne-eqb}
 use Rattle.modes.specs.Sets.{fits-set}
-use Rattle.tables.specs.State.{Queue, converts, waits}
+use Rattle.tables.specs.Lists.{bit}
+use Rattle.tables.specs.State.{noticed, Queue, grants, converts, waits}
 use Rattle.tables.specs.Layout.{of-resource, of-lock, locks-in, word-in, read-lock, onward, held-in}
 use Rattle.tables.proofs.Cases.{by-equal}
 use Rattle.check_laws.specs.declared.HolderCount.{HolderCount}
-use Rattle.check_laws.specs.Check.{stands, home-on, home-steps, tail-steps, convert-from, convert-walk, heads-wait, wait-part, convert-part, grant-walk, resource-walk, blocked-at}
+use Rattle.check_laws.specs.Check.{noticed-of, stands, home-on, home-steps, tail-steps, convert-from, convert-walk, heads-wait, wait-part, convert-part, grant-walk, resource-walk, blocked-at, noticed-at}
 use Rattle.check_laws.proofs.ChainSteps.{convert-zero, convert-turn, first-passes}
-use Rattle.check_laws.proofs.ResourceWalk.{link-of, head-of, Right, convert-met, convert-is, wait-met, wait-is}
+use Rattle.check_laws.proofs.ResourceWalk.{link-of, head-of, Right, grant-met, grant-is, convert-met, convert-is, wait-met, wait-is}
 use Rattle.check_laws.proofs.Heads.{home-low, home-fine}
 use Rattle.check_laws.proofs.SideCounts.{queue-is}
-use Rattle.check_queues.specs.QueueWalks.{GrantCount, Census, over, queues-over, Walked, Granting, head-on, Heads, Counted}
+use Rattle.check_queues.specs.QueueWalks.{Census, over, queues-over, Walked, head-on, Heads, Counted}
 use Rattle.check_queues.proofs.HolderWalks.{walked-over, fine-modes, held-read}
 
 -- CONVERTS. The head leaves the table; is another lock; its mode doesn't fit; the rest is walked
@@ -40,20 +41,21 @@ module _ (ws : List ℕ) (r c set : ℕ) (o : 1 ≤ locks-in ws) (m : 1 ≤ c) w
       unfolding home-on
       convert-clash v = convert-fail (rw (le-leb c (locks-in ws) h, ← t, not-false a f, ← held-read ws c e, ← u, not-true b v))
 
-      pub convert-on : {k : ℕ} {rest : HolderCount} → not b ≡ false → k ≡ word-in ws (of-lock c 0) → Walked (locks-in ws - 1) (tail-steps ws r l (locks-in ws - 1) k set) rest → Walked (locks-in ws) (convert-from ws r c set) (record { met = rest .met + 1; modes = rest .modes })
+      pub convert-on : {k q : ℕ} {rest : HolderCount} → not b ≡ false → k ≡ word-in ws (of-lock c 0) → q ≡ bit (noticed (read-lock ws c)) → Walked (locks-in ws - 1) (tail-steps ws r l (locks-in ws - 1) k set q) rest → Walked (locks-in ws) (convert-from ws r c set) (record { met = rest .met + 1; modes = rest .modes; noticed = rest .noticed })
       unfolding home-on
-      convert-on {k} {rest} v g w =
+      convert-on {k} {q} {rest} v g n w =
           let same = w .is in
           record {
-            is = rw (convert-turn ws r set c o (omega arith), le-leb c (locks-in ws) h, ← t, not-false a f, ← held-read ws c e, ← u, not-false b v, ← g, ← same, add-one (rest .met));
+            is = rw (convert-turn ws r set c o (omega arith), le-leb c (locks-in ws) h, ← t, not-false a f, ← held-read ws c e, ← u, not-false b v, ← g, ← n, ← same, add-one (rest .met));
             short = let z = w .short in omega arith;
             small = w .small;
+            few = let z = w .few in omega arith;
           }
 
 module _ (ws : List ℕ) (r set : ℕ) {c : ℕ} (e : c ≡ word-in ws (of-resource r 2)) where
-  pub convert-none : set < 64 → c ≡ 0 → Walked (locks-in ws) (convert-walk ws r set) (record { met = 0; modes = set })
+  pub convert-none : set < 64 → c ≡ 0 → Walked (locks-in ws) (convert-walk ws r set) (record { met = 0; modes = set; noticed = 0 })
   unfolding convert-walk
-  convert-none s z = record { is = rw (← e, z, convert-zero ws r set); short = omega arith; small = s }
+  convert-none s z = record { is = rw (← e, z, convert-zero ws r set); short = omega arith; small = s; few = omega arith }
 
   pub convert-some : {x : HolderCount} → Walked (locks-in ws) (convert-from ws r c set) x → Walked (locks-in ws) (convert-walk ws r set) x
   unfolding convert-walk
@@ -69,6 +71,13 @@ head-stands ws r q s p =
 
 convert-length : (ws : List ℕ) (r set : ℕ) → convert-walk ws r set .met ≤ locks-in ws → convert-walk ws r set .met ≡ length (onward ws 0 (word-in ws (of-resource r 2)))
 convert-length ws r set h = let p = convert-met ws r set h in rw (convert-is ws r set (p .0) (p .1)) (ap length (queue-is ws r converts))
+
+-- and counted those of them that belong on the notice chain
+grant-noticed : (ws : List ℕ) (r : ℕ) → grant-walk ws r .met ≤ locks-in ws → grant-walk ws r .noticed ≡ noticed-of ws (onward ws 0 (word-in ws (of-resource r 1)))
+grant-noticed ws r h = let p = grant-met ws r h in rw (grant-is ws r (p .0) (p .1)) (ap (noticed-of ws) (queue-is ws r grants))
+
+convert-noticed : (ws : List ℕ) (r set : ℕ) → convert-walk ws r set .met ≤ locks-in ws → convert-walk ws r set .noticed ≡ noticed-of ws (onward ws 0 (word-in ws (of-resource r 2)))
+convert-noticed ws r set h = let p = convert-met ws r set h in rw (convert-is ws r set (p .0) (p .1)) (ap (noticed-of ws) (queue-is ws r converts))
 
 wait-length : (ws : List ℕ) (r : ℕ) → home-steps ws 3 r (word-in ws (of-resource r 3)) ≤ locks-in ws → home-steps ws 3 r (word-in ws (of-resource r 3)) ≡ length (onward ws 0 (word-in ws (of-resource r 3)))
 wait-length ws r h = wait-is ws r (wait-met ws r h) ∙ ap length (queue-is ws r waits)
@@ -124,9 +133,9 @@ unfolding queues-over
 counted-over ws r e w =
     rw e (record { met = w; short = omega arith; blocked = λ h. absurd (omega arith); noticed = λ h. absurd (omega arith); few = (omega arith, omega arith) })
 
-module _ (ws : List ℕ) (r : ℕ) {g : GrantCount} (p : Granting ws r g) where
-  eg : record { met = g .met; modes = g .modes } ≡ grant-walk ws r
-  eg = p .walked .is
+module _ (ws : List ℕ) (r : ℕ) {g : HolderCount} (p : Walked (locks-in ws) (grant-walk ws r) g) where
+  eg : g ≡ grant-walk ws r
+  eg = p .is
 
   pub over-grant : {x : Census} → locks-in ws < g .met → x ≡ queues-over (locks-in ws) → Counted ws r x
   unfolding resource-walk
@@ -154,10 +163,13 @@ module _ (ws : List ℕ) (r : ℕ) {g : GrantCount} (p : Granting ws r g) where
         unfolding resource-walk convert-part wait-part
         all-met f = rw (← eg, le-leb (g .met) (locks-in ws) lg, ← ec, le-leb (c .met) (locks-in ws) lc, ← ew, le-leb w (locks-in ws) lw, ← eb, not-false b f)
 
-        pub all-three : not b ≡ false → Counted ws r (record { met = g .met + c .met + w; blocked = c .met + w; noticed = g .noticed })
-        unfolding blocked-at
-        all-three f =
-            let few = p .few in
+        pub all-three : 1 ≤ locks-in ws → not b ≡ false → Counted ws r (record { met = g .met + c .met + w; blocked = c .met + w; noticed = g .noticed + c .noticed })
+        unfolding blocked-at noticed-at
+        all-three o f =
+            let few-granted = p .few in
+            let few-converting = q .few in
             let converts : c .met ≡ length (onward ws 0 (word-in ws (of-resource r 2))) = rw ec (convert-length ws r (g .modes) (rw (← ec) lc)) in
             let waits : w ≡ length (onward ws 0 (word-in ws (of-resource r 3))) = rw ew (wait-length ws r (rw (← ew) lw)) in
-            record { met = all-met f; short = omega arith; blocked = λ h. omega arith; noticed = λ h. p .noticed lg; few = (omega arith, omega arith) }
+            let granted : g .noticed ≡ noticed-of ws (onward ws 0 (word-in ws (of-resource r 1))) = rw eg (grant-noticed ws r (rw (← eg) lg)) in
+            let converting : c .noticed ≡ noticed-of ws (onward ws 0 (word-in ws (of-resource r 2))) = rw ec (convert-noticed ws r (g .modes) (rw (← ec) lc)) in
+            record { met = all-met f; short = omega arith; blocked = λ h. omega arith; noticed = λ h. omega arith; few = (omega arith, omega arith) }

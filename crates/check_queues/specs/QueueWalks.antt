@@ -3,50 +3,32 @@ use mathlib.Core.Path.{_≡_}
 use mathlib.Core.Bool.{Bool, true, _||_}
 use mathlib.Core.List.{List}
 use Prim.Native.Nat.{ℕ, _+_, _*_, _-_, _≤_, _<_}
-use lib.ListN.{length}
 use lib.Dec.{eqb}
-use Rattle.tables.specs.Lists.{keep}
-use Rattle.tables.specs.State.{noticed, state-converting, state-waiting}
-use Rattle.tables.specs.Layout.{of-resource, locks-in, word-in, follow, read-lock, lock-link}
+use Rattle.tables.specs.State.{state-converting, state-waiting}
+use Rattle.tables.specs.Layout.{of-resource, locks-in, word-in}
 use Rattle.check_laws.specs.declared.HolderCount.{HolderCount}
-use Rattle.check_laws.specs.Check.{home-on, mode-steps, grant-walk, resource-walk, blocked-at, noticed-at}
-pub use Rattle.check_queues.specs.declared.GrantCount.{GrantCount}
+use Rattle.check_laws.specs.Check.{home-on, mode-steps, resource-walk, blocked-at, noticed-at}
 pub use Rattle.check_queues.specs.declared.Census.{Census}
 
--- what is met, and what is left from k on with the set so far
-unfoldable pub modes-left : List ℕ → ℕ → ℕ → (ℕ → ℕ → Bool) → ℕ → ℕ → ℕ → ℕ → HolderCount
-modes-left ws s r fit n met k set =
-    let rest = mode-steps ws s r fit (n - met) k set in
-    record { met = met + rest .met; modes = rest .modes }
+-- what is met, and what is left from k on with the set so far, and with the number of those before k that belong on the notice chain
+unfoldable pub modes-left : List ℕ → ℕ → ℕ → (ℕ → ℕ → Bool) → ℕ → ℕ → ℕ → ℕ → ℕ → HolderCount
+modes-left ws s r fit n met k set before =
+    let rest = mode-steps ws s r fit (n - met) k set before in
+    record { met = met + rest .met; modes = rest .modes; noticed = rest .noticed }
 
--- how many locks belong on the notice chain: those before k, and those that are left from k on
-unfoldable pub noticed-left : List ℕ → ℕ → ℕ → ℕ → ℕ → ℕ
-noticed-left ws n met k before = before + length (keep (λ k. noticed (read-lock ws k)) (follow (lock-link ws 0) (n - met) k))
-
--- the answer if something is wrong: with a chain, with a grant chain, with a resource
+-- the answer if something is wrong: with a chain, with a resource
 unfoldable pub over : ℕ → HolderCount
-over n = record { met = n + 1; modes = 0 }
-
-unfoldable pub grants-over : ℕ → GrantCount
-grants-over n = record { met = n + 1; modes = 0; noticed = 0 }
+over n = record { met = n + 1; modes = 0; noticed = 0 }
 
 unfoldable pub queues-over : ℕ → Census
 queues-over n = record { met = n + 1; blocked = 0; noticed = 0 }
 
--- a walk along at most n holders gives what the definition says, and that is a small number and a set
+-- a walk along at most n holders gives what the definition says, and that is small numbers and a set
 pub record Walked (n : ℕ) (whole x : HolderCount) : Type 0 where
   pub is : x ≡ whole
   pub short : x .met ≤ n + 1
   pub small : x .modes < 64
-
--- so does the walk along a grant chain; where nothing is wrong, it counts those that belong on the notice chain too
-abbrev pub holders-of : GrantCount → HolderCount
-holders-of x = record { met = x .met; modes = x .modes }
-
-pub record Granting (ws : List ℕ) (r : ℕ) (x : GrantCount) : Type 0 where
-  pub walked : Walked (locks-in ws) (grant-walk ws r) (holders-of x)
-  pub noticed : x .met ≤ locks-in ws → x .noticed ≡ noticed-at ws r
-  pub few : x .noticed ≤ locks-in ws
+  pub few : x .noticed ≤ n + 1
 
 -- the first lock of a resource's convert chain, and of its wait chain, belongs there, if there is one
 unfoldable pub head-on : List ℕ → ℕ → ℕ → ℕ → Bool

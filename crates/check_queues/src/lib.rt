@@ -5,15 +5,15 @@ use check_laws::HolderCount;
 use check_locks::stands_converting;
 use check_locks::stands_granted;
 use check_resources::bit;
-use table_fields::COMPLETION_NONE;
 use table_fields::LOCK_ASKED;
-use table_fields::LOCK_COMPLETION;
 use table_fields::LOCK_HELD;
 use table_fields::LOCK_NEXT;
 use table_fields::LOCKS;
 use table_fields::RESOURCE_CONVERT;
 use table_fields::RESOURCE_GRANT;
 use table_fields::RESOURCE_WAIT;
+use table_fields::is_noticed;
+use table_fields::lock_at;
 use table_fields::lock_word;
 use table_fields::resource_word;
 ghost use mathlib.Core.Path.{_≡_};
@@ -24,17 +24,9 @@ ghost use Rattle.tables.specs.State.{noticed, «state-waiting», «most-locks»
 ghost use Rattle.tables.specs.Layout.{«of-resource», «word-in», «resources-in», «locks-in», «read-lock»};
 ghost use Rattle.table_fields.specs.Sizes.{Sized};
 ghost use Rattle.table_names.specs.Names.{named};
-ghost use Rattle.check_laws.specs.Check.{«home-steps», «fits-beside», «tail-steps», «convert-from», «convert-walk», «heads-wait»};
+ghost use Rattle.check_laws.specs.Check.{«home-steps», «fits-beside», «tail-steps», «grant-walk», «convert-from», «convert-walk», «heads-wait»};
 ghost use Rattle.check_resources.specs.Passes.{Fine};
-ghost use Rattle.check_queues.specs.QueueWalks.{over, «grants-over», «queues-over», Walked, Granting, Heads, Counted};
-
-// What the walk along the grant chain finds: how many locks, or one more than there are; the set of their modes; how
-// many belong on the notice chain.
-pub struct GrantCount {
-    pub met: u32,
-    pub modes: u32,
-    pub noticed: u32,
-}
+ghost use Rattle.check_queues.specs.QueueWalks.{over, «queues-over», Walked, Heads, Counted};
 
 // What the walks along a resource's queues find: how many locks, or more than there are if something is wrong; how many
 // of them belong on the blocked chain, and how many on the notice chain.
@@ -44,22 +36,12 @@ pub struct Census {
     pub noticed: u32,
 }
 
-// What a walk answers if something is wrong with a chain: one lock more than the n that there may be, and no modes.
+// What a walk answers if something is wrong with a chain: one lock more than the n that there may be, and nothing else.
 fn over(n: u32) -> HolderCount
     requires { ⌜ n ≤ most-locks ⌝ }
     ensures { λ x. ⌜ x ≡ over n ⌝ }
 {
     HolderCount {
-        met: n + 1,
-        modes: 0,
-    }
-}
-
-fn grants_over(n: u32) -> GrantCount
-    requires { ⌜ n ≤ most-locks ⌝ }
-    ensures { λ x. ⌜ x ≡ grants-over n ⌝ }
-{
-    GrantCount {
         met: n + 1,
         modes: 0,
         noticed: 0,
@@ -83,15 +65,15 @@ fn notice_bit(words: &[u32], k: u32) -> u32
     requires { ⌜ (1 ≤ k) × (k ≤ locks-in (now words)) ⌝ }
     ensures { λ x. ⌜ (x ≡ bit (noticed (read-lock (now (words .entry)) k))) × (x ≤ 1) ⌝ }
 {
-    bit(lock_word(words, k, LOCK_COMPLETION) != COMPLETION_NONE)
+    bit(is_noticed(lock_at(words, k)))
 }
 
 // Walks along a resource's grant chain: each held mode must fit those before it.
-fn grant_walk(words: &[u32], r: u32) -> GrantCount
+fn grant_walk(words: &[u32], r: u32) -> HolderCount
     requires { ⌜ Fine (now words) ⌝ }
     requires { ⌜ (1 ≤ r) × (r ≤ resources-in (now words)) ⌝ }
     requires { ⌜ named (now words) r ≡ true ⌝ }
-    ensures { λ x. ⌜ Granting (now (words .entry)) r x ⌝ }
+    ensures { λ x. ⌜ Walked (locks-in (now (words .entry))) (grant-walk (now (words .entry)) r) x ⌝ }
 {
     let n = words[LOCKS];
     let mut k = resource_word(words, r, RESOURCE_GRANT);
@@ -100,24 +82,24 @@ fn grant_walk(words: &[u32], r: u32) -> GrantCount
     let mut noticed = 0;
     while k != 0 {
         if n <= met {
-            return grants_over(n);
+            return over(n);
         }
         if n < k {
-            return grants_over(n);
+            return over(n);
         }
         if !stands_granted(words, r, k) {
-            return grants_over(n);
+            return over(n);
         }
         let held = lock_word(words, k, LOCK_HELD);
         if !modes::fits_by_masks(set, held) {
-            return grants_over(n);
+            return over(n);
         }
         set = modes::with_mode(set, held);
         noticed += notice_bit(words, k);
         k = lock_word(words, k, LOCK_NEXT);
         met += 1;
     }
-    GrantCount {
+    HolderCount {
         met: met,
         modes: set,
         noticed: noticed,
@@ -135,20 +117,22 @@ fn fits_beside(head: u32, set: u32, mode: u32) -> bool
 }
 
 // Walks along the locks behind the convert head: each held mode must fit those before it, the granted ones and the
-// head's. The set that is answered leaves the head's mode out.
-fn tail_walk(words: &[u32], r: u32, head: u32, first: u32, granted: u32) -> HolderCount
+// head's. The set that is answered leaves the head's mode out. `before` is 1 if the head belongs on the notice chain.
+fn tail_walk(words: &[u32], r: u32, head: u32, first: u32, granted: u32, before: u32) -> HolderCount
     requires { ⌜ Fine (now words) ⌝ }
     requires { ⌜ (1 ≤ r) × (r ≤ resources-in (now words)) ⌝ }
     requires { ⌜ named (now words) r ≡ true ⌝ }
     requires { ⌜ head < 6 ⌝ }
     requires { ⌜ granted < 64 ⌝ }
-    ensures { λ x. ⌜ Walked (locks-in (now (words .entry)) - 1) (tail-steps (now (words .entry)) r head (locks-in (now (words .entry)) - 1) first granted) x ⌝ }
+    requires { ⌜ before ≤ 1 ⌝ }
+    ensures { λ x. ⌜ Walked (locks-in (now (words .entry)) - 1) (tail-steps (now (words .entry)) r head (locks-in (now (words .entry)) - 1) first granted before) x ⌝ }
 {
     let last = words[LOCKS];
     let n = last - 1;
     let mut k = first;
     let mut met = 0;
     let mut set = granted;
+    let mut noticed = before;
     while k != 0 {
         if n <= met {
             return over(n);
@@ -164,12 +148,14 @@ fn tail_walk(words: &[u32], r: u32, head: u32, first: u32, granted: u32) -> Hold
             return over(n);
         }
         set = modes::with_mode(set, held);
+        noticed += notice_bit(words, k);
         k = lock_word(words, k, LOCK_NEXT);
         met += 1;
     }
     HolderCount {
         met: met,
         modes: set,
+        noticed: noticed,
     }
 }
 
@@ -194,10 +180,11 @@ fn convert_from(words: &[u32], r: u32, c: u32, granted: u32) -> HolderCount
         return over(n);
     }
     let first = lock_word(words, c, LOCK_NEXT);
-    let rest = tail_walk(words, r, held, first, granted);
+    let rest = tail_walk(words, r, held, first, granted, notice_bit(words, c));
     HolderCount {
         met: rest.met + 1,
         modes: rest.modes,
+        noticed: rest.noticed,
     }
 }
 
@@ -213,6 +200,7 @@ fn convert_walk(words: &[u32], r: u32, granted: u32) -> HolderCount
         return HolderCount {
             met: 0,
             modes: granted,
+            noticed: 0,
         };
     }
     convert_from(words, r, c, granted)
@@ -276,6 +264,6 @@ pub fn resource_walk(words: &[u32], r: u32) -> Census
     Census {
         met: g.met + c.met + w,
         blocked: c.met + w,
-        noticed: g.noticed,
+        noticed: g.noticed + c.noticed,
     }
 }

@@ -1,3 +1,2 @@
 pub mod RecordTests
-pub mod RecordPass
 pub mod PassedRecords

@@ -61,7 +61,7 @@ module _ (ws ss : List ℕ) (r : ℕ) (fine : resource-fine ws ss r ≡ true) (f
   no-walk : resource-walk ws r ≡ 0
   unfolding resource-walk convert-part wait-part convert-walk heads-wait grant-walk home-steps
   no-walk =
-      rw (no-grant, no-convert, no-wait, modes-zero ws 1 r _ (locks-in ws) 0, convert-zero ws r 0, steps-zero (lock-link ws 0) (home-on ws 3 r) (locks-in ws), le-leb 0 (locks-in ws) (omega arith))
+      rw (no-grant, no-convert, no-wait, modes-zero ws 1 r _ (locks-in ws) 0 0, convert-zero ws r 0, steps-zero (lock-link ws 0) (home-on ws 3 r) (locks-in ws), le-leb 0 (locks-in ws) (omega arith))
 
   no-queue : (f : ℕ) → word-in ws (of-resource r f) ≡ 0 → onward ws 0 (word-in ws (of-resource r f)) ≡ []
   unfolding onward
@@ -74,6 +74,6 @@ module _ (ws ss : List ℕ) (r : ℕ) (fine : resource-fine ws ss r ≡ true) (f
         met = sym no-walk;
         short = omega arith;
         blocked = λ h. rw (no-queue 2 no-convert, no-queue 3 no-wait);
-        noticed = λ h. rw (no-queue 1 no-grant);
+        noticed = λ h. rw (no-queue 1 no-grant, no-queue 2 no-convert);
         few = (omega arith, omega arith);
       }

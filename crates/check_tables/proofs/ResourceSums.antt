@@ -18,7 +18,7 @@ use Rattle.check_laws.specs.declared.ResourceRow.{ResourceRow}
 use Rattle.check_laws.specs.Check.{row-in, resource-fine, home-steps, resource-walk, queues-walk, homes-fine, blocked-at, noticed-at, sum-over}
 use Rattle.check_laws.proofs.SideCounts.{blocked-counted, noticed-counted}
 use Rattle.check_resources.specs.Passes.{free-count, blocked-count, noticed-count, Fine}
-use Rattle.check_resources.proofs.RecordPass.{count-one}
+use Rattle.check_laws.proofs.RecordPass.{count-one}
 use Rattle.check_queues.specs.declared.Census.{Census}
 use Rattle.check_queues.specs.QueueWalks.{Counted}
 use Rattle.check_tables.specs.Chains.{HomeCounts, resources-fine, Queues, Homes}

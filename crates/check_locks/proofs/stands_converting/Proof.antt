@@ -1,12 +1,17 @@
-use Rattle.check_locks.proofs.LockStates.{standing}
+use Rattle.check_locks.proofs.LockStates.{converting-stands}
+use borrow.Author.Needs.{needs}
 use Rattle.check_locks.proofs.stands_converting.Statement.{statement}
 use Rattle.check_locks.proofs.stands_converting.Tie as tie
+
+-- the requires are beyond what `search` looks at by itself
+returns : tie.Need-returns
+returns c = let given = c .before .before .before .before .before .before .before .before .before .before .pre in search converting-stands
 
 pub stands-converting-spec : {M : Type 1} → statement M
 stands-converting-spec =
     tie.close
     (tie.spec
-    (λ c κs. search standing)
-    (λ c κs. search standing)
-    (λ c κs. search standing)
-    (λ c. search standing))
+    (λ c κs. search needs)
+    (λ c κs. search needs)
+    (λ c κs. search needs)
+    returns)

@@ -1,13 +1,19 @@
-use Rattle.check_locks.proofs.LockStates.{standing}
+use Rattle.check_locks.proofs.LockStates.{granted-stands}
+use borrow.Author.Needs.{needs}
 use Rattle.check_locks.proofs.stands_granted.Statement.{statement}
 use Rattle.check_locks.proofs.stands_granted.Tie as tie
+
+-- the requires are beyond what `search` looks at by itself
+returns : tie.Need-returns
+returns c = let given = c .before .before .before .before .before .before .before .before .before .before .before .pre in search granted-stands
 
 pub stands-granted-spec : {M : Type 1} → statement M
 stands-granted-spec =
     tie.close
     (tie.spec
-    (λ c κs. search standing)
-    (λ c κs. search standing)
-    (λ c κs. search standing)
-    (λ c κs. search standing)
-    (λ c. search standing))
+    (λ c κs. search needs)
+    (λ c κs. search needs)
+    (λ c κs. search needs)
+    (λ c κs. search needs)
+    (λ c κs. search needs)
+    returns)

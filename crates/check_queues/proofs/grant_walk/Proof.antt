@@ -1,11 +1,10 @@
 -- what is met, and what is left of the chain from there on with the set and the count so far, is the whole
-use Prim.Native.Nat.{_<_, _≤_, _-_}
-use mathlib.Core.Path.{_≡_, refl}
+use Prim.Native.Nat.{_<_, _≤_, _+_, _-_}
+use mathlib.Core.Path.{_≡_}
 use Rattle.modes.specs.Sets.{fits-set}
-use Rattle.check_laws.specs.Check.{grant-walk, noticed-at}
-use Rattle.check_queues.specs.QueueWalks.{modes-left, noticed-left}
-use Rattle.check_queues.proofs.HolderWalks.{grant-start, stands-held, modes-long, modes-off, modes-other, modes-clash, modes-on}
-use Rattle.check_queues.proofs.GrantChain.{noticed-start, noticed-on, granting-over, granting-end}
+use Rattle.check_laws.specs.Check.{grant-walk}
+use Rattle.check_queues.specs.QueueWalks.{modes-left}
+use Rattle.check_queues.proofs.HolderWalks.{grant-start, stands-held, modes-end, modes-long, modes-off, modes-other, modes-clash, modes-on}
 use borrow.Author.Needs.{needs}
 use native.Mathlib.Omega.{arith}
 use Rattle.check_queues.proofs.grant_walk.Statement.{statement}
@@ -15,23 +14,11 @@ abbrev Inv-loop : tie.InvT-loop
 Inv-loop words r n k₀ met₀ set₀ noticed₀ k met set noticed =
     (met ≤ n)
     × ((set < 64)
-    × ((noticed ≤ met)
-    × ((grant-walk words r ≡ modes-left words 1 r fits-set n met k set) × (noticed-at words r ≡ noticed-left words n met k noticed))))
+    × ((noticed ≤ met + 1)
+    × (grant-walk words r ≡ modes-left words 1 r fits-set n met k set noticed)))
 
 abbrev μ-loop : tie.MeasureT-loop
 μ-loop words r n k₀ met₀ set₀ noticed₀ k met set noticed = n - met
-
-loop-holds : tie.Need-loop-holds Inv-loop μ-loop
-loop-holds c = (omega arith, (omega arith, (omega arith, (search grant-start, search noticed-start))))
-
-returns : tie.Need-returns Inv-loop μ-loop
-returns c = granting-over _ _ (c .grants-over .ensures) (search modes-long)
-
-returns-2 : tie.Need-returns-2 Inv-loop μ-loop
-returns-2 c = granting-over _ _ (c .grants-over2 .ensures) (search modes-off)
-
-returns-3 : tie.Need-returns-3 Inv-loop μ-loop
-returns-3 c = granting-over _ _ (c .grants-over3 .ensures) (search modes-other)
 
 returns-4 : tie.Need-returns-4 Inv-loop μ-loop
 returns-4 c =
@@ -39,9 +26,8 @@ returns-4 c =
     let stands = fits .before .before in
     let head = stands .before .before in
     let loop = head .before .before .before .loop in
-    granting-over _ _ (c .grants-over4 .ensures)
-    (modes-clash _ 1 _ fits-set _ (loop .inv .1 .1 .1 .0) (head .before .before .loop-test .taken) (head .before .if1 .left) (head .if2 .left)
-    (stands .before .stands-granted .ensures) (stands .if3 .left) (fits .before .lock-word .ensures) (fits .fits-by-masks .ensures) (c .before .if4 .taken) refl)
+    modes-clash _ 1 _ fits-set _ _ (loop .inv .1 .1 .1) (head .before .before .loop-test .taken) (head .before .if1 .left) (head .if2 .left)
+    (stands .before .stands-granted .ensures) (stands .if3 .left) (fits .before .lock-word .ensures) (fits .fits-by-masks .ensures) (c .before .if4 .taken) (c .over4 .ensures)
 
 loop-again : tie.Need-loop-again Inv-loop μ-loop
 loop-again c =
@@ -50,10 +36,10 @@ loop-again c =
     let head = stands .before .before in
     let loop = head .before .before .before .loop in
     let on =
-    modes-on _ 1 _ fits-set _ (loop .inv .1 .1 .1 .0) (head .before .before .loop-test .taken) (head .before .if1 .left) (head .if2 .left)
+    modes-on _ 1 _ fits-set _ _ (loop .inv .1 .1 .1) (head .before .before .loop-test .taken) (head .before .if1 .left) (head .if2 .left)
     (stands .before .stands-granted .ensures) (stands .if3 .left) (fits .before .lock-word .ensures) (fits .fits-by-masks .ensures) (c .before .before .before .if4 .left)
-    (c .before .before .with-mode .ensures .0) (c .lock-word2 .ensures) in
-    (omega arith, (omega arith, (omega arith, (on, search noticed-on))))
+    (c .before .before .with-mode .ensures .0) (c .before .notice-bit .ensures .0) (c .lock-word2 .ensures) in
+    (omega arith, (omega arith, (omega arith, on)))
 
 pub grant-walk-spec : {M : Type 1} → statement M
 grant-walk-spec =
@@ -63,14 +49,14 @@ grant-walk-spec =
     μ-loop
     (λ c. search needs)
     (λ c κs. search needs)
-    loop-holds
+    (λ c. (omega arith, (omega arith, (omega arith, search grant-start))))
     (λ c κs. search needs)
-    returns
+    (λ c. search modes-long)
     (λ c κs. search needs)
-    returns-2
+    (λ c. search modes-off)
     (λ c κs. (search needs, (search needs, (search needs, search needs))))
     (λ c κs. search needs)
-    returns-3
+    (λ c. search modes-other)
     (λ c κs. search needs)
     (λ c κs. (search needs, search stands-held))
     (λ c κs. search needs)
@@ -82,4 +68,4 @@ grant-walk-spec =
     (λ c. search needs)
     (λ c. search needs)
     loop-again
-    (λ c. search granting-end))
+    (λ c. search modes-end))
