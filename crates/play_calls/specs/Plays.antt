@@ -25,7 +25,7 @@ plays letter fields c t =
     let o = call-entry c t in
     record { answer = answered letter fields (o .said); tables = o .lent-after }
 
--- `q` "prints answer, lock"; `n` "prints completion, lock" and now the mark, as "`lockplay` prints a field that an answer gains, here or later, after
+-- `q` "prints answer, lock"; `n` "prints completion, lock", then the mark, as "`lockplay` prints a field that an answer gains, here or later, after
 -- the others"; any other letter prints the answer alone
 unfoldable pub played : Meaning → Lent → Played
 played (request c m f n) t = plays letter-q 2 (to-request c m f n) t

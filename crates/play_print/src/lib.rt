@@ -5,8 +5,8 @@ ghost use lib.ListN.{length, take};
 ghost use Rattle.play_print.specs.Decimal.{decimal};
 ghost use Rattle.play_print.specs.PrintedLines.{Wrote, one, printed, «spaced-number», «spaced-numbers», «number-width», «field-width», «printed-width»};
 
-// What is printed for a line: its letter and the first of the answer's three numbers, as many as the count between them
-// says; its letter and the refusal; or `?`.
+// What is printed for a line: its letter, how many fields the answer has there, and the answer's numbers, of which the first
+// are these fields; its letter and the refusal; or `?`.
 pub enum LineAnswer {
     Answer(u8, usize, u32, u32, u32),
     Refusal(u8, u32),
