@@ -9,39 +9,28 @@ use Rattle.rules.specs.Entries.{lent, Outcome, Call, Keeps}
 use Rattle.answers.specs.Contracts.{Says}
 use Rattle.answers.proofs.SaidNumbers.{said-kept}
 use Rattle.play_print.specs.declared.LineAnswer.{LineAnswer}
-use Rattle.play_print.specs.declared.LineAnswer.the-variants.{Answer, AnswerAndLock, Refusal}
-use Rattle.play_calls.specs.Plays.{answered, answered-with-lock, plays, plays-with-lock, played-with}
+use Rattle.play_print.specs.declared.LineAnswer.the-variants.{Answer, Refusal}
+use Rattle.play_calls.specs.Plays.{answered, plays, played-with}
 
 -- what is printed
-module _ (letter : ℕ) (x : Said) where
-  pub answered-accepted : x .refusal ≡ 0 → Answer letter (x .answer) ≡ answered letter x
+module _ (letter fields : ℕ) (x : Said) where
+  pub answered-accepted : x .refusal ≡ 0 → Answer letter fields (x .answer) (x .number) (x .extra) ≡ answered letter fields x
   unfolding answered
   answered-accepted e = rw (eq-eqb (x .refusal) 0 e)
 
-  pub answered-refused : (x .refusal ≡ 0 → ⊥) → Refusal letter (x .refusal) ≡ answered letter x
+  pub answered-refused : (x .refusal ≡ 0 → ⊥) → Refusal letter (x .refusal) ≡ answered letter fields x
   unfolding answered
   answered-refused e = rw (ne-eqb (x .refusal) 0 e)
 
-  pub with-lock-accepted : x .refusal ≡ 0 → AnswerAndLock letter (x .answer) (x .number) ≡ answered-with-lock letter x
-  unfolding answered-with-lock
-  with-lock-accepted e = rw (eq-eqb (x .refusal) 0 e)
-
-  pub with-lock-refused : (x .refusal ≡ 0 → ⊥) → Refusal letter (x .refusal) ≡ answered-with-lock letter x
-  unfolding answered-with-lock
-  with-lock-refused e = rw (ne-eqb (x .refusal) 0 e)
-
-pub ruleset answer-rules = (needs, answered-accepted, answered-refused, with-lock-accepted, with-lock-refused)
+pub ruleset answer-rules = (needs, answered-accepted, answered-refused)
 
 -- a line: the entry's answer says x, of which o is printed
-module _ (letter : ℕ) (a sa b sb : List ℕ) (call : Call) (n : Said) (entered : Keeps call (lent a sa) n (lent b sb))
+module _ (letter fields : ℕ) (a sa b sb : List ℕ) (call : Call) (n : Said) (entered : Keeps call (lent a sa) n (lent b sb))
     (x : Said) (says : Says n x) (o : LineAnswer) where
   kept : Keeps call (lent a sa) x (lent b sb)
   kept = said-kept call n x (lent a sa) (lent b sb) entered says
 
-  pub plays-line : o ≡ answered letter x → played-with o b sb ≡ plays letter call (lent a sa)
-  plays-line e = rw e (ap (λ (p : Outcome). record { answer = answered letter (p .said); tables = p .lent-after }) kept)
+  pub plays-line : o ≡ answered letter fields x → played-with o b sb ≡ plays letter fields call (lent a sa)
+  plays-line e = rw e (ap (λ (p : Outcome). record { answer = answered letter fields (p .said); tables = p .lent-after }) kept)
 
-  pub plays-line-with-lock : o ≡ answered-with-lock letter x → played-with o b sb ≡ plays-with-lock letter call (lent a sa)
-  plays-line-with-lock e = rw e (ap (λ (p : Outcome). record { answer = answered-with-lock letter (p .said); tables = p .lent-after }) kept)
-
-pub ruleset line-rules = (needs, plays-line, plays-line-with-lock)
+pub ruleset line-rules = (needs, plays-line)

@@ -8,23 +8,14 @@ ghost use Prim.Native.Nat.{_≤_};
 ghost use lib.ListN.{length};
 ghost use Rattle.rules.specs.Entries.{lent, «to-request», «to-convert», «to-release», «to-cancel», «to-purge», «to-break», «to-poll»};
 ghost use Rattle.play_commands.specs.Forms.{«letter-q», «letter-c», «letter-r», «letter-x», «letter-p», «letter-d», «letter-n», meaning, «name-start»};
-ghost use Rattle.play_calls.specs.Plays.{answered, «answered-with-lock», plays, «plays-with-lock», played, «played-with»};
+ghost use Rattle.play_calls.specs.Plays.{answered, plays, played, «played-with»};
 
-// What is printed for an answer, after the line's letter: without the lock, and with it.
-fn answered(letter: u8, x: Said) -> LineAnswer
-    ensures { λ r. ⌜ r ≡ answered letter x ⌝ }
+// What is printed for an answer: the line's letter, and so many of the answer's numbers.
+fn answered(letter: u8, fields: usize, x: Said) -> LineAnswer
+    ensures { λ r. ⌜ r ≡ answered letter fields x ⌝ }
 {
     if x.refusal == 0 {
-        return LineAnswer::Answer(letter, x.answer);
-    }
-    LineAnswer::Refusal(letter, x.refusal)
-}
-
-fn answered_with_lock(letter: u8, x: Said) -> LineAnswer
-    ensures { λ r. ⌜ r ≡ answered-with-lock letter x ⌝ }
-{
-    if x.refusal == 0 {
-        return LineAnswer::AnswerAndLock(letter, x.answer, x.number);
+        return LineAnswer::Answer(letter, fields, x.answer, x.number, x.extra);
     }
     LineAnswer::Refusal(letter, x.refusal)
 }
@@ -38,10 +29,10 @@ fn request_line(
     flags: u32,
     name: &[u8],
 ) -> LineAnswer
-    ensures { λ r. ⌜ played-with r (now (words .exit)) (now (slots .exit)) ≡ plays-with-lock letter-q (to-request client mode flags (now (name .entry))) (lent (now (words .entry)) (now (slots .entry))) ⌝ }
+    ensures { λ r. ⌜ played-with r (now (words .exit)) (now (slots .exit)) ≡ plays letter-q 2 (to-request client mode flags (now (name .entry))) (lent (now (words .entry)) (now (slots .entry))) ⌝ }
 {
     let r = entry_locks::request(words, slots, client, mode, flags, name);
-    answered_with_lock(b'q', r.said())
+    answered(b'q', 2, r.said())
 }
 
 fn convert_line(
@@ -52,10 +43,10 @@ fn convert_line(
     mode: u32,
     flags: u32,
 ) -> LineAnswer
-    ensures { λ r. ⌜ played-with r (now (words .exit)) (now (slots .exit)) ≡ plays letter-c (to-convert client lock mode flags []) (lent (now (words .entry)) (now (slots .entry))) ⌝ }
+    ensures { λ r. ⌜ played-with r (now (words .exit)) (now (slots .exit)) ≡ plays letter-c 1 (to-convert client lock mode flags []) (lent (now (words .entry)) (now (slots .entry))) ⌝ }
 {
     let r = entry_locks::convert(words, slots, client, lock, mode, flags, b"");
-    answered(b'c', r.said())
+    answered(b'c', 1, r.said())
 }
 
 fn release_line(
@@ -65,38 +56,38 @@ fn release_line(
     lock: u32,
     flags: u32,
 ) -> LineAnswer
-    ensures { λ r. ⌜ played-with r (now (words .exit)) (now (slots .exit)) ≡ plays letter-r (to-release client lock flags []) (lent (now (words .entry)) (now (slots .entry))) ⌝ }
+    ensures { λ r. ⌜ played-with r (now (words .exit)) (now (slots .exit)) ≡ plays letter-r 1 (to-release client lock flags []) (lent (now (words .entry)) (now (slots .entry))) ⌝ }
 {
     let r = entry_locks::release(words, slots, client, lock, flags, b"");
-    answered(b'r', r.said())
+    answered(b'r', 1, r.said())
 }
 
 fn cancel_line(words: &mut [u32], slots: &[u8], client: u32, lock: u32) -> LineAnswer
-    ensures { λ r. ⌜ played-with r (now (words .exit)) (now (slots .entry)) ≡ plays letter-x (to-cancel client lock) (lent (now (words .entry)) (now (slots .entry))) ⌝ }
+    ensures { λ r. ⌜ played-with r (now (words .exit)) (now (slots .entry)) ≡ plays letter-x 1 (to-cancel client lock) (lent (now (words .entry)) (now (slots .entry))) ⌝ }
 {
     let r = entry_recovery::cancel(words, slots, client, lock);
-    answered(b'x', r.said())
+    answered(b'x', 1, r.said())
 }
 
 fn purge_line(words: &mut [u32], slots: &mut [u8], client: u32) -> LineAnswer
-    ensures { λ r. ⌜ played-with r (now (words .exit)) (now (slots .exit)) ≡ plays letter-p (to-purge client) (lent (now (words .entry)) (now (slots .entry))) ⌝ }
+    ensures { λ r. ⌜ played-with r (now (words .exit)) (now (slots .exit)) ≡ plays letter-p 1 (to-purge client) (lent (now (words .entry)) (now (slots .entry))) ⌝ }
 {
     let r = entry_recovery::purge(words, slots, client);
-    answered(b'p', r.said())
+    answered(b'p', 1, r.said())
 }
 
 fn break_line(words: &mut [u32], slots: &[u8]) -> LineAnswer
-    ensures { λ r. ⌜ played-with r (now (words .exit)) (now (slots .entry)) ≡ plays letter-d to-break (lent (now (words .entry)) (now (slots .entry))) ⌝ }
+    ensures { λ r. ⌜ played-with r (now (words .exit)) (now (slots .entry)) ≡ plays letter-d 1 to-break (lent (now (words .entry)) (now (slots .entry))) ⌝ }
 {
     let r = entry_recovery::break_deadlock(words, slots);
-    answered(b'd', r.said())
+    answered(b'd', 1, r.said())
 }
 
 fn poll_line(words: &mut [u32], slots: &[u8], client: u32) -> LineAnswer
-    ensures { λ r. ⌜ played-with r (now (words .exit)) (now (slots .entry)) ≡ plays-with-lock letter-n (to-poll client) (lent (now (words .entry)) (now (slots .entry))) ⌝ }
+    ensures { λ r. ⌜ played-with r (now (words .exit)) (now (slots .entry)) ≡ plays letter-n 3 (to-poll client) (lent (now (words .entry)) (now (slots .entry))) ⌝ }
 {
     let r = entry_recovery::poll(words, slots, client);
-    answered_with_lock(b'n', r.said())
+    answered(b'n', 3, r.said())
 }
 
 // Does what a line asks. The name of a request is the rest of the line from its place on.

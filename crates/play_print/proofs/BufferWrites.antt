@@ -1,16 +1,20 @@
 -- Laws of writing bytes into a buffer.
-use Prim.Native.Nat.{ℕ, suc, _+_, _-_, _/_, _%_, _≤_, _<_}
+use Prim.Native.Nat.{ℕ, suc, _+_, _-_, _*_, _/_, _%_, _≤_, _<_}
 use mathlib.Core.Path.{_≡_, refl, sym, ap, _∙_}
-use mathlib.Core.List.{List, _∷_, _++_, append-assoc}
+use mathlib.Core.Bool.{true, false, _&&_}
+use mathlib.Core.List.{List, [], _∷_, _++_, append-assoc, append-nil}
 use native.Mathlib.Numerals.{add-one}
 use native.Mathlib.Omega.{arith}
 use borrow.Author.Needs.{needs}
-use lib.ListN.{length, take, drop, set, length-append, length-set}
-use lib.Seq.{drop-drop, drop-cons, take-at, drop-at, take-set-le, drop-set-add, set-split, length-take-le}
+use borrow.Author.Tests.{ltb-true, ltb-false}
+use lib.Dec.{ltb}
+use lib.ListN.{length, take, drop, getD, set, length-append, length-set, take-append-drop}
+use lib.Seq.{drop-drop, drop-cons, take-at, take-suc, take-all, drop-at, take-set-le, drop-set-add, set-split, length-take-le}
 use Rattle.play_print.specs.Decimal.{decimal}
-use Rattle.play_print.specs.PrintedLines.{overwritten, one, spaced-number, printed, Wrote, number-width}
+use Rattle.play_print.specs.PrintedLines.{overwritten, one, spaced-number, spaced-numbers, printed, Wrote, number-width, field-width}
+use Rattle.play_numbers.proofs.Basics.{by-cases, and-left, and-right}
 use Rattle.play_print.specs.declared.LineAnswer.{LineAnswer}
-use Rattle.play_print.specs.declared.LineAnswer.the-variants.{Answer, AnswerAndLock, Refusal, Unknown}
+use Rattle.play_print.specs.declared.LineAnswer.the-variants.{Answer, Refusal, Unknown}
 use Rattle.play_print.proofs.Digits.{decimal-one, decimal-more, decimal-longer, decimal-short, decimal-some}
 
 -- one byte
@@ -109,18 +113,81 @@ pub wrote-field : (xs zs vs : List ℕ) (a b r n : ℕ) → Wrote xs a (one 32) 
 unfolding spaced-number
 wrote-field xs zs vs a b r n w v = joined xs (one 32) zs (decimal n) vs a b r w v
 
+-- numbers, each after a space
+spaced-append : (ns ms : List ℕ) → spaced-numbers (ns ++ ms) ≡ spaced-numbers ns ++ spaced-numbers ms
+unfolding spaced-numbers
+spaced-append [] ms = refl
+spaced-append (n ∷ ns) ms = ap (λ l. spaced-number n ++ l) (spaced-append ns ms) ∙ sym (append-assoc (spaced-number n) (spaced-numbers ns) (spaced-numbers ms))
+
+spaced-next : (ns : List ℕ) (i : ℕ) → i < length ns → spaced-numbers (take (i + 1) ns) ≡ spaced-numbers (take i ns) ++ spaced-number (getD ns i 0)
+unfolding spaced-numbers
+spaced-next ns i h =
+    rw (add-one i, take-suc ns i 0 h, spaced-append (take i ns) (one (getD ns i 0))) (ap (λ l. spaced-numbers (take i ns) ++ l) (append-nil (spaced-number (getD ns i 0))))
+
+-- all that are wanted, or all that there are
+take-wanted : (ns : List ℕ) (fields i : ℕ) → i ≤ fields → (ltb i (length ns) && ltb i fields) ≡ false → take i ns ≡ take fields ns
+take-wanted ns fields i h t =
+    by-cases (ltb i (length ns))
+    (λ u. let e : i ≡ fields = let g = ltb-false i fields (rw u at t) in omega arith in ap (λ k. take k ns) e)
+    (λ u. let g = ltb-false i (length ns) u in take-all i ns g ∙ sym (take-all fields ns (omega arith)))
+
+-- the first i of them are written, up to the place a
+pub record WritesFields (xs : List ℕ) (at : ℕ) (ns : List ℕ) (fields : ℕ) (out : List ℕ) (a i : ℕ) : Type 0 where
+  pub wrote : Wrote xs at (spaced-numbers (take i ns)) out a
+  pub most : a ≤ at + field-width * i
+  pub passed : i ≤ length ns
+  pub wanted : i ≤ fields
+  pub room : at + field-width * length ns ≤ length xs
+
+module _ (xs : List ℕ) (at : ℕ) (ns : List ℕ) (fields : ℕ) where
+  pub fields-start : at + field-width * length ns ≤ length xs → WritesFields xs at ns fields xs at 0
+  unfolding spaced-numbers
+  fields-start h =
+      record {
+        wrote = record { is = let z : at + 0 ≡ at = omega arith in rw z (sym (take-append-drop at xs)); next = omega arith; long = refl; within = omega arith };
+        most = omega arith;
+        passed = omega arith;
+        wanted = omega arith;
+        room = h;
+      }
+
+  module _ (out : List ℕ) (a i : ℕ) (f : WritesFields xs at ns fields out a i) where
+    module _ (t : (ltb i (length ns) && ltb i fields) ≡ true) where
+      pub fields-some : i < length ns
+      fields-some = ltb-true i (length ns) (and-left (ltb i (length ns)) (ltb i fields) t)
+
+      pub fields-less : length ns - (i + 1) < length ns - i
+      fields-less = let h = fields-some in omega arith
+
+      pub fields-room : a + field-width ≤ length out
+      fields-room = let h = fields-some in let l = f .wrote .long in omega arith
+
+      pub fields-next : (zs : List ℕ) (b : ℕ) → Wrote out a (spaced-number (getD ns i 0)) zs b × (b ≤ a + field-width) → WritesFields xs at ns fields zs b (i + 1)
+      fields-next zs b w =
+          let h = fields-some in
+          let g = ltb-true i fields (and-right (ltb i (length ns)) (ltb i fields) t) in
+          let m = w .1 in
+          record {
+            wrote = rw (spaced-next ns i h) (joined xs (spaced-numbers (take i ns)) out (spaced-number (getD ns i 0)) zs at a b (f .wrote) (w .0));
+            most = omega arith;
+            passed = omega arith;
+            wanted = omega arith;
+            room = f .room;
+          }
+
+    pub fields-end : (ltb i (length ns) && ltb i fields) ≡ false → Wrote xs at (spaced-numbers (take fields ns)) out a
+    fields-end t = rw (← (take-wanted ns fields i (f .wanted) t)) (f .wrote)
+
+pub ruleset fields-rules = (needs, fields-start, fields-some, fields-less, fields-room, fields-next, fields-end)
+
 -- the lines
 module _ (xs : List ℕ) (at letter : ℕ) {x₁ : List ℕ} {a₁ : ℕ} (w₁ : Wrote xs at (one letter) x₁ a₁) where
-  pub wrote-answer : {x₂ x₃ : List ℕ} {a₂ a₃ : ℕ} (n : ℕ) → Wrote x₁ a₁ (spaced-number n) x₂ a₂ → Wrote x₂ a₂ (one 10) x₃ a₃ → Wrote xs at (printed (Answer letter n)) x₃ a₃
+  pub wrote-answer : {x₂ x₃ : List ℕ} {a₂ a₃ : ℕ} (fields n k e : ℕ)
+      → Wrote x₁ a₁ (spaced-numbers (take fields (n ∷ k ∷ e ∷ []))) x₂ a₂ → Wrote x₂ a₂ (one 10) x₃ a₃ → Wrote xs at (printed (Answer letter fields n k e)) x₃ a₃
   unfolding printed
-  wrote-answer {x₂} {x₃} {a₂} {a₃} n w₂ w₃ =
-      joined xs (one letter) x₁ (spaced-number n ++ one 10) x₃ at a₁ a₃ w₁ (joined x₁ (spaced-number n) x₂ (one 10) x₃ a₁ a₂ a₃ w₂ w₃)
-
-  pub wrote-lock : {x₂ x₃ x₄ : List ℕ} {a₂ a₃ a₄ : ℕ} (n k : ℕ) → Wrote x₁ a₁ (spaced-number n) x₂ a₂ → Wrote x₂ a₂ (spaced-number k) x₃ a₃ → Wrote x₃ a₃ (one 10) x₄ a₄ → Wrote xs at (printed (AnswerAndLock letter n k)) x₄ a₄
-  unfolding printed
-  wrote-lock {x₂} {x₃} {x₄} {a₂} {a₃} {a₄} n k w₂ w₃ w₄ =
-      joined xs (one letter) x₁ (spaced-number n ++ (spaced-number k ++ one 10)) x₄ at a₁ a₄ w₁
-      (joined x₁ (spaced-number n) x₂ (spaced-number k ++ one 10) x₄ a₁ a₂ a₄ w₂ (joined x₂ (spaced-number k) x₃ (one 10) x₄ a₂ a₃ a₄ w₃ w₄))
+  wrote-answer {x₂} {x₃} {a₂} {a₃} fields n k e w₂ w₃ =
+      let ys = spaced-numbers (take fields (n ∷ k ∷ e ∷ [])) in
+      joined xs (one letter) x₁ (ys ++ one 10) x₃ at a₁ a₃ w₁ (joined x₁ ys x₂ (one 10) x₃ a₁ a₂ a₃ w₂ w₃)
 
   pub wrote-refusal : {x₂ x₃ x₄ x₅ : List ℕ} {a₂ a₃ a₄ a₅ : ℕ} (n : ℕ) → Wrote x₁ a₁ (one 32) x₂ a₂ → Wrote x₂ a₂ (one 33) x₃ a₃ → Wrote x₃ a₃ (spaced-number n) x₄ a₄ → Wrote x₄ a₄ (one 10) x₅ a₅ → Wrote xs at (printed (Refusal letter n)) x₅ a₅
   unfolding printed
@@ -133,8 +200,8 @@ pub wrote-unknown : (xs x₁ x₂ : List ℕ) (at a₁ a₂ : ℕ) → Wrote xs 
 unfolding printed
 wrote-unknown xs x₁ x₂ at a₁ a₂ w₁ w₂ = joined xs (one 63) x₁ (one 10) x₂ at a₁ a₂ w₁ w₂
 
--- an outcome is one of the four
+-- an outcome is one of the three
 pub wrote-for : (xs : List ℕ) (at : ℕ) {o p : LineAnswer} {zs : List ℕ} {r : ℕ} → o ≡ p → Wrote xs at (printed p) zs r → Wrote xs at (printed o) zs r
 wrote-for xs at e w = rw e w
 
-pub ruleset print-rules = (needs, wrote-field, wrote-answer, wrote-lock, wrote-refusal, wrote-unknown)
+pub ruleset print-rules = (needs, wrote-field, wrote-answer, wrote-refusal, wrote-unknown)

@@ -6,16 +6,20 @@ use lib.ListN.{length, take, drop}
 use Rattle.play_numbers.specs.Characters.{exclamation-mark, question-mark, space, newline}
 use Rattle.play_print.specs.Decimal.{decimal}
 use Rattle.play_print.specs.declared.LineAnswer.{LineAnswer}
-use Rattle.play_print.specs.declared.LineAnswer.the-variants.{Answer, AnswerAndLock, Refusal, Unknown}
+use Rattle.play_print.specs.declared.LineAnswer.the-variants.{Answer, Refusal, Unknown}
 
--- a space and a number
+-- a space and a number; numbers, each after a space
 unfoldable pub spaced-number : ℕ → List ℕ
 spaced-number n = space ∷ decimal n
+
+unfoldable pub spaced-numbers : List ℕ → List ℕ
+spaced-numbers [] = []
+spaced-numbers (n ∷ ns) = spaced-number n ++ spaced-numbers ns
 
 abbrev pub one : ℕ → List ℕ
 one b = b ∷ []
 
--- the longest of each: a number of 32 bits has ten digits, a field is a space and a number, a line has a letter, two fields and byte 10
+-- the longest of each: a number of 32 bits has ten digits, a field is a space and a number, a line has a letter, three fields and byte 10
 abbrev pub number-width : ℕ
 number-width = 10
 
@@ -23,12 +27,12 @@ abbrev pub field-width : ℕ
 field-width = 1 + number-width
 
 abbrev pub printed-width : ℕ
-printed-width = 1 + 2 * field-width + 1
+printed-width = 1 + 3 * field-width + 1
 
--- the letter and the answer, for `q` and `n` with the lock after it; the letter, `!` and the refusal; or `?`
+-- the letter and the answer's first numbers, as many as the line prints: "`lockplay` prints a field that an answer gains, here or later, after the
+-- others"; the letter, `!` and the refusal; or `?`
 unfoldable pub printed : LineAnswer → List ℕ
-printed (Answer letter answer) = letter ∷ (spaced-number answer ++ one newline)
-printed (AnswerAndLock letter answer lock) = letter ∷ (spaced-number answer ++ (spaced-number lock ++ one newline))
+printed (Answer letter fields answer number extra) = letter ∷ (spaced-numbers (take fields (answer ∷ number ∷ extra ∷ [])) ++ one newline)
 printed (Refusal letter refusal) = letter ∷ space ∷ exclamation-mark ∷ (spaced-number refusal ++ one newline)
 printed Unknown = question-mark ∷ newline ∷ []
 

@@ -1,25 +1,25 @@
 // What is printed for a line of the program lockplay.
 ghost use mathlib.Core.Path.{_≡_};
-ghost use Prim.Native.Nat.{_+_, _%_, _≤_, _<_};
-ghost use lib.ListN.{length};
+ghost use Prim.Native.Nat.{_+_, _*_, _%_, _≤_, _<_};
+ghost use lib.ListN.{length, take};
 ghost use Rattle.play_print.specs.Decimal.{decimal};
-ghost use Rattle.play_print.specs.PrintedLines.{Wrote, one, printed, «spaced-number», «number-width», «field-width», «printed-width»};
+ghost use Rattle.play_print.specs.PrintedLines.{Wrote, one, printed, «spaced-number», «spaced-numbers», «number-width», «field-width», «printed-width»};
 
-// What is printed for a line: the line's letter and the answer, for q and n with the lock; the letter and the refusal; or `?`.
+// What is printed for a line: its letter, how many fields the answer has there, and the answer's numbers, of which the first
+// are these fields; its letter and the refusal; or `?`.
 pub enum LineAnswer {
-    Answer(u8, u32),
-    AnswerAndLock(u8, u32, u32),
+    Answer(u8, usize, u32, u32, u32),
     Refusal(u8, u32),
     Unknown,
 }
 
-// The longest of each: a number of 32 bits has ten digits, a field is a space and a number, a line has a letter, two fields
-// and byte 10.
+// The longest of each: a number of 32 bits has ten digits, a field is a space and a number, a line has a letter, three
+// fields and byte 10.
 const NUMBER_BYTES: usize = 10;
 
 const FIELD_BYTES: usize = 1 + NUMBER_BYTES;
 
-pub const PRINTED_BYTES: usize = 1 + 2 * FIELD_BYTES + 1;
+pub const PRINTED_BYTES: usize = 1 + 3 * FIELD_BYTES + 1;
 
 // Writes one byte at a place of a buffer. This function and those below answer the place after what they wrote.
 fn put_byte(out: &mut [u8], at: usize, b: u8) -> usize
@@ -77,24 +77,37 @@ fn put_field(out: &mut [u8], at: usize, n: u32) -> usize
     put_number(out, a, n)
 }
 
-// The lines of the four outcomes.
-fn print_answer(out: &mut [u8], at: usize, letter: u8, answer: u32) -> usize
-    requires { ⌜ at + printed-width ≤ length (now out) ⌝ }
-    ensures { λ r. ⌜ Wrote (now (out .entry)) at (printed (LineAnswer.Answer letter answer)) (now (out .exit)) r × (r ≤ at + printed-width) ⌝ }
+// The first numbers, as many as fields says, each after a space.
+fn put_fields(out: &mut [u8], at: usize, numbers: &[u32], fields: usize) -> usize
+    requires { ⌜ at + field-width * length (now numbers) ≤ length (now out) ⌝ }
+    ensures { λ r. ⌜ Wrote (now (out .entry)) at (spaced-numbers (take fields (now (numbers .entry)))) (now (out .exit)) r × (r ≤ at + field-width * length (now (numbers .entry))) ⌝ }
 {
-    let a = put_byte(out, at, letter);
-    let b = put_field(out, a, answer);
-    put_byte(out, b, 10)
+    let mut a = at;
+    let mut i = 0;
+    while (i < numbers.len()) & (i < fields) {
+        a = put_field(out, a, numbers[i]);
+        i += 1;
+    }
+    a
 }
 
-fn print_answer_and_lock(out: &mut [u8], at: usize, letter: u8, answer: u32, lock: u32) -> usize
+// The lines of the three outcomes.
+fn print_answer(
+    out: &mut [u8],
+    at: usize,
+    letter: u8,
+    fields: usize,
+    answer: u32,
+    number: u32,
+    extra: u32,
+) -> usize
     requires { ⌜ at + printed-width ≤ length (now out) ⌝ }
-    ensures { λ r. ⌜ Wrote (now (out .entry)) at (printed (LineAnswer.AnswerAndLock letter answer lock)) (now (out .exit)) r × (r ≤ at + printed-width) ⌝ }
+    ensures { λ r. ⌜ Wrote (now (out .entry)) at (printed (LineAnswer.Answer letter fields answer number extra)) (now (out .exit)) r × (r ≤ at + printed-width) ⌝ }
 {
+    let numbers = [answer, number, extra];
     let a = put_byte(out, at, letter);
-    let b = put_field(out, a, answer);
-    let e = put_field(out, b, lock);
-    put_byte(out, e, 10)
+    let b = put_fields(out, a, &numbers, fields);
+    put_byte(out, b, 10)
 }
 
 fn print_refusal(out: &mut [u8], at: usize, letter: u8, refusal: u32) -> usize
@@ -122,9 +135,8 @@ pub fn print(out: &mut [u8], at: usize, o: LineAnswer) -> usize
     ensures { λ r. ⌜ Wrote (now (out .entry)) at (printed o) (now (out .exit)) r × (r ≤ at + printed-width) ⌝ }
 {
     match o {
-        LineAnswer::Answer(letter, answer) => print_answer(out, at, letter, answer),
-        LineAnswer::AnswerAndLock(letter, answer, lock) => {
-            print_answer_and_lock(out, at, letter, answer, lock)
+        LineAnswer::Answer(letter, fields, answer, number, extra) => {
+            print_answer(out, at, letter, fields, answer, number, extra)
         }
         LineAnswer::Refusal(letter, refusal) => print_refusal(out, at, letter, refusal),
         LineAnswer::Unknown => print_unknown(out, at),
