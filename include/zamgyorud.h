@@ -23,9 +23,15 @@
  * makes them, and break can deny it because of a deadlock. Poll tells how the wait has ended: its completion. A completion is polled before its
  * lock is used again: until then convert, release and cancel of this lock are refused with ZAMGYORUD_REFUSAL_UNREAD.
  *
- * Answers. Each call but sound and holder gives a struct zamgyorud_answer, and three functions take it apart, on every answer of every call:
- * zamgyorud_refusal, zamgyorud_result, zamgyorud_lock. Holder gives a struct of its own, with functions of its own. So an answer can't be taken for
- * a number, nor one of the two for the other: it doesn't compile.
+ * Marks. Poll also tells a client that one of its locks is in somebody's way. When a request or conversion has to wait, each other lock on that name
+ * that holds a mode incompatible with the asked one gets a mark: the asked mode, or the mark that it has, if that has the larger number. A lock that
+ * gets its mode later is not marked for this wait. A mark stops no call, and lasts until it is polled or its lock is freed. So a client that keeps a
+ * lock for long polls now and then, and at a mark it releases the lock or converts it down as soon as it can. Whoever asked may wait no longer, and
+ * others may wait too: list tells who does.
+ *
+ * Answers. Each call but sound and holder gives a struct zamgyorud_answer, and four functions take it apart, on every answer of every call:
+ * zamgyorud_refusal, zamgyorud_result, zamgyorud_lock, zamgyorud_mark. Holder gives a struct of its own, with functions of its own. So an answer can't
+ * be taken for a number, nor one of the two for the other: it doesn't compile.
  *
  * Two forms. zamgyorud_tables_request(&tables, ..) and its like take a struct zamgyorud_tables. zamgyorud_request(words, words_len, slots, slots_len,
  * ..) and its like are the functions of the library. A program that uses the first form, and zamgyorud_tables_in to make the struct, stays as it is
@@ -39,8 +45,9 @@
  *      read, sound                       constant
  *      poll, list                        linear in L
  *      start, image, load                linear in R and L
- *      request, holder                   linear in R and L: each name is compared with the one given
- *      convert, release, cancel, purge   quadratic in L: linear for each lock that is freed or granted
+ *      holder, request that is granted   linear in R and L: each name is compared with the one given
+ *      request that waits                linear in R, quadratic in L: linear for each lock that gets a mark
+ *      convert, release, cancel, purge   quadratic in L: linear for each lock that gets a mark, is freed or is granted
  *      break                             cubic in L: a search from each blocked lock over all blocked locks, and their holders
  *
  * Measured with R 256 and L 1,024 on one machine: most calls take 5 to 10 us. At worst, names that look alike add 30 us, a release that grants 1,023
@@ -57,9 +64,9 @@ extern "C" {
 #endif
 
 /* The version of this header and of the library that comes with it. */
-#define ZAMGYORUD_VERSION "0.2.0"
+#define ZAMGYORUD_VERSION "0.3.0"
 #define ZAMGYORUD_VERSION_MAJOR 0
-#define ZAMGYORUD_VERSION_MINOR 2
+#define ZAMGYORUD_VERSION_MINOR 3
 #define ZAMGYORUD_VERSION_PATCH 0
 
 /* The most that R, L and a client's number can be; the most bytes of a name; the bytes of a value. */
@@ -71,7 +78,7 @@ extern "C" {
 
 /* Lengths, for constant r and l: of the words in words, of the slots and of an image in bytes, of the memory for zamgyorud_tables_in in words. The
  * functions of the same names, below, take any numbers. */
-#define ZAMGYORUD_WORDS_LEN(r, l) (8 + 8 * (size_t)(r) + 9 * (size_t)(l))
+#define ZAMGYORUD_WORDS_LEN(r, l) (8 + 8 * (size_t)(r) + 10 * (size_t)(l))
 #define ZAMGYORUD_SLOTS_LEN(r, l) (96 * (size_t)(r))
 #define ZAMGYORUD_IMAGE_LEN(r, l) (4 * ZAMGYORUD_WORDS_LEN(r, l) + ZAMGYORUD_SLOTS_LEN(r, l))
 #define ZAMGYORUD_MEMORY_LEN(r, l) (ZAMGYORUD_WORDS_LEN(r, l) + ZAMGYORUD_SLOTS_LEN(r, l) / 4)
@@ -123,7 +130,7 @@ extern "C" {
 #define ZAMGYORUD_CANCELLED_REQUEST 2
 
 /* Results of poll: how a wait has ended. */
-#define ZAMGYORUD_COMPLETION_NONE 0              /* the client has no notice */
+#define ZAMGYORUD_COMPLETION_NONE 0              /* no completion: the client has no notice (lock 0), or the lock has a mark alone */
 #define ZAMGYORUD_COMPLETION_GRANTED 1           /* the lock has the mode that it asked for */
 #define ZAMGYORUD_COMPLETION_REQUEST_DENIED 2    /* the lock is gone */
 #define ZAMGYORUD_COMPLETION_CONVERSION_DENIED 3 /* the lock has the mode that it had before */
@@ -143,7 +150,7 @@ struct zamgyorud_entry {
 };
 
 /* An answer. With the highest bit set it is a refusal, whose number is below. Otherwise bits 0 to 15 are the result, bits 16 to 31 the lock, and bits
- * 32 to 47 are left for one number more. A struct of one uint64_t is returned in the same register as a uint64_t, on x86-64 and on AArch64. */
+ * 32 to 47 the mark. A struct of one uint64_t is returned in the same register as a uint64_t, on x86-64 and on AArch64. */
 struct zamgyorud_answer {
     uint64_t bits;
 };
@@ -161,6 +168,11 @@ static inline uint32_t zamgyorud_result(struct zamgyorud_answer answer) {
 /* The lock that request gives, break has denied or poll tells of; 0 for all other calls, and if it was refused. */
 static inline uint32_t zamgyorud_lock(struct zamgyorud_answer answer) {
     return answer.bits >> 63 != 0 ? 0 : (uint32_t)(answer.bits >> 16 & UINT16_MAX);
+}
+
+/* The mark that poll tells of, a mode from 1 to 5; 0 if the lock has none, for all other calls, and if it was refused. */
+static inline uint32_t zamgyorud_mark(struct zamgyorud_answer answer) {
+    return answer.bits >> 63 != 0 ? 0 : (uint32_t)(answer.bits >> 32 & UINT16_MAX);
 }
 
 /* Holder's answer: a client's number or 0; a refusal is 256 plus its number. */
@@ -292,8 +304,8 @@ static inline struct zamgyorud_answer zamgyorud_tables_break(const struct zamgyo
     return zamgyorud_break(tables->words, tables->words_len, tables->slots, tables->slots_len);
 }
 
-/* Takes a client's first notice. Result: the completion, one of ZAMGYORUD_COMPLETION_. Lock: the one that waited. Both are 0 if there is no
- * notice. */
+/* Takes a client's first notice: a lock with its completion, its mark or both. Result: the completion, one of ZAMGYORUD_COMPLETION_. Lock: the one
+ * that waited, or is in somebody's way; 0 if there is no notice, and only then. Mark: the mode that somebody asked for there, or 0. */
 struct zamgyorud_answer zamgyorud_poll(uint32_t *words, size_t words_len, const uint8_t *slots, size_t slots_len, uint32_t client);
 
 static inline struct zamgyorud_answer zamgyorud_tables_poll(const struct zamgyorud_tables *tables, uint32_t client) {

@@ -1,4 +1,4 @@
-/* Calls every function of the C interface. What is expected was worked out by hand from document 01, on tables with R 4 and L 8.
+/* Calls every function of the C interface. What is expected was worked out by hand from documents 01 and 02, on tables with R 4 and L 8.
  * Prints 'capi: N checks passed', or each check that failed, and then the exit status is 1.
  */
 #include <inttypes.h>
@@ -10,12 +10,15 @@
 #define R 4
 #define L 8
 
-/* Document 01's layout: words of the header, of a resource and of a lock, bytes of a slot. */
+/* The layout: words of the header, of a resource and of a lock, bytes of a slot; where some of these words stand. */
 #define HEADER_WORDS 8
 #define RESOURCE_WORDS 8
-#define LOCK_WORDS 9
+#define LOCK_WORDS 10
 #define SLOT_BYTES 96
 #define WORD_BYTES 4
+#define HEADER_NOTICE 6
+#define LOCK_NOTICE 2
+#define LOCK_MARK 9
 
 /* One more than document 01 allows. */
 #define TOO_MANY_RESOURCES 257
@@ -27,10 +30,12 @@
 #define IMAGE ZAMGYORUD_IMAGE_LEN(R, L)
 #define MEMORY ZAMGYORUD_MEMORY_LEN(R, L)
 
-/* A number; bytes; an accepted answer, with all its bits; a refused one; holder's two answers. */
+/* A number; bytes; an accepted answer, with all its bits; one of poll; a refused one; holder's two answers. */
 #define IS(actual, expected) check(__LINE__, #actual, (actual), (expected))
 #define SAME(a, b, bytes) check(__LINE__, #a " as " #b, memcmp((a), (b), (bytes)) == 0, 1)
-#define GIVES(answer, result, lock) accepted(__LINE__, #answer, (answer), (result), (lock))
+#define GIVES(answer, result, lock) accepted(__LINE__, #answer, (answer), (result), (lock), 0)
+#define TELLS(client, completion, lock, mark) \
+    accepted(__LINE__, "poll of client " #client, zamgyorud_tables_poll(&tables, (client)), (completion), (lock), (mark))
 #define REFUSES(answer, refusal) refused(__LINE__, #answer, (answer), (refusal))
 #define HOLDS(answer, refusal, client) holds(__LINE__, #answer, (answer), (refusal), (client))
 
@@ -47,12 +52,13 @@ static void check(int line, const char *what, uint64_t actual, uint64_t expected
     printf("capi: line %d: %s is %" PRIu64 ", not %" PRIu64 "\n", line, what, actual, expected);
 }
 
-static void accepted(int line, const char *what, struct zamgyorud_answer answer, uint32_t result, uint32_t lock)
+static void accepted(int line, const char *what, struct zamgyorud_answer answer, uint32_t result, uint32_t lock, uint32_t mark)
 {
-    check(line, what, answer.bits, (uint64_t)lock << 16 | result);
+    check(line, what, answer.bits, (uint64_t)mark << 32 | (uint64_t)lock << 16 | result);
     check(line, what, zamgyorud_refusal(answer), 0);
     check(line, what, zamgyorud_result(answer), result);
     check(line, what, zamgyorud_lock(answer), lock);
+    check(line, what, zamgyorud_mark(answer), mark);
 }
 
 static void refused(int line, const char *what, struct zamgyorud_answer answer, uint32_t refusal)
@@ -61,6 +67,7 @@ static void refused(int line, const char *what, struct zamgyorud_answer answer, 
     check(line, what, zamgyorud_refusal(answer), refusal);
     check(line, what, zamgyorud_result(answer), 0);
     check(line, what, zamgyorud_lock(answer), 0);
+    check(line, what, zamgyorud_mark(answer), 0);
 }
 
 static void holds(int line, const char *what, struct zamgyorud_held held, uint32_t refusal, uint32_t client)
@@ -108,6 +115,28 @@ static struct zamgyorud_answer release(uint32_t client, uint32_t lock, uint32_t 
     return zamgyorud_tables_release(&tables, client, lock, flags, NULL, 0);
 }
 
+/* A word of a lock's record. */
+static uint32_t *lock_word(uint32_t lock, size_t field)
+{
+    return tables.words + HEADER_WORDS + RESOURCE_WORDS * R + LOCK_WORDS * (lock - 1) + field;
+}
+
+/* Answers taken apart, also ones that no call gives: each part is 16 bits, and of a refusal nothing but its number is told. */
+static void test_answers(void)
+{
+    const struct zamgyorud_answer full = {UINT64_C(0x7fff333322221111)};
+    const struct zamgyorud_answer refusal = {UINT64_MAX};
+
+    IS(zamgyorud_refusal(full), 0);
+    IS(zamgyorud_result(full), 0x1111);
+    IS(zamgyorud_lock(full), 0x2222);
+    IS(zamgyorud_mark(full), 0x3333);
+    IS(zamgyorud_refusal(refusal), UINT32_MAX);
+    IS(zamgyorud_result(refusal), 0);
+    IS(zamgyorud_lock(refusal), 0);
+    IS(zamgyorud_mark(refusal), 0);
+}
+
 /* Lengths, and tables in memory. Constants and functions say the same; where there are no tables, the functions say 0. */
 static void test_lengths(void)
 {
@@ -122,8 +151,8 @@ static void test_lengths(void)
     IS(zamgyorud_slots_len(R, L), SLOTS);
     IS(zamgyorud_image_len(R, L), IMAGE);
     IS(zamgyorud_memory_len(R, L), MEMORY);
-    IS(zamgyorud_image_len(1, 1), 196);
-    IS(zamgyorud_image_len(ZAMGYORUD_MOST_RESOURCES, ZAMGYORUD_MOST_LOCKS), 69664);
+    IS(zamgyorud_image_len(1, 1), 200);
+    IS(zamgyorud_image_len(ZAMGYORUD_MOST_RESOURCES, ZAMGYORUD_MOST_LOCKS), 73760);
     for (size_t i = 0; i < sizeof wrong / sizeof *wrong; i++) {
         IS(zamgyorud_words_len(wrong[i][0], wrong[i][1]), 0);
         IS(zamgyorud_slots_len(wrong[i][0], wrong[i][1]), 0);
@@ -178,8 +207,9 @@ static void test_takeover(void)
     REFUSES(request(2, ZAMGYORUD_MODE_EX, ZAMGYORUD_FLAG_NO_QUEUE, "vip-7"), ZAMGYORUD_REFUSAL_BLOCKS);
     unchanged();
     GIVES(zamgyorud_tables_purge(&tables, 1), 1, 0);
-    GIVES(zamgyorud_tables_poll(&tables, 2), ZAMGYORUD_COMPLETION_GRANTED, 2);
-    GIVES(zamgyorud_tables_poll(&tables, 2), ZAMGYORUD_COMPLETION_NONE, 0);
+    TELLS(2, ZAMGYORUD_COMPLETION_GRANTED, 2, 0);
+    TELLS(2, ZAMGYORUD_COMPLETION_NONE, 0, 0);
+    TELLS(1, 0, 0, 0); /* the purge took its mark too */
 }
 
 /* What is turned down before anything else is looked at, and tables that are full. */
@@ -359,8 +389,9 @@ static void test_deadlocks(void)
     GIVES(request(2, ZAMGYORUD_MODE_EX, 0, "A"), 2, 4);
     GIVES(zamgyorud_tables_break(&tables), 3, 3);
     REFUSES(zamgyorud_tables_cancel(&tables, 1, 3), ZAMGYORUD_REFUSAL_UNREAD);
-    GIVES(zamgyorud_tables_poll(&tables, 1), ZAMGYORUD_COMPLETION_REQUEST_DENIED, 3);
-    GIVES(zamgyorud_tables_poll(&tables, 1), 0, 0);
+    TELLS(1, 0, 1, ZAMGYORUD_MODE_EX);
+    TELLS(1, ZAMGYORUD_COMPLETION_REQUEST_DENIED, 3, 0);
+    TELLS(1, 0, 0, 0);
     GIVES(zamgyorud_tables_break(&tables), 0, 0);
 
     start_afresh();
@@ -369,10 +400,99 @@ static void test_deadlocks(void)
     GIVES(convert(1, 1, ZAMGYORUD_MODE_EX), 2, 0);
     GIVES(convert(2, 2, ZAMGYORUD_MODE_EX), 2, 0);
     GIVES(zamgyorud_tables_break(&tables), 1, 1);
-    GIVES(zamgyorud_tables_poll(&tables, 2), 0, 0);
-    GIVES(zamgyorud_tables_poll(&tables, 1), ZAMGYORUD_COMPLETION_CONVERSION_DENIED, 1);
+    TELLS(2, 0, 2, ZAMGYORUD_MODE_EX);
+    TELLS(1, ZAMGYORUD_COMPLETION_CONVERSION_DENIED, 1, ZAMGYORUD_MODE_EX);
     GIVES(release(1, 1, 0), 0, 0);
-    GIVES(zamgyorud_tables_poll(&tables, 2), ZAMGYORUD_COMPLETION_GRANTED, 2);
+    TELLS(2, ZAMGYORUD_COMPLETION_GRANTED, 2, 0);
+}
+
+/* Marks. Lock 1 holds CR, lock 2 PW and lock 3 NL. PR and CW have to wait for PW; of the two PR has the larger number. EX has to wait for all but NL. */
+static void test_marks(void)
+{
+    start_afresh();
+    GIVES(request(1, ZAMGYORUD_MODE_CR, 0, "A"), 1, 1);
+    GIVES(request(2, ZAMGYORUD_MODE_PW, 0, "A"), 1, 2);
+    GIVES(request(3, ZAMGYORUD_MODE_NL, 0, "A"), 1, 3);
+    keep();
+    REFUSES(request(4, ZAMGYORUD_MODE_EX, ZAMGYORUD_FLAG_NO_QUEUE, "A"), 13);
+    unchanged();
+
+    /* set, not lowered, raised; the lock that is marked later stands behind the one that is raised */
+    GIVES(request(4, ZAMGYORUD_MODE_PR, 0, "A"), 2, 4);
+    IS(*lock_word(2, LOCK_MARK), ZAMGYORUD_MODE_PR);
+    GIVES(request(5, ZAMGYORUD_MODE_CW, 0, "A"), 2, 5);
+    IS(*lock_word(2, LOCK_MARK), ZAMGYORUD_MODE_PR);
+    IS(*lock_word(1, LOCK_MARK), 0);
+    GIVES(request(6, ZAMGYORUD_MODE_EX, 0, "A"), 2, 6);
+    IS(*lock_word(1, LOCK_MARK), ZAMGYORUD_MODE_EX);
+    IS(*lock_word(2, LOCK_MARK), ZAMGYORUD_MODE_EX);
+    IS(*lock_word(3, LOCK_MARK), 0);
+    IS(tables.words[HEADER_NOTICE], 2);
+    IS(*lock_word(2, LOCK_NOTICE), 1);
+    IS(*lock_word(1, LOCK_NOTICE), 0);
+
+    /* polled alone, and gone with that; the mode stays */
+    TELLS(2, ZAMGYORUD_COMPLETION_NONE, 2, ZAMGYORUD_MODE_EX);
+    TELLS(2, ZAMGYORUD_COMPLETION_NONE, 0, 0);
+    TELLS(3, 0, 0, 0);
+    TELLS(4, 0, 0, 0);
+
+    /* a mark stops no conversion, and stays though its lock is no longer in the way */
+    GIVES(convert(1, 1, ZAMGYORUD_MODE_NL), 1, 0);
+    TELLS(1, 0, 1, ZAMGYORUD_MODE_EX);
+
+    /* behind a conversion that waits for lock 2 alone, NL is queued: nobody is in its way */
+    GIVES(convert(3, 3, ZAMGYORUD_MODE_CW), 2, 0);
+    GIVES(request(7, ZAMGYORUD_MODE_NL, 0, "A"), 2, 7);
+    IS(*lock_word(1, LOCK_MARK), 0);
+    IS(*lock_word(3, LOCK_MARK), 0);
+    IS(*lock_word(2, LOCK_MARK), ZAMGYORUD_MODE_CW);
+
+    /* nor a release: it goes with its lock. The sweep grants CW, and then no head: PR doesn't fit CW. */
+    GIVES(release(2, 2, 0), 0, 0);
+    TELLS(2, 0, 0, 0);
+    TELLS(3, ZAMGYORUD_COMPLETION_GRANTED, 3, 0);
+    TELLS(4, 0, 0, 0);
+}
+
+/* Two locks hold PR, and each asks for more: both are marked while they are converting. */
+static void test_converting_marks(void)
+{
+    start_afresh();
+    GIVES(request(1, ZAMGYORUD_MODE_PR, 0, "A"), 1, 1);
+    GIVES(request(2, ZAMGYORUD_MODE_PR, 0, "A"), 1, 2);
+    GIVES(convert(1, 1, ZAMGYORUD_MODE_EX), 2, 0);
+    GIVES(convert(2, 2, ZAMGYORUD_MODE_PW), 2, 0);
+
+    /* a mark stops no cancel and stays; granted, the other lock has both */
+    GIVES(zamgyorud_tables_cancel(&tables, 2, 2), ZAMGYORUD_CANCELLED_CONVERSION, 0);
+    TELLS(2, 0, 2, ZAMGYORUD_MODE_EX);
+    GIVES(release(2, 2, 0), 0, 0);
+    REFUSES(release(1, 1, 0), ZAMGYORUD_REFUSAL_UNREAD);
+    TELLS(1, ZAMGYORUD_COMPLETION_GRANTED, 1, ZAMGYORUD_MODE_PW);
+    TELLS(1, 0, 0, 0);
+    GIVES(release(1, 1, 0), 0, 0);
+}
+
+/* Marks in sound tables: at most EX, on the notice chain, and none on a waiting or a free lock. An image has them. */
+static void test_sound_marks(void)
+{
+    start_afresh();
+    GIVES(request(1, ZAMGYORUD_MODE_EX, 0, "A"), 1, 1);
+    GIVES(request(2, ZAMGYORUD_MODE_EX, 0, "A"), 2, 2);
+    for (uint32_t mark = 0; mark <= 6; mark++) {
+        *lock_word(1, LOCK_MARK) = mark;
+        IS(zamgyorud_tables_sound(&tables), 1 <= mark && mark <= ZAMGYORUD_MODE_EX);
+    }
+    *lock_word(1, LOCK_MARK) = ZAMGYORUD_MODE_EX;
+    for (uint32_t lock = 2; lock <= 3; lock++) {
+        *lock_word(lock, LOCK_MARK) = ZAMGYORUD_MODE_EX;
+        IS(zamgyorud_tables_sound(&tables), 0);
+        *lock_word(lock, LOCK_MARK) = 0;
+    }
+    GIVES(zamgyorud_tables_image(&tables, area, IMAGE), 0, 0);
+    GIVES(zamgyorud_tables_load(&other, area, IMAGE), 0, 0);
+    SAME(memory, other_memory, sizeof memory);
 }
 
 /* Tables that aren't sound: each call but start and load is refused with 1, and nothing changes. */
@@ -424,6 +544,7 @@ static void test_nothing_lent(void)
 
 int main(void)
 {
+    test_answers();
     test_lengths();
     test_start();
     test_refusals();
@@ -433,6 +554,9 @@ int main(void)
     test_list();
     test_cancel_and_release();
     test_deadlocks();
+    test_marks();
+    test_converting_marks();
+    test_sound_marks();
     test_unsound();
     test_nothing_lent();
     if (failed != 0) {

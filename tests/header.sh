@@ -25,6 +25,7 @@ tried() { # COMPILER STANDARD LANGUAGE
     compiles '' "$@" || fail "the header in $2"
     for line in \
         'return (int)zamgyorud_refusal(zamgyorud_poll(NULL, 0, NULL, 0, 1));' \
+        'return (int)zamgyorud_mark(zamgyorud_poll(NULL, 0, NULL, 0, 1));' \
         'return (int)zamgyorud_holder_client(zamgyorud_holder(NULL, 0, NULL, 0));' \
         'uint32_t sound = zamgyorud_sound(NULL, 0, NULL, 0); return (int)sound;'; do
         compiles "$line" "$@" || fail "in $2: $line"
@@ -35,6 +36,7 @@ tried() { # COMPILER STANDARD LANGUAGE
         'return (int)zamgyorud_holder_client(zamgyorud_poll(NULL, 0, NULL, 0, 1));' \
         'return (int)zamgyorud_holder_refusal(257);' \
         'return (int)zamgyorud_lock(1);' \
+        'return (int)zamgyorud_mark(zamgyorud_holder(NULL, 0, NULL, 0));' \
         'uint64_t answer = zamgyorud_poll(NULL, 0, NULL, 0, 1); return (int)answer;' \
         'uint32_t client = zamgyorud_holder(NULL, 0, NULL, 0); return (int)client;' \
         'if (zamgyorud_purge(NULL, 0, NULL, 0, 1)) return 1;'; do
@@ -46,10 +48,11 @@ tried "${CC:-cc}" c11 c
 tried "${CXX:-c++}" c++11 c++
 tried "${CXX:-c++}" c++17 c++
 
-# The functions that the manual shows. One of them calls a function of the program's own.
+# The functions that the manual shows. One of them calls two functions of the program's own.
 sh "$here/blocks.sh" "$here/../docs/MANUAL.md" "$work/blocks"
 {
-    printf '#include <zamgyorud.h>\nvoid ended(uint32_t client, uint32_t lock, uint32_t completion);\n'
+    printf '#include <zamgyorud.h>\n'
+    printf 'void ended(uint32_t client, uint32_t lock, uint32_t completion);\nvoid in_the_way(uint32_t client, uint32_t lock, uint32_t mark);\n'
     cat "$work/blocks"/*.c
 } > "$work/manual.c"
 "${CC:-cc}" -std=c99 -pedantic -Wall -Wextra -Wno-unused-function -Werror -fsyntax-only -I"$(dirname "$header")" "$work/manual.c" ||

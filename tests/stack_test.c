@@ -100,9 +100,20 @@ static void convert(void)
     accepted(zamgyorud_tables_convert(&tables, 1, 1, ZAMGYORUD_MODE_PW, ZAMGYORUD_FLAG_STORE_VALUE, value, sizeof value));
 }
 
+static void convert_to_ex(uint32_t result)
+{
+    if (zamgyorud_result(accepted(zamgyorud_tables_convert(&tables, 1, 1, ZAMGYORUD_MODE_EX, 0, NULL, 0))) != result)
+        fail("a conversion to EX doesn't answer what it is to");
+}
+
 static void convert_up(void)
 {
-    accepted(zamgyorud_tables_convert(&tables, 1, 1, ZAMGYORUD_MODE_EX, 0, NULL, 0));
+    convert_to_ex(ZAMGYORUD_RESULT_GRANTED);
+}
+
+static void convert_and_wait(void)
+{
+    convert_to_ex(ZAMGYORUD_RESULT_WAITING);
 }
 
 static void cancel(void)
@@ -117,7 +128,8 @@ static void release(void)
 
 static void poll(void)
 {
-    accepted(zamgyorud_tables_poll(&tables, 2));
+    if (zamgyorud_lock(accepted(zamgyorud_tables_poll(&tables, 2))) != 2)
+        fail("poll doesn't tell of lock 2");
 }
 
 static void read_value(void)
@@ -169,7 +181,8 @@ static void break_nothing(void)
         fail("break denies a lock where there is no deadlock");
 }
 
-/* Every call, on tables of these sizes. Client 1 holds EX on A and client 2 waits for it, takes it back, waits again and is granted. */
+/* Every call, on tables of these sizes. Client 1 holds EX on A and client 2 waits for it, takes it back, waits again and is granted. At the end both
+ * hold PR, and client 1 waits for EX: lock 2 gets a mark. */
 static void measure_calls(uint32_t r, uint32_t l, size_t most_load, size_t most_holder)
 {
     const size_t most = ZAMGYORUD_STACK_OTHERS;
@@ -192,6 +205,10 @@ static void measure_calls(uint32_t r, uint32_t l, size_t most_load, size_t most_
     measure("holder", holder, most_holder);
     measure("sound", sound, most);
     measure("purge", purge, most);
+    accepted(zamgyorud_tables_request(&tables, 2, ZAMGYORUD_MODE_PR, 0, (const uint8_t *)"A", 1));
+    accepted(zamgyorud_tables_request(&tables, 1, ZAMGYORUD_MODE_PR, 0, (const uint8_t *)"A", 1));
+    measure("convert that waits", convert_and_wait, most);
+    measure("poll of a mark", poll, most);
     putchar('\n');
 }
 

@@ -105,13 +105,16 @@ pub enum Completion {
     ConversionDenied,
 }
 
-/// A notice that a client polled.
+/// A notice that a client polled: one of its locks, with a completion, a mark or both.
 #[derive(Clone, Copy, Debug, PartialEq, Eq)]
 pub struct Notice {
-    /// How the call ended.
-    pub completion: Completion,
-    /// The lock that it was about.
+    /// The lock.
     pub lock: u32,
+    /// How its blocked call ended.
+    pub completion: Option<Completion>,
+    /// The mode that somebody asked for and had to wait, with this lock in the way; of several the one with the largest number. Whoever asked
+    /// may wait no longer: [`Tables::list`](crate::Tables::list) tells who does.
+    pub mark: Option<Mode>,
 }
 
 /// On which queue a lock stands.

@@ -53,7 +53,8 @@ pub mod lock {
     pub const HELD: usize = 6;
     pub const ASKED: usize = 7;
     pub const COMPLETION: usize = 8;
-    pub const WIDTH: usize = 9;
+    pub const MARK: usize = 9;
+    pub const WIDTH: usize = 10;
 }
 
 /// Whether there are tables of these numbers of records.

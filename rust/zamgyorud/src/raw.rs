@@ -4,14 +4,16 @@
 //! tables, names and values is allowed; what isn't right is refused. For typed answers see [`Tables`](crate::Tables).
 
 /// What a call answers, except [`sound`] and [`holder`]: C's `struct zamgyorud_answer`. With the highest bit set it is a refusal, whose number is
-/// below. Otherwise bits 0 to 15 are the result, bits 16 to 31 the lock, and bits 32 to 47 are left for one number more.
+/// below. Otherwise bits 0 to 15 are the result, bits 16 to 31 the lock, and bits 32 to 47 the mark.
 ///
 /// ```
 /// # use zamgyorud::raw::Answer;
 /// let waiting = Answer { bits: 3 << 16 | 2 };
-/// assert_eq!((waiting.refusal(), waiting.result(), waiting.lock()), (0, 2, 3));
+/// assert_eq!((waiting.refusal(), waiting.result(), waiting.lock(), waiting.mark()), (0, 2, 3, 0));
+/// let polled = Answer { bits: 5 << 32 | 1 << 16 };
+/// assert_eq!((polled.refusal(), polled.result(), polled.lock(), polled.mark()), (0, 0, 1, 5));
 /// let refused = Answer { bits: 1 << 63 | 13 };
-/// assert_eq!((refused.refusal(), refused.result(), refused.lock()), (13, 0, 0));
+/// assert_eq!((refused.refusal(), refused.result(), refused.lock(), refused.mark()), (13, 0, 0, 0));
 /// ```
 #[repr(transparent)]
 #[derive(Clone, Copy, Debug, PartialEq, Eq)]
@@ -43,6 +45,11 @@ impl Answer {
     /// The lock that request gives, break has denied or poll tells of; 0 for all other calls, and if it was refused.
     pub fn lock(self) -> u32 {
         self.number(16)
+    }
+
+    /// The mark that poll tells of, a mode from 1 to 5; 0 if the lock has none, for all other calls, and if it was refused.
+    pub fn mark(self) -> u32 {
+        self.number(32)
     }
 }
 
@@ -225,7 +232,7 @@ pub fn break_deadlock(words: &mut [u32], slots: &[u8]) -> Answer {
     call!(zamgyorud_break(mut [words], [slots]))
 }
 
-/// Takes a client's first notice.
+/// Takes a client's first notice; if there is none, its lock is 0.
 pub fn poll(words: &mut [u32], slots: &[u8], client: u32) -> Answer {
     call!(zamgyorud_poll(mut [words], [slots], client))
 }

@@ -2,8 +2,17 @@
 
 use crate::answers::{Entry, Mode, Queue, Refusal, Value};
 use crate::layout::{NAME_BYTES, SLOT_BYTES, header, lock, lock_at, resource, resource_at, slot_at};
-use crate::tables::Tables;
+use crate::tables::{Tables, mark};
 use std::fmt;
+
+/// A lock of a resource in use.
+#[derive(Clone, Copy, Debug, PartialEq, Eq)]
+pub struct Lock {
+    /// What [`Tables::list`] tells of it.
+    pub entry: Entry,
+    /// Its mark, which its client hasn't polled yet.
+    pub mark: Option<Mode>,
+}
 
 /// A resource in use: its name, value block and queues.
 #[derive(Clone, Debug, PartialEq, Eq)]
@@ -13,7 +22,7 @@ pub struct Resource {
     /// The value block.
     pub value: Value,
     /// Its locks, in grant, convert, wait order.
-    pub locks: Vec<Entry>,
+    pub locks: Vec<Lock>,
 }
 
 impl Tables {
@@ -50,16 +59,19 @@ impl Tables {
     }
 
     /// The locks of a queue.
-    fn chain(&self, queue: Queue, head: u32) -> impl Iterator<Item = Entry> + '_ {
+    fn chain(&self, queue: Queue, head: u32) -> impl Iterator<Item = Lock> + '_ {
         let word = move |lock: u32, field: usize| self.words()[lock_at(self.words()[header::RESOURCES], lock, field)];
         let at = |index: u32| (index != 0).then_some(index);
         let numbers = std::iter::successors(at(head), move |lock| at(word(*lock, lock::HOME)));
-        numbers.map(move |lock| Entry {
-            lock,
-            client: word(lock, lock::CLIENT),
-            queue,
-            held: Mode::from_number(word(lock, lock::HELD)).filter(|_| queue != Queue::Waiting),
-            asked: Mode::from_number(word(lock, lock::ASKED)).filter(|_| queue != Queue::Granted),
+        numbers.map(move |lock| Lock {
+            entry: Entry {
+                lock,
+                client: word(lock, lock::CLIENT),
+                queue,
+                held: Mode::from_number(word(lock, lock::HELD)).filter(|_| queue != Queue::Waiting),
+                asked: Mode::from_number(word(lock, lock::ASKED)).filter(|_| queue != Queue::Granted),
+            },
+            mark: mark(word(lock, lock::MARK)),
         })
     }
 }
@@ -77,7 +89,7 @@ impl Tables {
 /// assert_eq!(
 ///     tables.to_string(),
 ///     "RES-A (value valid)\n\
-///      \x20 GRANTED     lock 1, client 1, PW\n\
+///      \x20 GRANTED     lock 1, client 1, PW, marked EX\n\
 ///      \x20 CONVERTING  lock 2, client 2, NL to EX\n\
 ///      \x20 WAITING     lock 3, client 3, CR\n"
 /// );
@@ -99,14 +111,21 @@ impl fmt::Display for Resource {
         let validity = if self.value.valid { "value valid" } else { "value not valid" };
         writeln!(f, "{} ({validity})", self.name.escape_ascii())?;
         for (queue, title) in [(Queue::Granted, "GRANTED"), (Queue::Converting, "CONVERTING"), (Queue::Waiting, "WAITING")] {
-            let mut locks = self.locks.iter().filter(|entry| entry.queue == queue);
+            let mut locks = self.locks.iter().filter(|lock| lock.entry.queue == queue);
             match locks.next() {
                 Some(first) => writeln!(f, "  {title:10}  {first}")?,
                 None => writeln!(f, "  {title:10}  -")?,
             }
-            locks.try_for_each(|entry| writeln!(f, "  {:10}  {entry}", ""))?;
+            locks.try_for_each(|lock| writeln!(f, "  {:10}  {lock}", ""))?;
         }
         Ok(())
+    }
+}
+
+impl fmt::Display for Lock {
+    fn fmt(&self, f: &mut fmt::Formatter) -> fmt::Result {
+        write!(f, "{}", self.entry)?;
+        self.mark.map_or(Ok(()), |mode| write!(f, ", marked {mode}"))
     }
 }
 

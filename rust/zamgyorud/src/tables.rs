@@ -31,14 +31,14 @@ fn unless_refused<T>(refusal: u32, answer: T) -> Result<T, Refusal> {
     }
 }
 
-/// A call's result.
-fn number(answer: raw::Answer) -> Result<u32, Refusal> {
-    unless_refused(answer.refusal(), answer.result())
+/// A call's answer, if it was accepted.
+fn accepted(answer: raw::Answer) -> Result<raw::Answer, Refusal> {
+    unless_refused(answer.refusal(), answer)
 }
 
-/// A call's result and its lock.
-fn pair(answer: raw::Answer) -> Result<(u32, u32), Refusal> {
-    unless_refused(answer.refusal(), (answer.result(), answer.lock()))
+/// A call's result.
+fn number(answer: raw::Answer) -> Result<u32, Refusal> {
+    accepted(answer).map(raw::Answer::result)
 }
 
 fn outcome(number: u32) -> Outcome {
@@ -51,6 +51,26 @@ fn outcome(number: u32) -> Outcome {
 
 fn mode(number: u32) -> Mode {
     Mode::from_number(number).unwrap_or_else(|| impossible(number))
+}
+
+/// The mode of a mark. No mark is NL, so 0 is none.
+pub(crate) fn mark(number: u32) -> Option<Mode> {
+    (number != 0).then(|| mode(number))
+}
+
+fn completion(number: u32) -> Option<Completion> {
+    match number {
+        0 => None,
+        1 => Some(Completion::Granted),
+        2 => Some(Completion::RequestDenied),
+        3 => Some(Completion::ConversionDenied),
+        _ => impossible(number),
+    }
+}
+
+/// A notice from what poll answers: lock 0 says that there is none.
+fn notice(answer: raw::Answer) -> Option<Notice> {
+    (answer.lock() != 0).then(|| Notice { lock: answer.lock(), completion: completion(answer.result()), mark: mark(answer.mark()) })
 }
 
 /// A lock from the numbers of a list's entry.
@@ -146,7 +166,7 @@ impl Tables {
     /// ```
     pub fn request(&mut self, client: u32, mode: Mode, flags: Flags, name: &[u8]) -> Result<(Outcome, u32), Refusal> {
         let answer = raw::request(&mut self.words, &mut self.slots, client, mode.number(), flags.bits(), name);
-        pair(answer).map(|(first, lock)| (outcome(first), lock))
+        accepted(answer).map(|answer| (outcome(answer.result()), answer.lock()))
     }
 
     /// A granted lock to another mode. The value is looked at only with [`Flags::STORE_VALUE`], and must then have 32 bytes.
@@ -189,7 +209,7 @@ impl Tables {
     /// tables.request(1, Mode::Ex, Flags::NONE, b"vip-7")?;
     /// tables.request(2, Mode::Ex, Flags::NONE, b"vip-7")?;
     /// assert_eq!(tables.purge(1)?, 1);
-    /// assert_eq!(tables.poll(2)?, Some(Notice { completion: Completion::Granted, lock: 2 }));
+    /// assert_eq!(tables.poll(2)?, Some(Notice { lock: 2, completion: Some(Completion::Granted), mark: None }));
     /// assert_eq!(tables.poll(2)?, None);
     /// # Ok(())
     /// # }
@@ -217,18 +237,23 @@ impl Tables {
         number(raw::break_deadlock(&mut self.words, &self.slots)).map(|lock| (lock != 0).then_some(lock))
     }
 
-    /// Takes a client's first notice, if it has one.
+    /// Takes a client's first notice, if it has one. A client that holds a lock for long polls now and then, to hear that it is in the way.
+    ///
+    /// ```
+    /// # use zamgyorud::{Completion, Flags, Mode, Notice, Refusal, Tables};
+    /// # fn main() -> Result<(), Refusal> {
+    /// let mut tables = Tables::start(4, 8)?;
+    /// tables.request(1, Mode::Pr, Flags::NONE, b"pool")?;
+    /// tables.request(2, Mode::Ex, Flags::NONE, b"pool")?;
+    /// // Lock 1 is in the way of somebody who asks for EX. Its client steps down, and the other is granted.
+    /// assert_eq!(tables.poll(1)?, Some(Notice { lock: 1, completion: None, mark: Some(Mode::Ex) }));
+    /// tables.convert(1, 1, Mode::Nl, Flags::NONE, b"")?;
+    /// assert_eq!(tables.poll(2)?, Some(Notice { lock: 2, completion: Some(Completion::Granted), mark: None }));
+    /// # Ok(())
+    /// # }
+    /// ```
     pub fn poll(&mut self, client: u32) -> Result<Option<Notice>, Refusal> {
-        pair(raw::poll(&mut self.words, &self.slots, client)).map(|answer| {
-            let completion = match answer.0 {
-                0 => return None,
-                1 => Completion::Granted,
-                2 => Completion::RequestDenied,
-                3 => Completion::ConversionDenied,
-                other => impossible(other),
-            };
-            Some(Notice { completion, lock: answer.1 })
-        })
+        accepted(raw::poll(&mut self.words, &self.slots, client)).map(notice)
     }
 
     /// The value block of a granted or converting lock's resource.

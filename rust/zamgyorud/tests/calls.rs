@@ -16,8 +16,14 @@ fn requested(modes: &[Mode]) -> Tables {
     tables
 }
 
-fn notice(completion: Completion, lock: u32) -> Option<Notice> {
-    Some(Notice { completion, lock })
+/// The notice that a wait has ended, with no mark.
+fn ended(lock: u32, completion: Completion) -> Option<Notice> {
+    Some(Notice { lock, completion: Some(completion), mark: None })
+}
+
+/// The notice that a lock is in the way, with no completion.
+fn in_the_way(lock: u32, mode: Mode) -> Option<Notice> {
+    Some(Notice { lock, completion: None, mark: Some(mode) })
 }
 
 #[test]
@@ -31,7 +37,7 @@ fn guide_2_3_9_as_drawn() {
     }
     let drawn = "\
 RES-A (value valid)
-  GRANTED     lock 1, client 1, PW
+  GRANTED     lock 1, client 1, PW, marked EX
   CONVERTING  lock 2, client 2, NL to EX
               lock 3, client 3, NL to PW
               lock 4, client 4, NL to CR
@@ -42,10 +48,10 @@ RES-A (value valid)
     assert_eq!(t.to_string(), drawn);
     assert_eq!(t.convert(1, 1, Mode::Cr, Flags::NONE, b""), Ok(Outcome::Granted));
     assert_eq!(t.release(1, 1, Flags::NONE, b""), Ok(()));
-    assert_eq!(t.poll(2), Ok(notice(Completion::Granted, 2)));
+    assert_eq!(t.poll(2), Ok(ended(2, Completion::Granted)));
     assert_eq!(t.convert(2, 2, Mode::Nl, Flags::NONE, b""), Ok(Outcome::Granted));
     for client in [3, 4, 5] {
-        assert_eq!(t.poll(client), Ok(notice(Completion::Granted, client)));
+        assert_eq!(t.poll(client), Ok(ended(client, Completion::Granted)));
     }
     assert_eq!((t.poll(6), t.poll(7)), (Ok(None), Ok(None)));
     assert_eq!(t.release(3, 3, Flags::NONE, b""), Ok(()));
@@ -85,16 +91,59 @@ fn deadlocks_and_cancels() {
     assert_eq!(t.convert(2, 2, Mode::Ex, Flags::NONE, b""), Ok(Outcome::Waiting));
     assert_eq!(t.break_deadlock(), Ok(Some(1)));
     assert_eq!(t.release(1, 1, Flags::NONE, b""), Err(Refusal::Unread));
-    assert_eq!(t.poll(1), Ok(notice(Completion::ConversionDenied, 1)));
+    assert_eq!(t.poll(1), Ok(Some(Notice { lock: 1, completion: Some(Completion::ConversionDenied), mark: Some(Mode::Ex) })));
     assert_eq!(t.break_deadlock(), Ok(None));
     assert_eq!(t.cancel(2, 2), Ok(Cancelled::Conversion));
     assert_eq!(t.cancel(3, 3), Ok(Cancelled::Request));
     assert_eq!(t.cancel(1, 1), Err(Refusal::State));
     assert_eq!(t.request(1, Mode::Ex, Flags::NONE, b"RES-A"), Ok((Outcome::Waiting, 3)));
     assert_eq!(t.break_deadlock(), Ok(Some(3)));
-    assert_eq!(t.poll(1), Ok(notice(Completion::RequestDenied, 3)));
+    assert_eq!(t.poll(1), Ok(in_the_way(1, Mode::Ex)));
+    assert_eq!(t.poll(1), Ok(ended(3, Completion::RequestDenied)));
     assert_eq!(t.purge(1), Ok(1));
     assert_eq!(t.purge(9), Ok(0));
+}
+
+/// Lock 1 holds PW, lock 2 CR. PR has to wait for lock 1 alone, and so has CW, whose number is smaller; EX has to wait for both.
+#[test]
+fn marks_are_set_raised_and_polled() {
+    let mut t = requested(&[Mode::Pw, Mode::Cr]);
+    assert_eq!((t.poll(1), t.poll(2)), (Ok(None), Ok(None)));
+    let marks = |t: &Tables| t.resources().expect("sound")[0].locks.iter().map(|lock| lock.mark).collect::<Vec<_>>();
+    let mut asked = |mode: Mode| {
+        assert_eq!(t.request(3, mode, Flags::NO_QUEUE, b"RES-A"), Err(Refusal::Blocks));
+        assert!(matches!(t.request(3, mode, Flags::NONE, b"RES-A"), Ok((Outcome::Waiting, _))));
+        marks(&t)
+    };
+    assert_eq!(asked(Mode::Pr), [Some(Mode::Pr), None, None]);
+    assert_eq!(asked(Mode::Cw), [Some(Mode::Pr), None, None, None]);
+    assert_eq!(asked(Mode::Ex), [Some(Mode::Ex), Some(Mode::Ex), None, None, None]);
+    assert_eq!(Tables::load(&t.image().expect("sound")).as_ref(), Ok(&t));
+    assert_eq!((t.poll(1), t.poll(1)), (Ok(in_the_way(1, Mode::Ex)), Ok(None)));
+    // A mark stops no conversion and stays with the lock, also where nobody waits any more.
+    assert_eq!(t.convert(2, 2, Mode::Nl, Flags::NONE, b""), Ok(Outcome::Granted));
+    assert_eq!(t.purge(3), Ok(3));
+    assert_eq!((t.poll(2), t.poll(2)), (Ok(in_the_way(2, Mode::Ex)), Ok(None)));
+}
+
+/// Two locks hold PR, and each asks for more. The second is in the way of the first, and the first, which is converting, of the second.
+#[test]
+fn a_converting_lock_is_marked_and_keeps_its_mark_when_granted() {
+    let mut t = requested(&[Mode::Pr, Mode::Pr]);
+    assert_eq!(t.convert(1, 1, Mode::Ex, Flags::NONE, b""), Ok(Outcome::Waiting));
+    assert_eq!(t.convert(2, 2, Mode::Pw, Flags::NONE, b""), Ok(Outcome::Waiting));
+    let drawn = "\
+RES-A (value valid)
+  GRANTED     -
+  CONVERTING  lock 1, client 1, PR to EX, marked PW
+              lock 2, client 2, PR to PW, marked EX
+  WAITING     -
+";
+    assert_eq!(t.to_string(), drawn);
+    assert_eq!((t.poll(2), t.poll(2)), (Ok(in_the_way(2, Mode::Ex)), Ok(None)));
+    assert_eq!(t.purge(2), Ok(1));
+    assert_eq!(t.poll(1), Ok(Some(Notice { lock: 1, completion: Some(Completion::Granted), mark: Some(Mode::Pw) })));
+    assert_eq!(t.release(1, 1, Flags::NONE, b""), Ok(()));
 }
 
 #[test]
@@ -102,7 +151,7 @@ fn lists() {
     let mut t = requested(&[Mode::Ex, Mode::Nl, Mode::Cr]);
     t.convert(2, 2, Mode::Pr, Flags::NONE, b"").expect("accepted");
     let list = t.list(1, 1).expect("accepted");
-    assert_eq!(list, t.resources().expect("sound")[0].locks);
+    assert_eq!(list, t.resources().expect("sound")[0].locks.iter().map(|lock| lock.entry).collect::<Vec<_>>());
     assert_eq!(list.iter().map(|entry| entry.lock).collect::<Vec<_>>(), [1, 2, 3]);
     assert_eq!((list[0].held, list[0].asked, list[0].queue), (Some(Mode::Ex), None, Queue::Granted));
     assert_eq!((list[1].held, list[1].asked, list[1].queue), (Some(Mode::Nl), Some(Mode::Pr), Queue::Converting));
@@ -189,7 +238,7 @@ fn parts_go_both_ways() {
     // What comes back is the whole state: the same call does the same to both.
     assert_eq!((again.purge(1), t.purge(1)), (Ok(1), Ok(1)));
     assert_eq!(again, t);
-    assert_eq!(again.poll(2), Ok(notice(Completion::Granted, 2)));
+    assert_eq!(again.poll(2), Ok(ended(2, Completion::Granted)));
 }
 
 #[test]
