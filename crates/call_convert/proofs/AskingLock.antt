@@ -7,15 +7,17 @@ use native.Mathlib.Omega.{arith}
 use lib.ListN.{length}
 use borrow.Author.Tests.{eqb-true}
 use Rattle.tables.specs.Lists.{within}
-use Rattle.tables.specs.State.{Tables, lock, resource, move}
+use Rattle.tables.specs.State.{Tables, lock, resource, granted, move}
 use Rattle.tables.proofs.Counts.{within-le}
 use Rattle.tables.specs.Validity.{used, Place, as-granted, as-converting}
-use Rattle.tables.proofs.Valid.{ok-at, used-within, resources-length, core-move}
+use Rattle.tables.proofs.Cases.{or-left}
+use Rattle.tables.proofs.Valid.{ok-at, used-within, lock-same, resources-length, core-move}
 use Rattle.tables.proofs.ChainMembers.{state-within}
 use Rattle.rules.proofs.CallsKeepSound.{convert-fits}
 use Rattle.rules.specs.Calls.{leave-value, held-at, asking}
 use Rattle.rules.proofs.ResourceChanges.{Quiet, leave-quiet}
 use Rattle.table_chains.specs.Contracts.{Movable, Resourced}
+use Rattle.marks.specs.Contracts.{Begun}
 use Rattle.queues.specs.Contracts.{Valued}
 use Rattle.queues.specs.Contracts.{GrantedLock}
 use Rattle.call_convert.specs.Contracts.{Asks, ConvertsInPlace}
@@ -40,9 +42,20 @@ asking-movable k m t p =
       near-old = λ z. refl;
       near-new = λ z. refl;
       ok = as-converting refl (record {
-        place = record { in-use = o .in-use; client-low = o .client-low; client-high = o .client-high; held-mode = o .held-mode; asked-mode = p .mode };
+        place = record { in-use = o .in-use; client-low = o .client-low; client-high = o .client-high; held-mode = o .held-mode; asked-mode = p .mode; mark-mode = o .mark-mode };
         notice = refl;
       });
+    }
+
+pub asking-begun : (k m : ℕ) (t : Tables) → Asks k m t → Begun k (move (lock t k .resource) k (asking m (lock t k)) t)
+asking-begun k m t p =
+    let r = lock t k .resource in
+    let l = asking m (lock t k) in
+    let g = asking-movable k m t p in
+    record {
+      core = core-move r k l t (g .core) (g .in-range) (g .near-old) (g .near-new) (g .ok)
+          (λ z j i q e. p .held .core .agree j k i q (or-left (granted (lock t k)) _ (p .held .is-granted)) e);
+      is-blocked = rw (lock-same r k l t (g .in-range));
     }
 
 -- in place, after the value has been left or not
@@ -64,7 +77,7 @@ module _ (k m f : ℕ) (v : List ℕ) (t : Tables) (p : ConvertsInPlace k m f v 
           near-old = λ z. rw (quiet .lock-is k);
           near-new = λ z. refl;
           ok = as-granted refl (record {
-            place = record { in-use = rw (quiet .used-is (lock t k .resource)) (o .in-use); client-low = o .client-low; client-high = o .client-high; held-mode = p .asks .mode; asked-mode = omega arith };
+            place = record { in-use = rw (quiet .used-is (lock t k .resource)) (o .in-use); client-low = o .client-low; client-high = o .client-high; held-mode = p .asks .mode; asked-mode = omega arith; mark-mode = o .mark-mode };
             asks = refl;
             notice = omega arith;
             not-denied = omega arith;

@@ -4,12 +4,13 @@ use mathlib.Core.Bool.{Bool, true, false}
 use mathlib.Core.List.{List}
 use Prim.Native.Nat.{ℕ}
 use borrow.Author.Needs.{needs}
-use Rattle.tables.specs.State.{Tables, lock}
+use Rattle.tables.specs.State.{Tables, lock, move}
 use Rattle.tables.specs.Layout.{words}
 use Rattle.tables.proofs.SlotChanges.{slots-move}
 use Rattle.rules.specs.Calls.{no-queue, asking, in-place, convert-change}
 use Rattle.rules.specs.Accepted.{Convertible}
 use Rattle.table_chains.specs.Contracts.{Some, Turns, Tells, Changes}
+use Rattle.marks.proofs.ToldLocks.{told-slots}
 use Rattle.queues.specs.Contracts.{SomeTables}
 use Rattle.answers.proofs.Steps.{stepped}
 use Rattle.answers.specs.declared.Converted.the-variants.{Granted, Waiting}
@@ -68,7 +69,7 @@ module _ (k m f : ℕ) (v a sa : List ℕ) where
     convert-waits q b h = record {
       then = λ t p is iss.
           rw (told-at t p is ∙ q, convert-change)
-          (stepped _ 2 0 (on-convert-queue k m t) b sa refl (h .then t (asks-it t p) is) (iss ∙ sym (slots-move (lock t k .resource) k (asking m (lock t k)) t)));
+          (stepped _ 2 0 (on-convert-queue k m t) b sa refl (h .then t (asks-it t p) is) (iss ∙ sym (told-slots k (move (lock t k .resource) k (asking m (lock t k)) t) ∙ slots-move (lock t k .resource) k (asking m (lock t k)) t)));
     }
 
 pub ruleset convert-laws = (needs, convert-asks-with, convert-asks, convert-placed, convert-granted, convert-waits)

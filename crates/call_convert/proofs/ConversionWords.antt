@@ -10,15 +10,16 @@ use Rattle.tables.specs.Layout.{words, slots, locks-in, read-lock}
 use Rattle.tables.proofs.ReadBack.{lock-read}
 use Rattle.tables.proofs.SlotChanges.{slots-move}
 use Rattle.rules.specs.Queues.{sweep}
-use Rattle.rules.specs.Calls.{leave-value, held-at, asking}
+use Rattle.rules.specs.Calls.{leave-value, tell-obstacles, held-at, asking}
 use Rattle.table_fields.specs.Sizes.{Sized}
 use Rattle.table_fields.proofs.StateWords.{locks-is, core-sized}
 use Rattle.table_chains.specs.Contracts.{Some, Turns, Changes, Movable, Moving, Moved, Resourced}
+use Rattle.marks.specs.Contracts.{Begun}
 use Rattle.queues.specs.Contracts.{SomeTables, Valued}
 use Rattle.queues.proofs.ResourceRecord.{slots-sweep}
 use Rattle.queues.specs.Contracts.{GrantedLock}
 use Rattle.call_convert.specs.Contracts.{lowers, granted-in-place, on-convert-queue, Asks, ConvertsInPlace}
-use Rattle.call_convert.proofs.AskingLock.{held-range, asking-movable, placed-valued, placed-movable, placed-resourced}
+use Rattle.call_convert.proofs.AskingLock.{held-range, asking-movable, asking-begun, placed-valued, placed-movable, placed-resourced}
 
 -- the record of a granted lock, read from the words
 module _ (k : ℕ) (a : List ℕ) (t : Tables) (p : GrantedLock k t) (is : a ≡ words t) where
@@ -53,14 +54,24 @@ module _ (k m : ℕ) (a : List ℕ) where
     pub asks-moving : Some (Asks k m) a → Moving k n a
     asks-moving s = record { state = s .state; resource = lock (s .state) k .resource; good = asked-move (s .state) (s .good) (s .is); is = s .is }
 
-    pub asks-queued : (b : List ℕ) → Moved k n a b → Turns (Asks k m) (on-convert-queue k m) a b
-    unfolding on-convert-queue
-    asks-queued b moved = record {
-      then = λ t p is.
-          moved .then (lock t k .resource) t (asked-move t p is) is ∙ ap (λ (z : Lock). words (move (lock t k .resource) k z t)) (asked-is t p is);
-    }
+    module _ (b : List ℕ) (moved : Moved k n a b) where
+      queued-is : (t : Tables) → Asks k m t → a ≡ words t → b ≡ words (move (lock t k .resource) k (asking m (lock t k)) t)
+      queued-is t p is =
+          moved .then (lock t k .resource) t (asked-move t p is) is ∙ ap (λ (z : Lock). words (move (lock t k .resource) k z t)) (asked-is t p is)
 
-pub ruleset asks-laws = (needs, asks-sized, asks-low, asks-high, asks-moving, asks-queued)
+      pub asks-begins : Some (Asks k m) a → Some (Begun k) b
+      asks-begins s =
+          record {
+            state = move (lock (s .state) k .resource) k (asking m (lock (s .state) k)) (s .state);
+            good = asking-begun k m (s .state) (s .good);
+            is = queued-is (s .state) (s .good) (s .is);
+          }
+
+      pub asks-queued : (d : List ℕ) → Turns (Begun k) (tell-obstacles k) b d → Turns (Asks k m) (on-convert-queue k m) a d
+      unfolding on-convert-queue
+      asks-queued d told = record { then = λ t p is. told .then _ (asking-begun k m t p) (queued-is t p is) }
+
+pub ruleset asks-laws = (needs, asks-sized, asks-low, asks-high, asks-moving, asks-begins, asks-queued)
 
 -- convert_in_place
 module _ (k m f : ℕ) (v a sa : List ℕ) where

@@ -7,7 +7,7 @@ use lib.ListN.{length}
 use lib.Dec.{ltb}
 use Rattle.tables.specs.State.{Tables, value-width, lock, move, last-mode}
 use Rattle.rules.specs.Queues.{sweep}
-use Rattle.rules.specs.Calls.{stores, no-queue, strong, leave-value, held-at, asking, in-place}
+use Rattle.rules.specs.Calls.{stores, no-queue, strong, leave-value, tell-obstacles, held-at, asking, in-place}
 use Rattle.queues.specs.Contracts.{GrantedLock}
 
 -- from PW or EX to a smaller mode
@@ -20,9 +20,9 @@ granted-in-place k m f v t =
     let r = lock t k .resource in
     sweep r (move r k (held-at m (lock t k)) (leave-value (lowers (lock t k .held) m) f v r t))
 
--- the lock k joins the convert chain, keeping its held mode
+-- the lock k joins the convert chain, keeping its held mode, and whoever is in its way is told
 unfoldable pub on-convert-queue : ℕ → ℕ → Tables → Tables
-on-convert-queue k m t = move (lock t k .resource) k (asking m (lock t k)) t
+on-convert-queue k m t = tell-obstacles k (move (lock t k .resource) k (asking m (lock t k)) t)
 
 -- the lock k is granted, and may ask for the mode m
 pub record Asks (k m : ℕ) (t : Tables) : Type 0 where

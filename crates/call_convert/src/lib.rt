@@ -61,13 +61,14 @@ fn convert_in_place(
     queues::sweep(words, l.resource);
 }
 
-// The lock k joins the convert queue.
+// The lock k joins the convert queue, and whoever is in its way is told.
 fn queue_conversion(words: &mut [u32], k: u32, mode: u32)
     requires { ⌜ Some (Asks k mode) (now words) ⌝ }
     ensures { λ _. ⌜ Turns (Asks k mode) (on-convert-queue k mode) (now (words .entry)) (now (words .exit)) ⌝ }
 {
     let l = lock_at(words, k);
     table_chains::move_lock(words, k, asking(l, mode));
+    marks::tell_obstacles(words, k);
 }
 
 // Whether the lock k takes the mode where it stands. With flag 4 it does: a conversion that would block has been refused.

@@ -6,13 +6,17 @@ use Prim.Native.Nat.{ℕ}
 use native.Mathlib.Omega.{arith}
 use borrow.Author.Needs.{needs}
 use Rattle.tables.specs.declared.Lock.{Lock}
-use Rattle.tables.specs.State.{Tables, move}
-use Rattle.tables.specs.Layout.{slots}
+use Rattle.tables.specs.State.{Tables, lock, move}
+use Rattle.tables.specs.Layout.{words, slots}
 use Rattle.tables.specs.Grants.{admits}
+use Rattle.tables.proofs.Cases.{clash}
+use Rattle.tables.proofs.Valid.{lock-same, core-move}
 use Rattle.tables.proofs.SlotChanges.{slots-move}
 use Rattle.tables.specs.Validity.{used, LockOk, as-granted, as-waiting}
-use Rattle.rules.specs.Calls.{no-queue, holding, queued, request-on}
-use Rattle.table_chains.specs.Contracts.{Some, Tells, Movable, Moving, Moved, Resourced}
+use Rattle.rules.specs.Calls.{no-queue, tell-obstacles, holding, queued, request-on}
+use Rattle.table_chains.specs.Contracts.{Some, Turns, Tells, Movable, Moving, Moved, Resourced}
+use Rattle.marks.specs.Contracts.{Begun}
+use Rattle.marks.proofs.ToldLocks.{told-slots}
 use Rattle.answers.proofs.Steps.{stepped}
 use Rattle.answers.specs.declared.Requested.the-variants.{Granted, Waiting}
 use Rattle.answers.specs.Answers.{requested}
@@ -40,7 +44,7 @@ module _ (r k c m f : ℕ) where
     enters-held =
         enters-on (holding r c m) refl
         (as-granted refl (record {
-          place = record { in-use = p .in-use; client-low = p .client-low; client-high = p .client-high; held-mode = p .asks .mode; asked-mode = omega arith };
+          place = record { in-use = p .in-use; client-low = p .client-low; client-high = p .client-high; held-mode = p .asks .mode; asked-mode = omega arith; mark-mode = omega arith };
           asks = refl;
           notice = omega arith;
           not-denied = omega arith;
@@ -50,10 +54,19 @@ module _ (r k c m f : ℕ) where
     enters-queued =
         enters-on (queued r c m) refl
         (as-waiting refl (record {
-          place = record { in-use = p .in-use; client-low = p .client-low; client-high = p .client-high; held-mode = omega arith; asked-mode = p .asks .mode };
+          place = record { in-use = p .in-use; client-low = p .client-low; client-high = p .client-high; held-mode = omega arith; asked-mode = p .asks .mode; mark-mode = omega arith };
           notice = refl;
           holds = refl;
+          unmarked = refl;
         }))
+
+    queued-begun : Begun k (move r k (queued r c m) t)
+    queued-begun =
+        let g = enters-queued in
+        record {
+          core = core-move r k (queued r c m) t (g .core) (g .in-range) (g .near-old) (g .near-new) (g .ok) (λ z. clash false z refl);
+          is-blocked = rw (lock-same r k (queued r c m) t (g .in-range));
+        }
 
   module _ (a : List ℕ) where
     pub enter-held : (l : Lock) → l ≡ holding r c m → Some (Enters r k c m f) a → Moving k l a
@@ -62,23 +75,32 @@ module _ (r k c m f : ℕ) where
     pub enter-queued : (l : Lock) → l ≡ queued r c m → Some (Enters r k c m f) a → Moving k l a
     enter-queued l e s = rw e (record { state = s .state; resource = r; good = enters-queued (s .state) (s .good); is = s .is })
 
-    module _ (x : Bool) (told : Tells (AsksOn r m f) (λ t. admits t r m) a x) (l : Lock) (b : List ℕ) (moved : Moved k l a b) where
-      pub enter-grants : x ≡ true → l ≡ holding r c m → MakesWords (Enters r k c m f) (request-on r k c m) a b (requested (Granted k))
-      unfolding request-on
-      enter-grants q e = record {
-        then = λ t p is.
-            let h : admits t r m ≡ true = sym (told .then t (p .asks) is) ∙ q in
-            rw (h, request-on)
-            (stepped _ 1 k (move r k (holding r c m) t) b (slots t) refl ((rw e at (moved .then r t)) (enters-held t p) is) (sym (slots-move r k (holding r c m) t)));
-      }
+    module _ (l : Lock) (b : List ℕ) (moved : Moved k l a b) where
+      module _ (e : l ≡ queued r c m) where
+        queued-is : (t : Tables) → Enters r k c m f t → a ≡ words t → b ≡ words (move r k (queued r c m) t)
+        queued-is t p is = (rw e at (moved .then r t)) (enters-queued t p) is
 
-      pub enter-waits : x ≡ false → l ≡ queued r c m → MakesWords (Enters r k c m f) (request-on r k c m) a b (requested (Waiting k))
-      unfolding request-on
-      enter-waits q e = record {
-        then = λ t p is.
-            let h : admits t r m ≡ false = sym (told .then t (p .asks) is) ∙ q in
-            rw (h, request-on)
-            (stepped _ 2 k (move r k (queued r c m) t) b (slots t) refl ((rw e at (moved .then r t)) (enters-queued t p) is) (sym (slots-move r k (queued r c m) t)));
-      }
+        pub enter-begins : Some (Enters r k c m f) a → Some (Begun k) b
+        enter-begins s = record { state = move r k (queued r c m) (s .state); good = queued-begun (s .state) (s .good); is = queued-is (s .state) (s .good) (s .is) }
 
-pub ruleset enter-laws = (needs, enter-held, enter-queued, enter-grants, enter-waits)
+      module _ (x : Bool) (told : Tells (AsksOn r m f) (λ t. admits t r m) a x) where
+        pub enter-grants : x ≡ true → l ≡ holding r c m → MakesWords (Enters r k c m f) (request-on r k c m) a b (requested (Granted k))
+        unfolding request-on
+        enter-grants q e = record {
+          then = λ t p is.
+              let h : admits t r m ≡ true = sym (told .then t (p .asks) is) ∙ q in
+              rw (h, request-on)
+              (stepped _ 1 k (move r k (holding r c m) t) b (slots t) refl ((rw e at (moved .then r t)) (enters-held t p) is) (sym (slots-move r k (holding r c m) t)));
+        }
+
+        pub enter-waits : x ≡ false → l ≡ queued r c m → (d : List ℕ) → Turns (Begun k) (tell-obstacles k) b d → MakesWords (Enters r k c m f) (request-on r k c m) a d (requested (Waiting k))
+        unfolding request-on
+        enter-waits q e d tells = record {
+          then = λ t p is.
+              let h : admits t r m ≡ false = sym (told .then t (p .asks) is) ∙ q in
+              let u = move r k (queued r c m) t in
+              rw (h, request-on)
+              (stepped _ 2 k (tell-obstacles k u) d (slots t) refl (tells .then u (queued-begun t p) (queued-is e t p is)) (sym (told-slots k u ∙ slots-move r k (queued r c m) t)));
+        }
+
+pub ruleset enter-laws = (needs, enter-held, enter-queued, enter-begins, enter-grants, enter-waits)

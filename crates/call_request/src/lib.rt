@@ -1,4 +1,5 @@
-// A request's change, in place. It takes a lock, and if its name is new also a resource. Then it is granted or waits.
+// A request's change, in place. It takes a lock, and if its name is new also a resource. Then it is granted, or waits
+// and those in its way are told.
 use answers::Requested;
 use table_fields::header_word;
 use table_fields::new_lock;
@@ -52,7 +53,8 @@ fn admitted(words: &[u32], r: u32, mode: u32, flags: u32) -> bool
     queues::admits(words, r, mode)
 }
 
-// The lock k, which is free, becomes the client's on r: granted if the mode is admitted there, else waiting.
+// The lock k, which is free, becomes the client's on r: granted if the mode is admitted there, else waiting. Whoever is
+// in its way is told.
 fn enter(words: &mut [u32], r: u32, k: u32, client: u32, mode: u32, flags: u32) -> Requested
     requires { ⌜ Some (Enters r k client mode flags) (now words) ⌝ }
     ensures { λ x. ⌜ MakesWords (Enters r k client mode flags) (request-on r k client mode) (now (words .entry)) (now (words .exit)) (requested x) ⌝ }
@@ -62,6 +64,7 @@ fn enter(words: &mut [u32], r: u32, k: u32, client: u32, mode: u32, flags: u32) 
         return Requested::Granted(k);
     }
     table_chains::move_lock(words, k, queued(r, client, mode));
+    marks::tell_obstacles(words, k);
     Requested::Waiting(k)
 }
 

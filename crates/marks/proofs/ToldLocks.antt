@@ -59,9 +59,6 @@ module _ (k j : ℕ) (t : Tables) where
   tell-resources : length (tell k j t .resources) ≡ length (t .resources)
   tell-resources = tell-keeps (λ (u : Tables). length (u .resources)) k j t (unfold mark-lock in resources-length (lock t j .resource) j _ t)
 
-  tell-slots : slots (tell k j t) ≡ slots t
-  tell-slots = tell-keeps slots k j t (unfold mark-lock in slots-move (lock t j .resource) j _ t)
-
   module _ (p : Tellable k j t) where
     pub tell-core : Core (tell k j t)
     tell-core =
@@ -140,8 +137,12 @@ module _ (k : ℕ) where
       let y = each-tellable j js t (p .core) (p .in-range) h in
       each-heeds r q js (tell k j t) (tell-heeds r q k t p j y) (each-holding j js t y h)
 
-  -- the slots stay
-  pub each-slots : (js : List ℕ) (t : Tables) → slots (tell-each k js t) ≡ slots t
-  unfolding tell-each
-  each-slots [] t = refl
-  each-slots (j ∷ js) t = each-slots js (tell k j t) ∙ tell-slots k j t
+-- THE SLOTS stay
+marks-slots : (m : ℕ) (js : List ℕ) (t : Tables) → slots (mark-locks m js t) ≡ slots t
+unfolding mark-locks mark-lock
+marks-slots m [] t = refl
+marks-slots m (j ∷ js) t = marks-slots m js (mark-lock m j t) ∙ slots-move (lock t j .resource) j _ t
+
+pub told-slots : (k : ℕ) (t : Tables) → slots (tell-obstacles k t) ≡ slots t
+unfolding tell-obstacles
+told-slots k t = marks-slots (lock t k .asked) (obstacles t k) t

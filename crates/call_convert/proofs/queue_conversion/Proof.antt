@@ -10,5 +10,6 @@ queue-conversion-spec =
     (λ c κs. search asks-laws)
     (λ c κs. search needs)
     (λ c κs. search asks-laws)
+    (λ c κs. search asks-laws)
     (λ c. search needs)
     (λ c. search asks-laws))
