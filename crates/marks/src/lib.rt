@@ -34,7 +34,7 @@ fn larger(a: u32, b: u32) -> u32
 }
 
 // The lock l as it is when it has been told of the mode.
-fn marked(l: Lock, mode: u32) -> Lock
+fn with_mark(l: Lock, mode: u32) -> Lock
     ensures { λ m. ⌜ m ≡ with-notice (l .completion) (larger mode (l .mark)) l ⌝ }
 {
     let mut m = l;
@@ -53,11 +53,11 @@ fn mark_lock(words: &mut [u32], j: u32, mode: u32, end: usize) -> usize
 {
     let l = lock_at(words, j);
     if is_noticed(l) {
-        put_lock(words, j, marked(l, mode));
+        put_lock(words, j, with_mark(l, mode));
         return end;
     }
     words[end] = j;
-    put_lock(words, j, marked(l, mode));
+    put_lock(words, j, with_mark(l, mode));
     lock_start(words, j) + LOCK_NEXT_NOTICE
 }
 
