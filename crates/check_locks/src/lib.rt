@@ -35,7 +35,7 @@ fn client_right(l: Lock) -> bool
     (1 <= l.client) & (l.client <= LAST_CLIENT)
 }
 
-// Its modes are modes, and its mark is one or none.
+// It holds and asks for a mode from 0 to 5, and its mark is at most 5.
 fn modes_right(l: Lock) -> bool
     ensures { λ x. ⌜ x ≡ modes-right l ⌝ }
 {
