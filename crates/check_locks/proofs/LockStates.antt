@@ -1,11 +1,10 @@
 -- A lock where its home chain has it: what is left of `stands` once the chain's state and resource are known.
 use mathlib.Core.Path.{_≡_, refl, ap}
-use mathlib.Core.Bool.{Bool, true, false, not, _&&_, _||_, and-false}
+use mathlib.Core.Bool.{Bool, true, false, not, _&&_, _||_}
 use mathlib.Core.List.{List}
 use Prim.Native.Nat.{ℕ, _≤_}
 use native.Mathlib.Omega.{arith}
-use lib.Dec.{eqb, leb}
-use borrow.Author.Needs.{needs}
+use lib.Dec.{eqb}
 use borrow.Author.Tests.{eqb-true, ne-eqb, le-leb}
 use Rattle.tables.specs.declared.Lock.{Lock}
 use Rattle.tables.specs.State.{noticed}
@@ -14,7 +13,12 @@ use Rattle.tables.specs.Sound.{client-right, modes-right, granted-completion}
 use Rattle.table_names.specs.Names.{named}
 use Rattle.check_laws.specs.Check.{on-named, fields-fine, links-fine, lock-fine, stands}
 
--- the six or seven tests that come after two others count where these two pass
+-- the tests that come after two others count where these two pass
+then-four : (a b c d e f : Bool) {x : Bool} → (a ≡ true → b ≡ true → (c && d && e && f) ≡ x) → (a && b && c && d && e && f) ≡ (a && b && x)
+then-four true true c d e f q = q refl refl
+then-four true false c d e f q = refl
+then-four false b c d e f q = refl
+
 then-six : (a b c d e f g h : Bool) {x : Bool} → (a ≡ true → b ≡ true → (c && d && e && f && g && h) ≡ x) → (a && b && c && d && e && f && g && h) ≡ (a && b && x)
 then-six true true c d e f g h q = q refl refl
 then-six true false c d e f g h q = refl
@@ -25,53 +29,37 @@ then-seven true true c d e f g h i q = q refl refl
 then-seven true false c d e f g h i q = refl
 then-seven false b c d e f g h i q = refl
 
--- what `fields-fine` and `links-fine` leave, by state: client, held and asked mode, completion, mark, the link on the blocked and on the notice chain
-free-left : (c h a f m b n : Bool) → (c && h && a && f && m && b && n) ≡ (((c && h && a && f && m) || false || false || false || false) && (b && (not f || not m || n)))
-free-left false h a f m b n = refl
-free-left true false a f m b n = refl
-free-left true true false f m b n = refl
-free-left true true true false m b n = refl
-free-left true true true true false b n = refl
-free-left true true true true true b n = refl
+-- what `fields-fine` and `links-fine` leave, by state: p are the first tests; f is that of the completion, m of the mark, b of the link on the blocked
+-- chain, n of the notice chain
+free-left : (p f m b n : Bool) → (p && f && m && b && n) ≡ (((p && f && m) || false || false || false || false) && (b && (not f || not m || n)))
+free-left false f m b n = refl
+free-left true false m b n = refl
+free-left true true false b n = refl
+free-left true true true b n = refl
 
-denied-left : (c h a f m z b n : Bool) → (f ≡ true → z ≡ false) → (c && h && a && f && m && b) ≡ ((c && true && h && a && f && m) && (b && (not z || not m || n)))
-denied-left false h a f m z b n q = refl
-denied-left true false a f m z b n q = refl
-denied-left true true false f m z b n q = refl
-denied-left true true true false m z b n q = refl
-denied-left true true true true false z b n q = refl
-denied-left true true true true true z false n q = refl
-denied-left true true true true true z true n q = rw (q refl)
+denied-left : (c h a f z m b n : Bool) → (f ≡ true → z ≡ false) → (c && h && a && f && m && b) ≡ ((c && true && h && a && f && m) && (b && (not z || not m || n)))
+denied-left false h a f z m b n q = refl
+denied-left true false a f z m b n q = refl
+denied-left true true false f z m b n q = refl
+denied-left true true true false z m b n q = refl
+denied-left true true true true z false b n q = refl
+denied-left true true true true z true false n q = refl
+denied-left true true true true z true true n q = rw (q refl)
 
-granted-left : (c h m a y f b n : Bool) → (a ≡ true → y ≡ true) → (c && h && m && a && f && b && n) ≡ (((c && (h && y && m) && a && f) || false || false || false) && (b && n))
-granted-left false h m a y f b n q = refl
-granted-left true false m a y f b n q = refl
-granted-left true true false a false f b n q = refl
-granted-left true true false a true f b n q = refl
-granted-left true true true false false f b n q = refl
-granted-left true true true false true f b n q = refl
-granted-left true true true true y false b n q = rw (q refl)
-granted-left true true true true y true b n q = rw (q refl)
+granted-left : (p b n : Bool) → (p && b && n) ≡ ((p || false || false || false) && (b && n))
+granted-left false b n = refl
+granted-left true b n = refl
 
-converting-left : (c h a m f n : Bool) → (c && h && a && m && f && n) ≡ (((c && (h && a && m) && f) || false || false) && n)
-converting-left false h a m f n = refl
-converting-left true false a m f n = refl
-converting-left true true false m f n = refl
-converting-left true true true false f n = refl
-converting-left true true true true false n = refl
-converting-left true true true true true n = refl
+converting-left : (p n : Bool) → (p && n) ≡ ((p || false || false) && n)
+converting-left false n = refl
+converting-left true n = refl
 
-waiting-left : (c h a f m y z n : Bool) → (h ≡ true → y ≡ true) → (m ≡ true → z ≡ true) → (c && h && a && f && m && n) ≡ (((c && (y && a && z) && f && h && m) || false) && (not f || not m || n))
-waiting-left c false a f m y z n q p = rw (and-false c, and-false (c && (y && a && z) && f))
-waiting-left c true a f false y z n q p = rw (and-false (c && true && a && f), and-false (c && (y && a && z) && f && true))
-waiting-left false true a f true y z n q p = refl
-waiting-left true true false f true y z n q p = rw (q refl)
-waiting-left true true true false true y z n q p = rw (q refl, p refl)
-waiting-left true true true true true y z n q p = rw (q refl, p refl)
-
--- mode 0 is a mode
-zero-mode : (m : ℕ) → eqb m 0 ≡ true → leb m 5 ≡ true
-zero-mode m e = le-leb m 5 (omega (arith, eqb-true m 0 e))
+waiting-left : (p f h m n : Bool) → (p && f && h && m && n) ≡ (((p && f && h && m) || false) && (not f || not m || n))
+waiting-left false f h m n = refl
+waiting-left true false h m n = refl
+waiting-left true true false m n = refl
+waiting-left true true true false n = refl
+waiting-left true true true true n = refl
 
 -- a denied lock has a completion
 denied-noticed : (f : ℕ) → eqb f 2 ≡ true → eqb f 0 ≡ false
@@ -91,52 +79,50 @@ module _ (ws : List ℕ) (k : ℕ) {l : Lock} (e : l ≡ read-lock ws k) where
       (then-seven (eqb (l .state) 0) (eqb (l .resource) 0) (eqb (l .client) 0) (eqb (l .held) 0) (eqb (l .asked) 0) (eqb (l .completion) 0) (eqb (l .mark) 0) b n
       (λ s r.
       rw (is (l .state) 0 s 0, is (l .state) 0 s 1, is (l .state) 0 s 2, is (l .state) 0 s 3, is (l .state) 0 s 4, r)
-      (free-left (eqb (l .client) 0) (eqb (l .held) 0) (eqb (l .asked) 0) (eqb (l .completion) 0) (eqb (l .mark) 0) b n)))
+      (free-left (eqb (l .client) 0 && eqb (l .held) 0 && eqb (l .asked) 0) (eqb (l .completion) 0) (eqb (l .mark) 0) b n)))
 
   pub denied-stands : {c : Bool} {x : ℕ} → c ≡ client-right (l .client) → x ≡ word-in ws (of-lock k 1) → (eqb (l .state) 4 && eqb (l .resource) 0 && c && eqb (l .held) 0 && eqb (l .asked) 0 && eqb (l .completion) 2 && eqb (l .mark) 0 && eqb x 0) ≡ stands ws 4 0 k
   unfolding stands lock-fine fields-fine links-fine
-  denied-stands o p =
+  denied-stands {c} o p =
       let b = eqb (word-in ws (of-lock k 1)) 0 in
       let n = eqb (word-in ws (of-lock k 2)) 0 in
-      rw (o, p, ← e)
-      (then-six (eqb (l .state) 4) (eqb (l .resource) 0) (client-right (l .client)) (eqb (l .held) 0) (eqb (l .asked) 0) (eqb (l .completion) 2) (eqb (l .mark) 0) b
+      rw (p, ← e, ← o)
+      (then-six (eqb (l .state) 4) (eqb (l .resource) 0) c (eqb (l .held) 0) (eqb (l .asked) 0) (eqb (l .completion) 2) (eqb (l .mark) 0) b
       (λ s r.
       rw (is (l .state) 4 s 0, is (l .state) 4 s 1, is (l .state) 4 s 2, is (l .state) 4 s 3, is (l .state) 4 s 4, r)
-      (denied-left (client-right (l .client)) (eqb (l .held) 0) (eqb (l .asked) 0) (eqb (l .completion) 2) (eqb (l .mark) 0) (eqb (l .completion) 0) b n (denied-noticed (l .completion)))))
+      (denied-left c (eqb (l .held) 0) (eqb (l .asked) 0) (eqb (l .completion) 2) (eqb (l .completion) 0) (eqb (l .mark) 0) b n (denied-noticed (l .completion)))))
 
   -- on a resource in use
-  module _ (r : ℕ) (u : 1 ≤ r) (v : r ≤ resources-in ws) (w : named ws r ≡ true) where
+  module _ (r : ℕ) (u : 1 ≤ r) (v : r ≤ resources-in ws) (w : named ws r ≡ true) {c m : Bool} (o : c ≡ client-right (l .client)) (d : m ≡ modes-right l) where
     here : (j : ℕ) → eqb j r ≡ true → on-named ws j ≡ true
     unfolding on-named
     here j t = rw (eqb-true j r t, le-leb 1 r u, le-leb r (resources-in ws) v) w
 
-    pub granted-stands : {c f n : Bool} {x : ℕ} → c ≡ client-right (l .client) → f ≡ granted-completion (l .completion) → x ≡ word-in ws (of-lock k 1) → n ≡ (noticed l || eqb (word-in ws (of-lock k 2)) 0) → (eqb (l .state) 1 && eqb (l .resource) r && c && leb (l .held) 5 && leb (l .mark) 5 && eqb (l .asked) 0 && f && eqb x 0 && n) ≡ stands ws 1 r k
-    unfolding stands lock-fine fields-fine links-fine modes-right
-    granted-stands {c} {f} {n} o g p q =
+    pub granted-stands : {f n : Bool} {x : ℕ} → f ≡ granted-completion (l .completion) → x ≡ word-in ws (of-lock k 1) → n ≡ (noticed l || eqb (word-in ws (of-lock k 2)) 0) → (eqb (l .state) 1 && eqb (l .resource) r && c && m && eqb (l .asked) 0 && f && eqb x 0 && n) ≡ stands ws 1 r k
+    unfolding stands lock-fine fields-fine links-fine
+    granted-stands {f} {n} g p q =
         let b = eqb (word-in ws (of-lock k 1)) 0 in
-        rw (p, ← e, ← o, ← g, ← q)
-        (then-seven (eqb (l .state) 1) (eqb (l .resource) r) c (leb (l .held) 5) (leb (l .mark) 5) (eqb (l .asked) 0) f b n
+        rw (p, ← e, ← o, ← d, ← g, ← q)
+        (then-six (eqb (l .state) 1) (eqb (l .resource) r) c m (eqb (l .asked) 0) f b n
         (λ s t.
         rw (is (l .state) 1 s 0, is (l .state) 1 s 1, is (l .state) 1 s 2, is (l .state) 1 s 3, is (l .state) 1 s 4, here (l .resource) t)
-        (granted-left c (leb (l .held) 5) (leb (l .mark) 5) (eqb (l .asked) 0) (leb (l .asked) 5) f b n (zero-mode (l .asked)))))
+        (granted-left (c && m && eqb (l .asked) 0 && f) b n)))
 
-    pub converting-stands : {c n : Bool} → c ≡ client-right (l .client) → n ≡ (noticed l || eqb (word-in ws (of-lock k 2)) 0) → (eqb (l .state) 2 && eqb (l .resource) r && c && leb (l .held) 5 && leb (l .asked) 5 && leb (l .mark) 5 && eqb (l .completion) 0 && n) ≡ stands ws 2 r k
-    unfolding stands lock-fine fields-fine links-fine modes-right
-    converting-stands {c} {n} o q =
-        rw (← e, ← o, ← q)
-        (then-six (eqb (l .state) 2) (eqb (l .resource) r) c (leb (l .held) 5) (leb (l .asked) 5) (leb (l .mark) 5) (eqb (l .completion) 0) n
+    pub converting-stands : {n : Bool} → n ≡ (noticed l || eqb (word-in ws (of-lock k 2)) 0) → (eqb (l .state) 2 && eqb (l .resource) r && c && m && eqb (l .completion) 0 && n) ≡ stands ws 2 r k
+    unfolding stands lock-fine fields-fine links-fine
+    converting-stands {n} q =
+        rw (← e, ← o, ← d, ← q)
+        (then-four (eqb (l .state) 2) (eqb (l .resource) r) c m (eqb (l .completion) 0) n
         (λ s t.
         rw (is (l .state) 2 s 0, is (l .state) 2 s 1, is (l .state) 2 s 2, is (l .state) 2 s 3, is (l .state) 2 s 4, here (l .resource) t)
-        (converting-left c (leb (l .held) 5) (leb (l .asked) 5) (leb (l .mark) 5) (eqb (l .completion) 0) n)))
+        (converting-left (c && m && eqb (l .completion) 0) n)))
 
-    pub waiting-stands : {c : Bool} {x : ℕ} → c ≡ client-right (l .client) → x ≡ word-in ws (of-lock k 2) → (eqb (l .state) 3 && eqb (l .resource) r && c && eqb (l .held) 0 && leb (l .asked) 5 && eqb (l .completion) 0 && eqb (l .mark) 0 && eqb x 0) ≡ stands ws 3 r k
-    unfolding stands lock-fine fields-fine links-fine modes-right
-    waiting-stands {c} o p =
+    pub waiting-stands : {x : ℕ} → x ≡ word-in ws (of-lock k 2) → (eqb (l .state) 3 && eqb (l .resource) r && c && m && eqb (l .completion) 0 && eqb (l .held) 0 && eqb (l .mark) 0 && eqb x 0) ≡ stands ws 3 r k
+    unfolding stands lock-fine fields-fine links-fine
+    waiting-stands p =
         let n = eqb (word-in ws (of-lock k 2)) 0 in
-        rw (p, ← e, ← o)
-        (then-six (eqb (l .state) 3) (eqb (l .resource) r) c (eqb (l .held) 0) (leb (l .asked) 5) (eqb (l .completion) 0) (eqb (l .mark) 0) n
+        rw (p, ← e, ← o, ← d)
+        (then-six (eqb (l .state) 3) (eqb (l .resource) r) c m (eqb (l .completion) 0) (eqb (l .held) 0) (eqb (l .mark) 0) n
         (λ s t.
         rw (is (l .state) 3 s 0, is (l .state) 3 s 1, is (l .state) 3 s 2, is (l .state) 3 s 3, is (l .state) 3 s 4, here (l .resource) t)
-        (waiting-left c (eqb (l .held) 0) (leb (l .asked) 5) (eqb (l .completion) 0) (eqb (l .mark) 0) (leb (l .held) 5) (leb (l .mark) 5) n (zero-mode (l .held)) (zero-mode (l .mark)))))
-
-pub ruleset standing = (needs, free-stands, denied-stands)
+        (waiting-left (c && m) (eqb (l .completion) 0) (eqb (l .held) 0) (eqb (l .mark) 0) n)))

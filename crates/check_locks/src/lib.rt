@@ -23,7 +23,7 @@ ghost use Prim.Native.Nat.{_≤_};
 ghost use lib.Dec.{eqb};
 ghost use Rattle.tables.specs.State.{noticed, «state-free», «state-granted», «state-converting», «state-waiting», «state-denied»};
 ghost use Rattle.tables.specs.Layout.{«of-lock», «resources-in», «locks-in», «word-in»};
-ghost use Rattle.tables.specs.Sound.{«client-right», «granted-completion»};
+ghost use Rattle.tables.specs.Sound.{«client-right», «modes-right», «granted-completion»};
 ghost use Rattle.table_fields.specs.Sizes.{Sized};
 ghost use Rattle.table_names.specs.Names.{named};
 ghost use Rattle.check_laws.specs.Check.{stands};
@@ -33,6 +33,13 @@ fn client_right(l: Lock) -> bool
     ensures { λ x. ⌜ x ≡ client-right (l .client) ⌝ }
 {
     (1 <= l.client) & (l.client <= LAST_CLIENT)
+}
+
+// It holds and asks for a mode from 0 to 5, and its mark is at most 5.
+fn modes_right(l: Lock) -> bool
+    ensures { λ x. ⌜ x ≡ modes-right l ⌝ }
+{
+    (l.held <= LAST_MODE) & (l.asked <= LAST_MODE) & (l.mark <= LAST_MODE)
 }
 
 // The granted lock has no completion, or one that says that it was granted or that its conversion was denied.
@@ -102,8 +109,7 @@ pub fn stands_granted(words: &[u32], r: u32, k: u32) -> bool
     (l.state == STATE_GRANTED)
         & (l.resource == r)
         & client_right(l)
-        & (l.held <= LAST_MODE)
-        & (l.mark <= LAST_MODE)
+        & modes_right(l)
         & (l.asked == 0)
         & granted_completion(l)
         & (lock_word(words, k, LOCK_NEXT_BLOCKED) == 0)
@@ -122,9 +128,7 @@ pub fn stands_converting(words: &[u32], r: u32, k: u32) -> bool
     (l.state == STATE_CONVERTING)
         & (l.resource == r)
         & client_right(l)
-        & (l.held <= LAST_MODE)
-        & (l.asked <= LAST_MODE)
-        & (l.mark <= LAST_MODE)
+        & modes_right(l)
         & (l.completion == COMPLETION_NONE)
         & notice_link_right(words, k, l)
 }
@@ -141,9 +145,9 @@ pub fn stands_waiting(words: &[u32], r: u32, k: u32) -> bool
     (l.state == STATE_WAITING)
         & (l.resource == r)
         & client_right(l)
-        & (l.held == 0)
-        & (l.asked <= LAST_MODE)
+        & modes_right(l)
         & (l.completion == COMPLETION_NONE)
+        & (l.held == 0)
         & (l.mark == MARK_NONE)
         & (lock_word(words, k, LOCK_NEXT_NOTICE) == 0)
 }

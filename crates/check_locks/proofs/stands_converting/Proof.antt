@@ -3,10 +3,6 @@ use borrow.Author.Needs.{needs}
 use Rattle.check_locks.proofs.stands_converting.Statement.{statement}
 use Rattle.check_locks.proofs.stands_converting.Tie as tie
 
--- the requires are beyond what `search` looks at by itself
-returns : tie.Need-returns
-returns c = let given = c .before .before .before .before .before .before .before .before .before .before .pre in search converting-stands
-
 pub stands-converting-spec : {M : Type 1} → statement M
 stands-converting-spec =
     tie.close
@@ -14,4 +10,5 @@ stands-converting-spec =
     (λ c κs. search needs)
     (λ c κs. search needs)
     (λ c κs. search needs)
-    returns)
+    (λ c κs. search needs)
+    (λ c. search converting-stands))

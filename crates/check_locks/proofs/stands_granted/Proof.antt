@@ -3,10 +3,6 @@ use borrow.Author.Needs.{needs}
 use Rattle.check_locks.proofs.stands_granted.Statement.{statement}
 use Rattle.check_locks.proofs.stands_granted.Tie as tie
 
--- the requires are beyond what `search` looks at by itself
-returns : tie.Need-returns
-returns c = let given = c .before .before .before .before .before .before .before .before .before .before .before .pre in search granted-stands
-
 pub stands-granted-spec : {M : Type 1} → statement M
 stands-granted-spec =
     tie.close
@@ -16,4 +12,5 @@ stands-granted-spec =
     (λ c κs. search needs)
     (λ c κs. search needs)
     (λ c κs. search needs)
-    returns)
+    (λ c κs. search needs)
+    (λ c. search granted-stands))

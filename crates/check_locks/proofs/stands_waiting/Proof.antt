@@ -3,10 +3,6 @@ use borrow.Author.Needs.{needs}
 use Rattle.check_locks.proofs.stands_waiting.Statement.{statement}
 use Rattle.check_locks.proofs.stands_waiting.Tie as tie
 
--- the requires are beyond what `search` looks at by itself
-returns : tie.Need-returns
-returns c = let given = c .before .before .before .before .before .before .before .before .before .before .pre in search waiting-stands
-
 pub stands-waiting-spec : {M : Type 1} → statement M
 stands-waiting-spec =
     tie.close
@@ -14,4 +10,5 @@ stands-waiting-spec =
     (λ c κs. search needs)
     (λ c κs. search needs)
     (λ c κs. search needs)
-    returns)
+    (λ c κs. search needs)
+    (λ c. search waiting-stands))
