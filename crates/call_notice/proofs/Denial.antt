@@ -13,13 +13,14 @@ use Rattle.tables.specs.Layout.{words, slots, read-lock}
 use Rattle.tables.proofs.Cases.{by-cases, clash}
 use Rattle.tables.proofs.Counts.{first-in}
 use Rattle.tables.proofs.SlotChanges.{slots-move}
-use Rattle.tables.specs.Validity.{used, LockOk, as-denied, Core, Valid}
+use Rattle.tables.specs.Validity.{used, LockOk, Core, Valid}
 use Rattle.tables.proofs.Valid.{resources-length, core-move}
 use Rattle.tables.proofs.ChainMembers.{on-chain}
 use Rattle.rules.specs.Queues.{sweep}
 use Rattle.rules.specs.Deadlock.{victim}
 use Rattle.rules.specs.Calls.{accepted, accepted-step, deny, deny-victim, break}
 use Rattle.rules.specs.Accepted.{Cancellable}
+use Rattle.rules.proofs.CallsKeepSound.{denied-ok}
 use Rattle.table_chains.specs.Contracts.{Some, Turns, Tells, Movable, Moving, Moved, Resourced}
 use Rattle.queues.proofs.ResourceRecord.{slots-sweep}
 use Rattle.answers.specs.Answers.{denial, broken}
@@ -29,26 +30,24 @@ use Rattle.answers.specs.declared.Broken.the-variants as broken-cases
 use Rattle.answers.specs.Contracts.{MakesWords}
 use Rattle.call_release.specs.Contracts.{Restorable, restore}
 use Rattle.answers.proofs.Steps.{stepped}
-use Rattle.call_release.proofs.RestoredLock.{slots-restore, blocked-there, blocked-range, blocked-resource, restorable-at, cancel-sized, cancel-low, cancel-high}
+use Rattle.call_release.proofs.RestoredLock.{slots-restore, blocked-range, blocked-resource, restorable-at, cancel-sized, cancel-low, cancel-high}
 
--- STATES. The blocked lock k, denied
+-- STATES. The lock k, which waits, is denied
 abbrev off : ℕ → Tables → Tables
 off k t = move (lock t k .resource) k (denied-lock (lock t k)) t
 
-module _ (k : ℕ) (t : Tables) (p : Cancellable k t) where
-  denied-ok : LockOk (used t) (denied-lock (lock t k))
-  denied-ok =
-      let q = blocked-there k t p in
-      as-denied refl (record { client-low = q .client-low; client-high = q .client-high; nowhere = refl; holds = refl; asks = refl; notice = refl })
+module _ (k : ℕ) (t : Tables) (p : Cancellable k t) (c : converting (lock t k) ≡ false) where
+  off-ok : LockOk (used t) (denied-lock (lock t k))
+  off-ok = denied-ok (used t) (lock t k) (p .valid .core .lock-ok k) (rw c at (p .is-blocked))
 
   movable : Movable (lock t k .resource) k (denied-lock (lock t k)) t
-  movable = record { core = p .valid .core; in-range = blocked-range k t p; near-old = λ z. refl; near-new = λ z. absurd (z refl); ok = denied-ok }
+  movable = record { core = p .valid .core; in-range = blocked-range k t p; near-old = λ z. refl; near-new = λ z. absurd (z refl); ok = off-ok }
 
   off-resourced : Resourced (lock t k .resource) (off k t)
   off-resourced =
       record {
         core =
-            core-move (lock t k .resource) k (denied-lock (lock t k)) t (p .valid .core) (blocked-range k t p) (λ z. refl) (λ z. absurd (z refl)) denied-ok
+            core-move (lock t k .resource) k (denied-lock (lock t k)) t (p .valid .core) (blocked-range k t p) (λ z. refl) (λ z. absurd (z refl)) off-ok
             (λ z. clash false z refl);
         in-range = rw (resources-length (lock t k .resource) k (denied-lock (lock t k)) t) (blocked-resource k t p);
       }
@@ -84,7 +83,10 @@ module _ (k : ℕ) (a : List ℕ) (l : Lock) (el : l ≡ read-lock a k) where
       then = λ t p is. let h = restorable t p is in turns .then t h is ∙ ap words (sym (deny-converts k t (h .converts)));
     }
 
-  module _ (m : Lock) (em : m ≡ denied-lock l) where
+  module _ (n : l .state ≡ 2 → ⊥) (m : Lock) (em : m ≡ denied-lock l) where
+    waits-at : (t : Tables) → Cancellable k t → a ≡ words t → converting (lock t k) ≡ false
+    waits-at t p is = rw (← (l-is t p is)) (ne-eqb (l .state) 2 n)
+
     m-is : (t : Tables) → Cancellable k t → a ≡ words t → m ≡ denied-lock (lock t k)
     m-is t p is = em ∙ ap (λ (o : Lock). denied-lock o) (l-is t p is)
 
@@ -93,27 +95,27 @@ module _ (k : ℕ) (a : List ℕ) (l : Lock) (el : l ≡ read-lock a k) where
         record {
           state = s .state;
           resource = lock (s .state) k .resource;
-          good = rw (m-is (s .state) (s .good) (s .is)) (movable k (s .state) (s .good));
+          good = rw (m-is (s .state) (s .good) (s .is)) (movable k (s .state) (s .good) (waits-at (s .state) (s .good) (s .is)));
           is = s .is;
         }
 
     module _ (b : List ℕ) (moved : Moved k m a b) where
       moved-at : (t : Tables) → Cancellable k t → a ≡ words t → b ≡ words (off k t)
-      moved-at t p is = subst (λ (o : Lock). Moved k o a b) (m-is t p is) moved .then (lock t k .resource) t (movable k t p) is
+      moved-at t p is = subst (λ (o : Lock). Moved k o a b) (m-is t p is) moved .then (lock t k .resource) t (movable k t p (waits-at t p is)) is
 
       pub deny-resourced : Some (Cancellable k) a → Some (Resourced (l .resource)) b
       deny-resourced s =
           record {
             state = off k (s .state);
-            good = rw (l-is (s .state) (s .good) (s .is)) (off-resourced k (s .state) (s .good));
+            good = rw (l-is (s .state) (s .good) (s .is)) (off-resourced k (s .state) (s .good) (waits-at (s .state) (s .good) (s .is)));
             is = moved-at (s .state) (s .good) (s .is);
           }
 
-      pub deny-swept : (l .state ≡ 2 → ⊥) → (d : List ℕ) → Turns (Resourced (l .resource)) (sweep (l .resource)) b d → Turns (Cancellable k) (deny k) a d
-      deny-swept n d sweeps = record {
+      pub deny-swept : (d : List ℕ) → Turns (Resourced (l .resource)) (sweep (l .resource)) b d → Turns (Cancellable k) (deny k) a d
+      deny-swept d sweeps = record {
         then = λ t p is.
-            let c : converting (lock t k) ≡ false = rw (← (l-is t p is)) (ne-eqb (l .state) 2 n) in
-            subst (λ (o : Lock). Turns (Resourced (o .resource)) (sweep (o .resource)) b d) (l-is t p is) sweeps .then (off k t) (off-resourced k t p) (moved-at t p is)
+            let c = waits-at t p is in
+            subst (λ (o : Lock). Turns (Resourced (o .resource)) (sweep (o .resource)) b d) (l-is t p is) sweeps .then (off k t) (off-resourced k t p c) (moved-at t p is)
             ∙ ap words (sym (deny-waits k t c));
       }
 

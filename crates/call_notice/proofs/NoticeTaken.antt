@@ -1,85 +1,91 @@
 -- Reading a notice, and a client's first.
 use mathlib.Core.Path.{_≡_, refl, sym, _∙_, ap, subst}
 use mathlib.Core.Logic.{_≢_}
-use mathlib.Core.Bool.{Bool, true, false}
+use mathlib.Core.Bool.{true, false}
 use mathlib.Core.List.{List}
 use Prim.Native.Nat.{ℕ, zero, suc, _≤_}
 use native.Mathlib.Omega.{arith}
 use lib.ListN.{length}
 use borrow.Author.Needs.{needs}
-use borrow.Author.Tests.{eqb-false, eq-eqb, ne-eqb, not-true}
+use borrow.Author.Tests.{eq-eqb, ne-eqb}
 use Rattle.tables.specs.declared.Lock.{Lock}
 use Rattle.tables.specs.Lists.{within}
-use Rattle.tables.specs.State.{Tables, lock, notices, move}
+use Rattle.tables.specs.State.{Tables, lock, granted, holds, noticed, notices, move}
 use Rattle.tables.specs.Layout.{words, slots, locks-in, read-lock}
 use Rattle.tables.proofs.Cases.{by-cases, clash}
 use Rattle.tables.proofs.Counts.{first-in}
 use Rattle.tables.proofs.SlotChanges.{slots-move}
-use Rattle.tables.specs.Validity.{used, Granted, LockOk, as-granted, Core, Valid}
+use Rattle.tables.specs.Validity.{used, LockOk, Core, Valid}
 use Rattle.tables.proofs.StateCases.{StateOk, ok-numbered}
-use Rattle.tables.proofs.Valid.{absent-lock}
+use Rattle.tables.proofs.Valid.{ok-at, absent-lock}
 use Rattle.tables.proofs.ChainMembers.{on-chain}
 use Rattle.table_fields.specs.Sizes.{Sized}
 use Rattle.table_fields.proofs.StateWords.{core-sized, lock-high, lock-is, lock-low}
 use Rattle.rules.specs.Queues.{free-lock}
 use Rattle.rules.specs.declared.Said.{Said}
-use Rattle.rules.specs.Calls.{accepted-step, notice-read, take-notice, poll-notice, poll-change}
+use Rattle.rules.specs.Calls.{notified, Step, accepted-step, notice-read, take-notice, poll-notice, poll-change}
+use Rattle.rules.specs.Entries.{lent, outcome, written}
+use Rattle.rules.proofs.NoticesKeepSound.{noted-ok}
+use Rattle.rules.proofs.CallsKeepSound.{noticed-denied, noticed-holds}
 use Rattle.table_chains.specs.Contracts.{Some, Turns, Tells, Movable, Moving, Moved}
 use Rattle.queues.specs.Contracts.{Locked}
 use Rattle.queues.proofs.ResourceRecord.{slots-free}
-use Rattle.answers.specs.Answers.{polled}
+use Rattle.answers.specs.Answers.{mark-alone, polled}
 use Rattle.answers.specs.declared.Polled.the-variants as polled-cases
 use Rattle.answers.specs.Contracts.{MakesWords}
-use Rattle.answers.proofs.Steps.{stepped}
+use Rattle.answers.proofs.Steps.{step-left, stepped}
 use Rattle.call_notice.specs.Contracts.{first-notice, Noticed}
 use Rattle.call_notice.proofs.Denial.{valid-core}
 
--- STATES. A notice that is no denied request stands at a granted lock
-granted-noticed : (u : ℕ → Bool) (l : Lock) (s : ℕ) → StateOk u l s → l .completion ≢ 0 → l .completion ≢ 2 → Granted u l × (s ≡ 1)
-granted-noticed u l zero ok a b = absurd (a (ap (λ (x : Lock). x .completion) ok))
-granted-noticed u l (suc zero) ok a b = (ok, refl)
-granted-noticed u l (suc (suc zero)) ok a b = absurd (a (ok .notice))
-granted-noticed u l (suc (suc (suc zero))) ok a b = absurd (a (ok .notice))
-granted-noticed u l (suc (suc (suc (suc zero)))) ok a b = absurd (b (ok .notice))
-granted-noticed u l (suc (suc (suc (suc (suc n))))) ok a b = absurd ok
-
+-- STATES. The lock k has a notice
 module _ (k : ℕ) (t : Tables) (p : Noticed k t) where
-  some-notice : lock t k .completion ≢ 0
-  some-notice = eqb-false (lock t k .completion) 0 (not-true _ (p .has-notice))
-
   in-range : within (length (t .locks)) k ≡ true
-  in-range =
-      by-cases (within (length (t .locks)) k) (λ w. w) (λ w. absurd (some-notice (ap (λ (l : Lock). l .completion) (absent-lock t k w))))
+  in-range = by-cases (within (length (t .locks)) k) (λ w. w) (λ w. clash (noticed (lock t k)) (p .has-notice) (rw (absent-lock t k w)))
 
   locked : Locked k t
   locked = record { core = p .core; in-range = in-range }
 
+  its-state : StateOk (used t) (lock t k) (lock t k .state)
+  its-state = ok-numbered (p .core .lock-ok k)
+
+  denied-unmarked : lock t k .completion ≡ 2 → lock t k .mark ≡ 0
+  denied-unmarked e =
+      let s = noticed-denied (used t) (lock t k) (lock t k .state) its-state e in
+      ok-at (used t) (lock t k) 4 (p .core .lock-ok k) (rw s) .unmarked
+
+  -- one that is no denied request's holds a mode
   module _ (n : lock t k .completion ≢ 2) where
-    old : Granted (used t) (lock t k) × (lock t k .state ≡ 1)
-    old = granted-noticed (used t) (lock t k) (lock t k .state) (ok-numbered (p .core .lock-ok k)) some-notice n
+    holder : holds (lock t k) ≡ true
+    holder = noticed-holds (used t) (lock t k) (lock t k .state) refl its-state (p .has-notice) n
 
     read-ok : LockOk (used t) (notice-read (lock t k))
-    read-ok =
-        let q = old .0 .place in
-        as-granted (old .1)
-        (record {
-          place = record { in-use = q .in-use; client-low = q .client-low; client-high = q .client-high; held-mode = q .held-mode; asked-mode = q .asked-mode };
-          asks = old .0 .asks;
-          notice = omega arith;
-          not-denied = omega arith;
-        })
+    read-ok = noted-ok (used t) (lock t k) 0 0 (p .core .lock-ok k) holder (omega arith) (λ o. (omega arith, omega arith)) (λ o. refl)
 
     movable : Movable (lock t k .resource) k (notice-read (lock t k)) t
     movable = record { core = p .core; in-range = in-range; near-old = λ z. refl; near-new = λ z. refl; ok = read-ok }
 
-    -- granted, or a denied conversion
-    denied-else : lock t k .completion ≢ 1 → lock t k .completion ≡ 3
-    denied-else m = omega (arith, some-notice, n, m, old .0 .notice)
+    -- granted, a denied conversion, or a mark alone
+    completion-high : lock t k .completion ≤ 3
+    completion-high =
+        by-cases (granted (lock t k))
+        (λ g. ok-at (used t) (lock t k) 1 (p .core .lock-ok k) g .notice)
+        (λ g. omega (arith, ok-at (used t) (lock t k) 2 (p .core .lock-ok k) (rw g at holder) .notice))
 
-poll-some : (n k : ℕ) (t : Tables) → within n k ≡ true → poll-notice k t ≡ accepted-step (lock t k .completion) k (take-notice k t)
+    mark-else : lock t k .completion ≢ 1 → lock t k .completion ≢ 3 → lock t k .completion ≡ 0
+    mark-else g d = omega (arith, n, g, d, completion-high)
+
+abbrev answered : ℕ → ℕ → ℕ → Tables → Step
+answered e k m t = record { said = notified e k m; tables = t }
+
+poll-some : (n k : ℕ) (t : Tables) → within n k ≡ true → poll-notice k t ≡ answered (lock t k .completion) k (lock t k .mark) (take-notice k t)
 unfolding poll-notice
 poll-some n zero t w = clash false w refl
 poll-some n (suc k) t w = refl
+
+-- a mark alone says its lock, which has a number from 1 on
+alone-is : (n k m : ℕ) → within n k ≡ true → mark-alone k m ≡ notified 0 k m
+alone-is n zero m w = clash false w refl
+alone-is n (suc k) m w = refl
 
 take-denied : (k : ℕ) (t : Tables) → lock t k .completion ≡ 2 → take-notice k t ≡ free-lock k t
 unfolding take-notice
@@ -89,9 +95,11 @@ take-read : (k : ℕ) (t : Tables) → lock t k .completion ≢ 2 → take-notic
 unfolding take-notice
 take-read k t n = rw (ne-eqb (lock t k .completion) 2 n, take-notice)
 
--- the notice with the completion x is answered so
-poll-done : (k : ℕ) (t : Tables) → Noticed k t → (x : ℕ) (t′ : Tables) → lock t k .completion ≡ x → take-notice k t ≡ t′ → poll-notice k t ≡ accepted-step x k t′
-poll-done k t p x t′ e h = poll-some (length (t .locks)) k t (in-range k t p) ∙ ap (λ (y : ℕ). accepted-step y k (take-notice k t)) e ∙ ap (accepted-step x k) h
+-- the notice with the completion e and the mark m is answered so
+poll-done : (k : ℕ) (t : Tables) → Noticed k t → (e m : ℕ) (t′ : Tables) → lock t k .completion ≡ e → lock t k .mark ≡ m → take-notice k t ≡ t′ →
+    poll-notice k t ≡ answered e k m t′
+poll-done k t p e m t′ ce cm h =
+    poll-some (length (t .locks)) k t (in-range k t p) ∙ λ i. answered (ce i) k (cm i) (h i)
 
 -- take_notice
 module _ (k : ℕ) (a : List ℕ) where
@@ -115,11 +123,15 @@ module _ (k : ℕ) (a : List ℕ) where
     notice-is : (t : Tables) → Noticed k t → a ≡ words t → l .completion ≡ lock t k .completion
     notice-is t p is = ap (λ (o : Lock). o .completion) (l-is t p is)
 
+    mark-is : (t : Tables) → Noticed k t → a ≡ words t → lock t k .mark ≡ l .mark
+    mark-is t p is = ap (λ (o : Lock). o .mark) (sym (l-is t p is))
+
     pub take-freed : l .completion ≡ 2 → (b : List ℕ) → Turns (Locked k) (free-lock k) a b → MakesWords (Noticed k) (poll-notice k) a b (polled (polled-cases.RequestDenied k))
     take-freed e b frees = record {
       then = λ t p is.
           let d : lock t k .completion ≡ 2 = sym (notice-is t p is) ∙ e in
-          stepped (poll-notice k t) 2 k (free-lock k t) b (slots t) (poll-done k t p 2 (free-lock k t) d (take-denied k t d)) (frees .then t (locked k t p) is) (sym (slots-free k t));
+          step-left (poll-notice k t) (notified 2 k 0) (free-lock k t) b (slots t) (poll-done k t p 2 0 (free-lock k t) d (denied-unmarked k t p d) (take-denied k t d))
+          (frees .then t (locked k t p) is) (sym (slots-free k t));
     }
 
     module _ (n : l .completion ≡ 2 → ⊥) (m : Lock) (em : m ≡ notice-read l) where
@@ -139,28 +151,29 @@ module _ (k : ℕ) (a : List ℕ) where
           }
 
       module _ (b : List ℕ) (moved : Moved k m a b) where
-        read-at : (x : ℕ) (t : Tables) (p : Noticed k t) (is : a ≡ words t) → lock t k .completion ≡ x →
-            (poll-notice k t ≡ accepted-step x k (move (lock t k .resource) k (notice-read (lock t k)) t)) × (b ≡ words (move (lock t k .resource) k (notice-read (lock t k)) t))
-        read-at x t p is e = (
-          poll-done k t p x _ e (take-read k t (other-at t p is)),
-          subst (λ (o : Lock). Moved k o a b) (m-is t p is) moved .then (lock t k .resource) t (movable k t p (other-at t p is)) is,
-        )
+        read-at : (e : ℕ) (t : Tables) → Noticed k t → a ≡ words t → lock t k .completion ≡ e → outcome (notified e k (l .mark)) (lent b (slots t)) ≡ written (poll-notice k t)
+        read-at e t p is ce =
+            let o = other-at t p is in
+            let r = lock t k .resource in
+            step-left (poll-notice k t) (notified e k (l .mark)) (move r k (notice-read (lock t k)) t) b (slots t)
+            (poll-done k t p e (l .mark) _ ce (mark-is t p is) (take-read k t o))
+            (subst (λ (q : Lock). Moved k q a b) (m-is t p is) moved .then r t (movable k t p o) is)
+            (sym (slots-move r k (notice-read (lock t k)) t))
 
-        pub take-granted : l .completion ≡ 1 → MakesWords (Noticed k) (poll-notice k) a b (polled (polled-cases.Granted k))
-        take-granted e = record {
+        pub take-granted : l .completion ≡ 1 → MakesWords (Noticed k) (poll-notice k) a b (polled (polled-cases.Granted k (l .mark)))
+        take-granted e = record { then = λ t p is. read-at 1 t p is (sym (notice-is t p is) ∙ e) }
+
+        pub take-refused : l .completion ≡ 3 → MakesWords (Noticed k) (poll-notice k) a b (polled (polled-cases.ConversionDenied k (l .mark)))
+        take-refused e = record { then = λ t p is. read-at 3 t p is (sym (notice-is t p is) ∙ e) }
+
+        pub take-marked : (l .completion ≡ 1 → ⊥) → (l .completion ≡ 3 → ⊥) → MakesWords (Noticed k) (poll-notice k) a b (polled (polled-cases.Marked k (l .mark)))
+        take-marked g d = record {
           then = λ t p is.
-              let h = read-at 1 t p is (sym (notice-is t p is) ∙ e) in
-              stepped (poll-notice k t) 1 k _ b (slots t) (h .0) (h .1) (sym (slots-move (lock t k .resource) k (notice-read (lock t k)) t));
+              let none = mark-else k t p (other-at t p is) (λ e. g (notice-is t p is ∙ e)) (λ e. d (notice-is t p is ∙ e)) in
+              ap (λ (x : Said). outcome x (lent b (slots t))) (alone-is (length (t .locks)) k (l .mark) (in-range k t p)) ∙ read-at 0 t p is none;
         }
 
-        pub take-refused : (l .completion ≡ 1 → ⊥) → MakesWords (Noticed k) (poll-notice k) a b (polled (polled-cases.ConversionDenied k))
-        take-refused d = record {
-          then = λ t p is.
-              let h = read-at 3 t p is (denied-else k t p (other-at t p is) (λ e. d (notice-is t p is ∙ e))) in
-              stepped (poll-notice k t) 3 k _ b (slots t) (h .0) (h .1) (sym (slots-move (lock t k .resource) k (notice-read (lock t k)) t));
-        }
-
-pub ruleset take-laws = (needs, take-sized, take-low, take-high, take-locked, take-freed, take-moving, take-granted, take-refused)
+pub ruleset take-laws = (needs, take-sized, take-low, take-high, take-locked, take-freed, take-moving, take-granted, take-refused, take-marked)
 
 -- STATES. The first notice is one
 first-noticed : (c : ℕ) (t : Tables) → Core t → (k : ℕ) → k ≢ 0 → k ≡ first-notice c t → Noticed k t

@@ -1,5 +1,6 @@
-// Notices. To break a deadlock a lock is denied, which leaves its client a notice. A client reads its notices one by
-// one. Both calls change the lent words in place; the slots stay as they are.
+// Notices: a lock's completion, its mark, or both. To break a deadlock a lock is denied, which leaves its client a
+// completion. A client reads its notices one by one. Both calls change the lent words in place; the slots stay as they
+// are.
 use answers::Broken;
 use answers::Polled;
 use table_fields::lock_at;
@@ -23,6 +24,7 @@ fn denied(l: Lock) -> Lock
     m.client = l.client;
     m.state = table_fields::STATE_DENIED;
     m.completion = table_fields::COMPLETION_DENIED;
+    m.mark = l.mark;
     m
 }
 
@@ -68,12 +70,13 @@ fn first_notice(words: &[u32], client: u32) -> u32
     0
 }
 
-// The lock as it is when its notice has been read.
+// The lock as it is when its notice has been read: its completion and its mark are gone.
 fn notice_read(l: Lock) -> Lock
     ensures { λ m. ⌜ m ≡ notice-read l ⌝ }
 {
     let mut m = l;
     m.completion = table_fields::COMPLETION_NONE;
+    m.mark = table_fields::MARK_NONE;
     m
 }
 
@@ -89,9 +92,12 @@ fn take_notice(words: &mut [u32], k: u32) -> Polled
     }
     table_chains::move_lock(words, k, notice_read(l));
     if l.completion == table_fields::COMPLETION_GRANTED {
-        return Polled::Granted(k);
+        return Polled::Granted(k, l.mark);
     }
-    Polled::ConversionDenied(k)
+    if l.completion == table_fields::COMPLETION_CONVERSION_DENIED {
+        return Polled::ConversionDenied(k, l.mark);
+    }
+    Polled::Marked(k, l.mark)
 }
 
 // The client's first notice is read, if it has one.

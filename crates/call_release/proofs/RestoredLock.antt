@@ -13,7 +13,7 @@ use Rattle.tables.specs.State.{Tables, lock, granted, converting, holds, move}
 use Rattle.tables.specs.Layout.{words, slots, locks-in, read-lock}
 use Rattle.tables.proofs.Cases.{or-right}
 use Rattle.tables.proofs.SlotChanges.{slots-move}
-use Rattle.tables.specs.Validity.{used, Place, LockOk, as-granted}
+use Rattle.tables.specs.Validity.{used, Place, LockOk}
 use Rattle.tables.proofs.Valid.{ok-at, used-within, resources-length, Fits, core-move, blocked-lock-place}
 use Rattle.tables.proofs.ChainMembers.{state-within, blocked-within}
 use Rattle.table_fields.specs.Sizes.{Sized}
@@ -21,6 +21,7 @@ use Rattle.table_fields.proofs.StateWords.{core-sized, lock-high, lock-is, lock
 use Rattle.rules.specs.Queues.{sweep, free-lock}
 use Rattle.rules.specs.Calls.{restored, accepted-step, cancel-change}
 use Rattle.rules.specs.Accepted.{Cancellable}
+use Rattle.rules.proofs.CallsKeepSound.{restored-ok}
 use Rattle.table_chains.specs.Contracts.{Some, Turns, Movable, Moving, Moved, Resourced}
 use Rattle.queues.specs.Contracts.{Locked}
 use Rattle.queues.proofs.ResourceRecord.{slots-sweep, slots-free}
@@ -39,17 +40,11 @@ module _ (k e : ℕ) (t : Tables) (p : Restorable k e t) where
   in-range : within (length (t .locks)) k ≡ true
   in-range = state-within t k 1 (eqb-true (lock t k .state) 2 (p .converts))
 
-  restored-ok : LockOk (used t) (restored e (lock t k))
-  restored-ok =
-      as-granted refl (record {
-        place = record { in-use = place .in-use; client-low = place .client-low; client-high = place .client-high; held-mode = place .held-mode; asked-mode = omega arith };
-        asks = refl;
-        notice = p .notice;
-        not-denied = p .not-denied;
-      })
+  back-ok : LockOk (used t) (restored e (lock t k))
+  back-ok = restored-ok (used t) (lock t k) e place (p .notice) (p .not-denied)
 
   movable : Movable (lock t k .resource) k (restored e (lock t k)) t
-  movable = record { core = p .core; in-range = in-range; near-old = λ z. refl; near-new = λ z. refl; ok = restored-ok }
+  movable = record { core = p .core; in-range = in-range; near-old = λ z. refl; near-new = λ z. refl; ok = back-ok }
 
   abbrev back : Tables
   back = move (lock t k .resource) k (restored e (lock t k)) t
@@ -61,7 +56,7 @@ module _ (k e : ℕ) (t : Tables) (p : Restorable k e t) where
   back-resourced : Resourced (lock t k .resource) back
   back-resourced =
       record {
-        core = core-move (lock t k .resource) k (restored e (lock t k)) t (p .core) in-range (λ z. refl) (λ z. refl) restored-ok back-fits;
+        core = core-move (lock t k .resource) k (restored e (lock t k)) t (p .core) in-range (λ z. refl) (λ z. refl) back-ok back-fits;
         in-range = rw (resources-length (lock t k .resource) k (restored e (lock t k)) t) (used-within t (lock t k .resource) (place .in-use));
       }
 
@@ -120,7 +115,7 @@ pub ruleset restore-laws = (needs, restore-sized, restore-low, restore-high, res
 
 -- STATES. The lock k is blocked
 module _ (k : ℕ) (t : Tables) (p : Cancellable k t) where
-  pub blocked-there : Place (used t) (lock t k)
+  blocked-there : Place (used t) (lock t k)
   blocked-there = blocked-lock-place (used t) (lock t k) (p .valid .core .lock-ok k) (p .is-blocked)
 
   pub blocked-range : within (length (t .locks)) k ≡ true

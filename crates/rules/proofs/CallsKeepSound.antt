@@ -69,7 +69,7 @@ waiter-gone t val k m h g c =
     let i : 1 ≤ count k (resource t r .wait) = omega (arith, chain-has t (val .core .linked) (queue r waits) k (state-within t k 2 s) (rw (h, eqb-same r))) in
     rw (resource-same r k m t (used-within t r u), gl, g, cl, c, waited-for t val r k i)
 
-restored-ok : (u : ℕ → Bool) (l : Lock) (n : ℕ) → Place u l → n ≤ 3 → n ≢ 2 → LockOk u (restored n l)
+pub restored-ok : (u : ℕ → Bool) (l : Lock) (n : ℕ) → Place u l → n ≤ 3 → n ≢ 2 → LockOk u (restored n l)
 restored-ok u l n p a b =
     as-granted refl (record {
       place = record { in-use = p .in-use; client-low = p .client-low; client-high = p .client-high; held-mode = p .held-mode; asked-mode = omega arith; mark-mode = p .mark-mode };
@@ -103,7 +103,7 @@ cancel-after k t val b =
     (freed-sweep t (val .core) (lock t k .resource) k refl (λ q i. val .settled q) (rw s) (state-within t k 2 s) (waiter-gone t val k no-lock a refl refl)))
 
 -- POLL
-noticed-denied : (u : ℕ → Bool) (l : Lock) (s : ℕ) → StateOk u l s → l .completion ≡ 2 → s ≡ 4
+pub noticed-denied : (u : ℕ → Bool) (l : Lock) (s : ℕ) → StateOk u l s → l .completion ≡ 2 → s ≡ 4
 noticed-denied u l zero ok e = absurd (omega (arith, ap (λ (x : Lock). x .completion) ok))
 noticed-denied u l (suc zero) ok e = absurd (ok .not-denied e)
 noticed-denied u l (suc (suc zero)) ok e = absurd (omega (arith, ok .notice))
@@ -112,7 +112,7 @@ noticed-denied u l (suc (suc (suc (suc zero)))) ok e = refl
 noticed-denied u l (suc (suc (suc (suc (suc n))))) ok e = absurd ok
 
 -- a lock that has a notice, and not that its request was denied, holds a mode
-noticed-holds : (u : ℕ → Bool) (l : Lock) (s : ℕ) → l .state ≡ s → StateOk u l s → noticed l ≡ true → l .completion ≢ 2 → holds l ≡ true
+pub noticed-holds : (u : ℕ → Bool) (l : Lock) (s : ℕ) → l .state ≡ s → StateOk u l s → noticed l ≡ true → l .completion ≢ 2 → holds l ≡ true
 noticed-holds u l zero q ok h b = clash (noticed l) h (rw ok)
 noticed-holds u l (suc zero) q ok h b = rw q
 noticed-holds u l (suc (suc zero)) q ok h b = rw q
@@ -143,6 +143,12 @@ poll-after c t val = go (first-that (λ k. eqb (lock t k .client) c) (t .notices
     go (suc k) e = let i = on-chain t (val .core .linked) notices (suc k) (first-in _ (t .notices) k e) in taken-after (suc k) t val (i .1) (i .0)
 
 -- BREAK
+pub denied-ok : (u : ℕ → Bool) (l : Lock) → LockOk u l → waiting l ≡ true → LockOk u (denied-lock l)
+denied-ok u l ok w =
+    let o = ok-at u l 3 ok w in
+    let p = o .place in
+    as-denied refl (record { client-low = p .client-low; client-high = p .client-high; nowhere = refl; holds = refl; asks = refl; notice = refl; unmarked = o .unmarked })
+
 deny-after : (k : ℕ) (t : Tables) → Valid t → blocked-lock (lock t k) ≡ true → After t (deny k t) (t .free-locks)
 unfolding deny
 deny-after k t val b =
@@ -150,13 +156,10 @@ deny-after k t val b =
     (λ h. rw (h, deny) (restored-after 3 (omega arith) (omega arith) k t val h))
     (λ h. let a : waiting (lock t k) ≡ true = rw h at b in
     let s = eqb-true (lock t k .state) 3 a in
-    let o = ok-at (used t) (lock t k) 3 (val .core .lock-ok k) a in
-    let p = o .place in
     let m = denied-lock (lock t k) in
     rw (h, deny)
     (then-sweep t (val .core) (lock t k .resource) k m (λ q i. val .settled q) (state-within t k 2 s) (λ z. refl) (λ z. absurd (z refl))
-    (as-denied refl (record { client-low = p .client-low; client-high = p .client-high; nowhere = refl; holds = refl; asks = refl; notice = refl; unmarked = o .unmarked }))
-    (λ z. clash false z refl) _ (free-kept (lock t k .resource) k m t (rw s) refl) (waiter-gone t val k m a refl refl)))
+    (denied-ok (used t) (lock t k) (val .core .lock-ok k) a) (λ z. clash false z refl) _ (free-kept (lock t k .resource) k m t (rw s) refl) (waiter-gone t val k m a refl refl)))
 
 pub break-after : (t : Tables) → Valid t → After t (break t .tables) (t .free-locks)
 unfolding break deny-victim victim

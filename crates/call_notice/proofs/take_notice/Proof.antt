@@ -16,4 +16,6 @@ take-notice-spec =
     (λ c. search needs)
     (λ c. search take-laws)
     (λ c. search needs)
+    (λ c. search take-laws)
+    (λ c. search needs)
     (λ c. search take-laws))
