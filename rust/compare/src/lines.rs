@@ -279,7 +279,10 @@ impl LineCounts {
 
     fn add_call(&mut self, call: &Call, before: &model::State, reply: &Reply, run: &Run) {
         let (answer, refused) = match reply {
-            Reply::Answer(numbers) => (accepted(numbers[0], numbers.get(1).copied().unwrap_or(0)), None),
+            Reply::Answer(numbers) => {
+                let number = |at: usize| numbers.get(at).copied().unwrap_or(0);
+                (accepted(number(0), number(1), number(2)), None)
+            }
             Reply::Refused(refusal) => (refused(refusal.0), Some(refusal.0)),
             Reply::AnotherForm => return,
         };
