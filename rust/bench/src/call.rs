@@ -96,8 +96,13 @@ pub struct Flat;
 
 const REFUSED: u64 = 1 << 63;
 
+fn three(answer: Result<(u32, u32, u32), u32>) -> u64 {
+    let accepted = |(result, lock, mark)| u64::from(mark) << 32 | u64::from(lock) << 16 | u64::from(result);
+    answer.map_or_else(|number| REFUSED | u64::from(number), accepted)
+}
+
 fn two(answer: Result<(u32, u32), u32>) -> u64 {
-    answer.map_or_else(|number| REFUSED | u64::from(number), |(result, lock)| u64::from(lock) << 16 | u64::from(result))
+    three(answer.map(|(result, lock)| (result, lock, 0)))
 }
 
 fn one(answer: Result<u32, u32>) -> u64 {
@@ -123,7 +128,7 @@ impl Manager for Flat {
             Call::Cancel { client, lock } => one(flat::cancel(words, slots, *client, *lock)),
             Call::Purge { client } => one(flat::purge(words, slots, *client)),
             Call::Break => denied(flat::break_deadlock(words, slots)),
-            Call::Poll { client } => two(flat::poll(words, slots, *client)),
+            Call::Poll { client } => three(flat::poll(words, slots, *client)),
             Call::Read { client, lock } => one(flat::read(words, slots, *client, *lock).map(|(value, valid)| {
                 areas.value = value;
                 u32::from(valid)

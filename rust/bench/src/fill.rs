@@ -72,7 +72,7 @@ pub fn accepted(tables: &mut Tables, call: &Call) -> u64 {
 }
 
 /// Tables of a size, filled. No deadlock is in them: clients up to 100 hold and never wait, those up to 200 wait and hold nothing, and those
-/// above convert from NL, which is in nobody's way.
+/// above convert from NL, which is in nobody's way. All clients have heard of their marks.
 pub fn filled(size: Size, fill: Fill) -> Tables {
     let mut tables = started(size);
     let (locks, names) = match fill {
@@ -88,6 +88,9 @@ pub fn filled(size: Size, fill: Fill) -> Tables {
             add_spread(&mut tables, number % names, number / names, number);
         }
     }
+    for client in 1..=MOST_HOLDER {
+        while lock(accepted(&mut tables, &Call::Poll { client })) != 0 {}
+    }
     tables
 }
 
@@ -95,8 +98,11 @@ fn request(tables: &mut Tables, client: u32, mode: u32, at: u32) -> u32 {
     lock(accepted(tables, &Call::Request { client, mode, name: name(at) }))
 }
 
+/// The largest client that holds a mode other than NL.
+const MOST_HOLDER: u32 = 100;
+
 fn holder(number: u32) -> u32 {
-    1 + number % 100
+    1 + number % MOST_HOLDER
 }
 
 fn waiter(number: u32) -> u32 {

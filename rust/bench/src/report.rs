@@ -85,8 +85,10 @@ fn introduction(page: &mut String, results: &Results) {
          flat, and is what counts: the times themselves depend on the machine ({}), which other programs share.\n\n\
          Names have 48 bytes and differ in the last eight only. \"Empty\" tables have no locks but those that the call needs; \"full\" ones leave \
          three locks and two resources free for it; in \"full, one name\" all locks stand on one resource, half of them granted, an eighth \
-         converting, the others waiting. \"Break, no deadlock\" searches from every blocked lock in vain. The mixed list is 64 calls one after the \
-         other on the same tables: requests, conversions, releases, and a few cancels, polls and reads.\n\n\
+         converting, the others waiting. What clients are told while tables are filled they have polled. \"Request, marks all\" waits and marks \
+         every lock on its name that holds more than NL, in \"full, one name\" half of all locks. \"Break, no deadlock\" searches from every \
+         blocked lock in vain. The mixed list is 64 calls one after the other on the same tables: requests, conversions, releases, and a few \
+         cancels, polls and reads.\n\n\
          The middle of all ratios is **{:.2}**.\n\n\
          ![Ratios and growth](benchmarks.svg)\n",
         machine(),

@@ -1,6 +1,6 @@
 //! What is timed: calls of each entry with a given outcome, found on the tables by trying.
 
-use crate::call::{Areas, Call, Flat, Manager, Tables, refused, result};
+use crate::call::{self, Areas, Call, Flat, Manager, Tables, refused, result};
 use crate::fill::{accepted, name};
 use flat::layout::state::{CONVERTING, GRANTED, WAITING};
 use flat::layout::{LockRecord, Records, completion, head, lock, resource};
@@ -62,6 +62,15 @@ fn new_notice(before: &Tables, _: u64, after: &Tables) -> bool {
 /// How many locks have a completion.
 fn notices(tables: &Tables) -> usize {
     records(tables).locks.iter().filter(|record| record[lock::COMPLETION] != completion::NONE).count()
+}
+
+/// Whether a request waits and has marked all locks on its resource that hold a mode other than NL.
+fn marks_all(before: &Tables, answer: u64, after: &Tables) -> bool {
+    let queued = &records(after).locks[call::lock(answer) as usize - 1];
+    let holds = |record: &&LockRecord| record[lock::RESOURCE] == queued[lock::RESOURCE] && record[lock::HELD] != NL;
+    let marked = |tables: &Tables| records(tables).locks.iter().filter(|record| record[lock::MARK] != 0).count();
+    let holders = records(before).locks.iter().filter(holds).count();
+    result(answer) == 2 && holders > 0 && marked(after) == marked(before) + holders
 }
 
 fn records(tables: &Tables) -> Records<'_> {
@@ -140,6 +149,7 @@ pub const ROWS: &[Row] = &[
         propose: request_known,
         fits: |_, answer, _| result(answer) == 2,
     },
+    Row { title: "request, marks all", prepare: &[Step::Request(251, EX, 0)], propose: request_known, fits: marks_all },
     Row {
         title: "convert, in place",
         prepare: &[Step::Request(251, PR, 0)],
@@ -182,6 +192,12 @@ pub const ROWS: &[Row] = &[
         title: "poll, a notice",
         prepare: &[Step::Request(251, EX, 0), Step::Request(252, PR, 0), Step::Purge(251)],
         propose: |_, _| Some(Call::Poll { client: 252 }),
+        fits: something,
+    },
+    Row {
+        title: "poll, a mark",
+        prepare: &[Step::Request(251, EX, 0), Step::Request(252, PR, 0)],
+        propose: |_, _| Some(Call::Poll { client: 251 }),
         fits: something,
     },
     Row { title: "poll, none", prepare: &[], propose: |_, _| Some(Call::Poll { client: 253 }), fits: always },

@@ -5,6 +5,7 @@ use crate::call::{Call, Changes, Entry, Image};
 use crate::damages::{self, DAMAGES};
 use crate::events::{Event, events};
 use crate::manager::{Tables, refusal};
+use crate::marks::Carried;
 use crate::play::Outcome;
 use crate::refusals::{self, Before, Given, fitting, image_of, sizes_in};
 use crate::sizes::{self, BUFFERS, LARGEST};
@@ -36,6 +37,7 @@ pub struct CallCounts {
     refusals: Tally<Given>,
     orders: Tally<Before>,
     events: Tally<Event>,
+    carried: Carried,
     strange: Vec<String>,
 }
 
@@ -51,6 +53,7 @@ impl CallCounts {
             orders: Tally::of(refusals::together(entries).filter(comes)),
             refusals: Tally::of(given),
             events: Tally::of(events),
+            carried: Carried::default(),
             strange: Vec::new(),
         }
     }
@@ -77,8 +80,25 @@ impl CallCounts {
         }
     }
 
+    /// Counts what was noteworthy about a call, as far as it is looked for.
+    pub fn add_events(&mut self, before: &State, call: &Call, answer: u64, after: &State) {
+        let refused = refusal_of(call.entry(), answer);
+        let told = if refused.is_none() { self.carried.play(before, call, answer, after) } else { None };
+        let found = events(before, call, answer, refused, after).into_iter().chain(told);
+        for event in found {
+            if self.events.has(&event) {
+                self.events.add(event);
+            }
+        }
+    }
+
     pub fn add_event(&mut self, event: Event) {
         self.events.add(event);
+    }
+
+    /// The tables have become others without a call.
+    pub fn forget(&mut self) {
+        self.carried = Carried::default();
     }
 
     pub fn missing(&self) -> Vec<String> {
@@ -248,7 +268,7 @@ impl Counts {
         }
         self.calls.add(call, tables, Some(before), outcome.answer);
         let refused = refusal_of(call.entry(), outcome.answer);
-        events(before, call, outcome.answer, refused, after).into_iter().for_each(|event| self.calls.add_event(event));
+        self.calls.add_events(before, call, outcome.answer, after);
         if let Some(image) = image_of(call) {
             self.add_image(tables, image, if call.entry() == Entry::Load { Where::Loaded } else { Where::Asked });
             let bytes = image.bytes(tables);
@@ -263,6 +283,7 @@ impl Counts {
         let mut damaged = tables.clone();
         crate::call::damage(&mut damaged, &changes.list);
         let read = State::read_tables(&damaged.words, &damaged.slots);
+        self.calls.forget();
         self.calls.add(call, &damaged, read.as_ref().ok(), answer);
         match &read {
             Err(flaw) => self.flaws.add(Found(TABLES, *flaw)),

@@ -27,9 +27,29 @@ pub fn denied(lock: &Lock) -> bool {
     lock.standing == Standing::Denied
 }
 
-/// Whether a granted lock has a completion; none for others.
-pub fn unread(lock: &Lock) -> Option<bool> {
-    granted(lock).then(|| lock.completion() != 0)
+/// A granted lock with a completion.
+pub fn unread(lock: &Lock) -> bool {
+    granted(lock) && lock.completion() != 0
+}
+
+/// A granted lock with a mark and no completion.
+pub fn marked(lock: &Lock) -> bool {
+    granted(lock) && lock.completion() == 0 && lock.mark.is_some()
+}
+
+/// A granted lock that has nothing to tell.
+pub fn quiet(lock: &Lock) -> bool {
+    granted(lock) && !lock.noticed()
+}
+
+/// A converting lock with a mark.
+pub fn marked_converting(lock: &Lock) -> bool {
+    converting(lock) && lock.mark.is_some()
+}
+
+/// A converting lock with no mark.
+pub fn quiet_converting(lock: &Lock) -> bool {
+    converting(lock) && lock.mark.is_none()
 }
 
 pub fn word(at: usize, word: u32) -> Option<Vec<Change>> {
@@ -347,23 +367,48 @@ impl<'a> Damager<'a> {
         if self.state.locks[&lock].resource() == Some(other) { None } else { word(self.lock_at(lock, lock::RESOURCE), other) }
     }
 
-    /// A lock gets a completion and joins the notice chain.
-    pub fn give_completion(&mut self, fits: fn(&Lock) -> bool) -> Option<Vec<Change>> {
+    /// A lock that has nothing to tell gets a completion or a mark, and joins the notice chain.
+    fn give(&mut self, fits: fn(&Lock) -> bool, field: usize, number: u32) -> Option<Vec<Change>> {
         let lock = self.lock_where(fits)?;
         let end = self.state.notices.back().map_or(header::NOTICE, |last| self.lock_at(*last, lock::NOTICE));
-        let completion = *self.rng.pick(&[1, 3]);
-        Some(vec![self.lock_change(lock, lock::COMPLETION, completion), Change::Word(end, lock)])
+        Some(vec![self.lock_change(lock, field, number), Change::Word(end, lock)])
+    }
+
+    pub fn give_completion(&mut self, fits: fn(&Lock) -> bool) -> Option<Vec<Change>> {
+        let completion = self.a_completion();
+        self.give(fits, lock::COMPLETION, completion)
+    }
+
+    pub fn give_mark(&mut self, fits: fn(&Lock) -> bool, value: fn(&mut Damager<'a>) -> u32) -> Option<Vec<Change>> {
+        let mark = value(self);
+        self.give(fits, lock::MARK, mark)
+    }
+
+    /// One that a granted lock can have.
+    pub fn a_completion(&mut self) -> u32 {
+        *self.rng.pick(&[1, 3])
+    }
+
+    pub fn a_mark(&mut self) -> u32 {
+        self.up_to(Mode::Ex.number())
     }
 
     pub fn other_completion(&mut self) -> Option<Vec<Change>> {
-        let lock = self.lock_where(|lock| unread(lock) == Some(true))?;
+        let lock = self.lock_where(unread)?;
         word(self.lock_at(lock, lock::COMPLETION), 4 - self.state.locks[&lock].completion())
     }
 
+    pub fn other_mark(&mut self) -> Option<Vec<Change>> {
+        let lock = self.lock_where(|lock| lock.mark.is_some())?;
+        let mark = self.a_mark();
+        if self.state.locks[&lock].mark_number() == mark { None } else { word(self.lock_at(lock, lock::MARK), mark) }
+    }
+
     /// A lock leaves a chain on which it belongs.
-    pub fn take_off(&mut self, kind: Kind) -> Option<Vec<Change>> {
+    pub fn take_off(&mut self, kind: Kind, fits: fn(&Lock) -> bool) -> Option<Vec<Change>> {
         let chain = self.chain(kind, 1)?;
-        let place = self.rng.below(chain.numbers.len());
+        let places: Vec<usize> = (0..chain.numbers.len()).filter(|at| fits(&self.state.locks[&chain.numbers[*at]])).collect();
+        let place = self.pick(&places)?;
         let link = self.cell_at(&chain, place + 1);
         Some(vec![Change::Word(self.cell_at(&chain, place), self.tables.words[link]), Change::Word(link, 0)])
     }

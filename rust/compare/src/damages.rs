@@ -4,7 +4,7 @@
 use crate::call::Change;
 use crate::damage::*;
 use model::layout::{MOST_CLIENT, MOST_LOCKS, MOST_RESOURCES, NAME_BYTES, SLOT_BYTES, header, lock, resource};
-use model::{Flaw, Lock, Mode};
+use model::{Flaw, Mode};
 
 /// A named damage: the flaw that the model has to find after it, or none if the tables stay sound.
 pub struct Damage {
@@ -135,6 +135,7 @@ pub const DAMAGES: &[Damage] = &[
     unsound("a free lock with a held mode", Flaw::FreeLock, |d| d.free_lock_word(lock::HELD, |d| d.up_to(5))),
     unsound("a free lock with an asked mode", Flaw::FreeLock, |d| d.free_lock_word(lock::ASKED, |d| d.up_to(5))),
     unsound("a free lock with a completion", Flaw::FreeLock, |d| d.free_lock_word(lock::COMPLETION, |d| d.up_to(3))),
+    unsound("a free lock with a mark", Flaw::FreeLock, |d| d.free_lock_word(lock::MARK, Damager::a_mark)),
     unsound("a denied lock with a resource", Flaw::OtherResource, |d| {
         d.lock_word(denied, lock::RESOURCE, |d| d.up_to(d.state.most_resources))
     }),
@@ -143,12 +144,24 @@ pub const DAMAGES: &[Damage] = &[
     unsound("a denied lock with completion 0", Flaw::Completion, |d| d.lock_word(denied, lock::COMPLETION, |_| 0)),
     unsound("a denied lock with completion 1", Flaw::Completion, |d| d.lock_word(denied, lock::COMPLETION, |_| 1)),
     unsound("a denied lock with completion 3", Flaw::Completion, |d| d.lock_word(denied, lock::COMPLETION, |_| 3)),
+    unsound("a denied lock with a mark", Flaw::Mark, |d| d.lock_word(denied, lock::MARK, Damager::a_mark)),
+    unsound("a denied lock with mark 6", Flaw::Mark, |d| d.lock_word(denied, lock::MARK, |_| 6)),
     // Locks in use.
     unsound("a granted lock with an asked mode", Flaw::Asked, |d| d.lock_word(granted, lock::ASKED, |d| d.up_to(5))),
     unsound("a granted lock with completion 2", Flaw::Completion, |d| d.lock_word(granted, lock::COMPLETION, |_| 2)),
     unsound("a granted lock with completion 4", Flaw::Completion, |d| d.lock_word(granted, lock::COMPLETION, |_| 4)),
-    unsound("a converting lock with a completion", Flaw::Completion, |d| d.give_completion(converting)),
+    unsound("a converting lock with a completion", Flaw::Completion, |d| d.give_completion(quiet_converting)),
+    unsound("a converting lock with a mark and a completion", Flaw::Completion, |d| {
+        d.lock_word(marked_converting, lock::COMPLETION, Damager::a_completion)
+    }),
     unsound("a waiting lock with a completion", Flaw::Completion, |d| d.give_completion(waiting)),
+    unsound("a waiting lock with a mark and its notice", Flaw::Mark, |d| d.give_mark(waiting, Damager::a_mark)),
+    unsound("a waiting lock with a mark and no notice", Flaw::Mark, |d| d.lock_word(waiting, lock::MARK, Damager::a_mark)),
+    unsound("a granted lock with mark 6", Flaw::Mark, |d| d.give_mark(quiet, |_| 6)),
+    unsound("a granted lock with mark 2 ^ 32 - 1", Flaw::Mark, |d| d.lock_word(marked, lock::MARK, |_| MOST)),
+    unsound("a granted lock with a completion and mark 6", Flaw::Mark, |d| d.lock_word(unread, lock::MARK, |_| 6)),
+    unsound("a converting lock with mark 6", Flaw::Mark, |d| d.give_mark(quiet_converting, |_| 6)),
+    unsound("a converting lock with mark 2 ^ 32 - 1", Flaw::Mark, |d| d.lock_word(marked_converting, lock::MARK, |_| MOST)),
     unsound("a waiting lock with a held mode", Flaw::Held, |d| d.lock_word(waiting, lock::HELD, |d| d.up_to(5))),
     unsound("a granted lock of client 0", Flaw::Client, |d| d.lock_word(granted, lock::CLIENT, |_| 0)),
     unsound("a granted lock of client 256", Flaw::Client, |d| d.lock_word(granted, lock::CLIENT, |_| MOST_CLIENT + 1)),
@@ -168,25 +181,38 @@ pub const DAMAGES: &[Damage] = &[
     unsound("a waiting lock with asked mode 6", Flaw::Mode, |d| d.lock_word(waiting, lock::ASKED, |_| 6)),
     unsound("a denied lock with asked mode 6", Flaw::Mode, |d| d.lock_word(denied, lock::ASKED, |_| 6)),
     // The blocked and the notice chain.
-    unsound("a blocked lock off the blocked chain", Flaw::Blocked, |d| d.take_off(Kind::Blocked)),
+    unsound("a blocked lock off the blocked chain", Flaw::Blocked, |d| d.take_off(Kind::Blocked, |_| true)),
     unsound("a granted lock on the blocked chain", Flaw::Blocked, |d| d.put_on(Kind::Blocked, granted)),
     unsound("a denied lock on the blocked chain", Flaw::Blocked, |d| d.put_on(Kind::Blocked, denied)),
-    unsound("a completion off the notice chain", Flaw::Notices, |d| d.take_off(Kind::Notices)),
-    unsound("a completion that came and no notice", Flaw::Notices, |d| {
-        d.lock_word(|lock| unread(lock) == Some(false), lock::COMPLETION, |_| 1)
+    unsound("a completion off the notice chain", Flaw::Notices, |d| d.take_off(Kind::Notices, |lock| lock.completion() != 0)),
+    unsound("a granted lock's mark off the notice chain", Flaw::Notices, |d| d.take_off(Kind::Notices, marked)),
+    unsound("a converting lock's mark off the notice chain", Flaw::Notices, |d| d.take_off(Kind::Notices, marked_converting)),
+    unsound("a completion that came and no notice", Flaw::Notices, |d| d.lock_word(quiet, lock::COMPLETION, |_| 1)),
+    unsound("a granted lock's mark that came and no notice", Flaw::Notices, |d| d.lock_word(quiet, lock::MARK, Damager::a_mark)),
+    unsound("a converting lock's mark that came and no notice", Flaw::Notices, |d| {
+        d.lock_word(quiet_converting, lock::MARK, Damager::a_mark)
     }),
-    unsound("a granted lock with no completion on the notice chain", Flaw::Notices, |d| {
-        d.put_on(Kind::Notices, |lock| unread(lock) == Some(false))
+    unsound("a completion that went and its notice stayed", Flaw::Notices, |d| {
+        d.lock_word(|lock| unread(lock) && lock.mark.is_none(), lock::COMPLETION, |_| 0)
     }),
-    unsound("a blocked lock on the notice chain", Flaw::Notices, |d| d.put_on(Kind::Notices, Lock::blocked)),
+    unsound("a granted lock's mark that went and its notice stayed", Flaw::Notices, |d| d.lock_word(marked, lock::MARK, |_| 0)),
+    unsound("a converting lock's mark that went and its notice stayed", Flaw::Notices, |d| {
+        d.lock_word(marked_converting, lock::MARK, |_| 0)
+    }),
+    unsound("a granted lock with no completion and no mark on the notice chain", Flaw::Notices, |d| d.put_on(Kind::Notices, quiet)),
+    unsound("a converting lock with no mark on the notice chain", Flaw::Notices, |d| d.put_on(Kind::Notices, quiet_converting)),
+    unsound("a waiting lock on the notice chain", Flaw::Notices, |d| d.put_on(Kind::Notices, waiting)),
     unsound("a free lock on the blocked chain", Flaw::Blocked, |d| d.free_lock_on(Kind::Blocked)),
     unsound("a free lock on the notice chain", Flaw::Notices, |d| d.free_lock_on(Kind::Notices)),
     unsound("a granted lock with a blocked link", Flaw::BlockedLink, |d| d.lock_word(granted, lock::BLOCKED, Damager::a_lock)),
     unsound("a denied lock with a blocked link", Flaw::BlockedLink, |d| d.lock_word(denied, lock::BLOCKED, Damager::a_lock)),
-    unsound("a granted lock with no completion and a notice link", Flaw::NoticeLink, |d| {
-        d.lock_word(|lock| unread(lock) == Some(false), lock::NOTICE, Damager::a_lock)
+    unsound("a granted lock with no completion, no mark and a notice link", Flaw::NoticeLink, |d| {
+        d.lock_word(quiet, lock::NOTICE, Damager::a_lock)
     }),
-    unsound("a blocked lock with a notice link", Flaw::NoticeLink, |d| d.lock_word(Lock::blocked, lock::NOTICE, Damager::a_lock)),
+    unsound("a converting lock with no mark and a notice link", Flaw::NoticeLink, |d| {
+        d.lock_word(quiet_converting, lock::NOTICE, Damager::a_lock)
+    }),
+    unsound("a waiting lock with a notice link", Flaw::NoticeLink, |d| d.lock_word(waiting, lock::NOTICE, Damager::a_lock)),
     // Held modes.
     unsound("held modes CR and EX", Flaw::Clash, |d| d.clash(Mode::Cr, Mode::Ex, |_| true)),
     unsound("held modes CW and PR", Flaw::Clash, |d| d.clash(Mode::Cw, Mode::Pr, |_| true)),
@@ -217,8 +243,13 @@ pub const DAMAGES: &[Damage] = &[
     sound("granted locks in another order", |d| d.swap_neighbours(Kind::Grant)),
     sound("converting locks behind the head in another order", |d| d.swap_neighbours(Kind::Convert)),
     sound("waiting locks in another order", |d| d.swap_neighbours(Kind::Wait)),
-    sound("a granted lock with a completion and its notice", |d| d.give_completion(|lock| unread(lock) == Some(false))),
+    sound("a granted lock with a completion and its notice", |d| d.give_completion(quiet)),
+    sound("a granted lock with a mark and its notice", |d| d.give_mark(quiet, Damager::a_mark)),
+    sound("a converting lock with a mark and its notice", |d| d.give_mark(quiet_converting, Damager::a_mark)),
+    sound("a completion beside a mark", |d| d.lock_word(marked, lock::COMPLETION, Damager::a_completion)),
+    sound("a mark beside a completion", |d| d.lock_word(unread, lock::MARK, Damager::a_mark)),
     sound("another completion of a granted lock", |d| d.other_completion()),
+    sound("another mark", |d| d.other_mark()),
     sound("a conversion behind the head that asks for less", |d| d.ask_for_less()),
     sound("a conversion behind the head that asks for what it holds", |d| d.ask_for_same()),
     sound("another held mode", |d| d.other_held()),

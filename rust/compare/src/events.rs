@@ -2,6 +2,7 @@
 
 use crate::call::{Call, Image};
 use crate::manager::{lock, result};
+use crate::marks::note_marks;
 use crate::sizes::{LARGEST, MIDDLE, SMALL, SMALLEST, Sizes};
 use model::layout::{MOST_CLIENT, NAME_BYTES, VALUE_BYTES};
 use model::{Lock, Mode, Resource, Standing, State, Unread};
@@ -53,6 +54,22 @@ events! {
     LongestName = "request: name of 64 bytes",
     NameEndsInZero = "request: name that ends in a zero byte",
     DeepWaitQueue = "request: eighth or later in a wait queue",
+    RequestSetsMark = "request: sets a mark",
+    RequestRaisesMark = "request: raises a mark",
+    RequestRaisesInPlace = "request: raises a mark whose notice stands before others",
+    RequestLeavesEqual = "request: leaves an equal mark",
+    RequestLeavesLarger = "request: leaves a larger mark",
+    RequestSetsConverting = "request: sets a mark on a converting lock",
+    RequestRaisesConverting = "request: raises the mark of a converting lock",
+    RequestLeavesConverting = "request: leaves the mark of a converting lock",
+    RequestMarksUnread = "request: marks a lock with a completion unread",
+    RequestMarksOwn = "request: marks another lock of its client",
+    RequestMarksPrCw = "request: CW marks PR, or PR marks CW",
+    RequestMarksSeveral = "request: marks two locks or more",
+    RequestMarksBoth = "request: marked locks of both chains join the notices",
+    RequestMarksBehind = "request: marked locks join behind other notices",
+    RequestMarksSome = "request: marks some holders and spares others",
+    RequestMarksNobody = "request: waits and marks nobody",
     ConvertSame = "convert: to the same mode",
     ConvertDownPastQueue = "convert: down in place past a convert queue",
     ConvertDownSweeps = "convert: down, the sweep grants",
@@ -73,6 +90,27 @@ events! {
     ConvertFlagLowMode = "convert: flag 1 or 2 ignored from below PW",
     ConvertFlagNotSmaller = "convert: flag 1 or 2 ignored from PW or EX, not to a smaller mode",
     ConvertFlagQueued = "convert: flag 1 or 2 ignored where it is queued",
+    ConvertSetsMark = "convert: sets a mark",
+    ConvertRaisesMark = "convert: raises a mark",
+    ConvertRaisesInPlace = "convert: raises a mark whose notice stands before others",
+    ConvertLeavesEqual = "convert: leaves an equal mark",
+    ConvertLeavesLarger = "convert: leaves a larger mark",
+    ConvertSetsConverting = "convert: sets a mark on a converting lock",
+    ConvertRaisesConverting = "convert: raises the mark of a converting lock",
+    ConvertLeavesConverting = "convert: leaves the mark of a converting lock",
+    ConvertMarksUnread = "convert: marks a lock with a completion unread",
+    ConvertMarksOwn = "convert: marks another lock of its client",
+    ConvertMarksPrCw = "convert: CW marks PR, or PR marks CW",
+    ConvertMarksSeveral = "convert: marks two locks or more",
+    ConvertMarksBoth = "convert: marked locks of both chains join the notices",
+    ConvertMarksBehind = "convert: marked locks join behind other notices",
+    ConvertMarksSome = "convert: marks some holders and spares others",
+    ConvertMarksNobody = "convert: waits and marks nobody",
+    ConvertMarkedDown = "convert: a marked lock, down",
+    ConvertMarkedUp = "convert: a marked lock, not down, in place",
+    ConvertMarkedQueued = "convert: a marked lock is queued",
+    SweepGrantsMarked = "convert, release, cancel, purge, break: the sweep grants a marked conversion",
+    SweepGrantsMarkedInPlace = "convert, release, cancel, purge, break: the sweep grants a marked conversion whose notice stands before others",
     ReleaseFreesResource = "release: frees the resource",
     ReleaseFirst = "release: first of several granted",
     ReleaseMiddle = "release: between others granted",
@@ -87,6 +125,8 @@ events! {
     ReleaseInvalidates = "release: flag 2 makes the value not valid",
     ReleaseInvalidatesEmptied = "release: flag 2 where the resource is freed",
     ReleaseFlagLowMode = "release: flag 1 or 2 ignored from below PW",
+    ReleaseMarked = "release: a marked lock",
+    ReleaseMarkedBetween = "release: a marked lock whose notice stands between others",
     ValueWhereIgnored = "convert, release: 7 where flag 1 would be ignored",
     CancelConvertHead = "cancel: the convert head",
     CancelConvertBehind = "cancel: a conversion behind others",
@@ -94,6 +134,8 @@ events! {
     CancelWaitHead = "cancel: the wait head",
     CancelWaitBehind = "cancel: a request behind others",
     CancelWaitSweeps = "cancel: a request, the sweep grants",
+    CancelMarked = "cancel: a marked conversion",
+    CancelMarkStays = "cancel: a mark stays where nobody waits any more",
     PurgeMany = "purge: five or more locks",
     PurgeDenied = "purge: a denied lock",
     PurgeUnread = "purge: a granted lock with a completion unread",
@@ -103,6 +145,10 @@ events! {
     PurgeFreesResources = "purge: frees two or more resources",
     PurgeSweeps = "purge: a sweep grants",
     PurgeSweepsTwo = "purge: sweeps grant on two or more resources",
+    PurgeMarked = "purge: a marked granted lock",
+    PurgeMarkedConverting = "purge: a marked converting lock",
+    PurgeMarkedUnread = "purge: a marked lock with a completion unread",
+    PurgeMarkStays = "purge: a mark stays where nobody waits any more",
     BreakNoneBlocked = "break: no lock is blocked",
     BreakNoDeadlock = "break: locks are blocked, no deadlock",
     BreakRequest = "break: denies a request",
@@ -117,19 +163,30 @@ events! {
     BreakBehindCycle = "break: an earlier blocked lock leads to the cycle and isn't on it",
     BreakSweeps = "break: the sweep grants",
     BreakAgain = "break: a deadlock remains",
+    BreakMarked = "break: denies a marked conversion",
+    BreakMarkedInPlace = "break: denies a marked conversion whose notice stands before others",
     PollOthers = "poll: only others have notices",
     PollNotFirst = "poll: a notice behind others'",
     PollFirstOfTwo = "poll: the first of a client's notices",
     PollFreesBetween = "poll: a denied lock between other denied ones",
+    PollMarkGranted = "poll: a mark alone, of a granted lock",
+    PollMarkConverting = "poll: a mark alone, of a converting lock",
+    PollMarkOutlasting = "poll: a mark alone where nobody waits any more",
+    PollMarkWithGrant = "poll: a mark with completion 1",
+    PollMarkWithDenial = "poll: a mark with completion 3",
+    PollMarkedThenGranted = "poll: a conversion that was marked and then granted",
+    PollMarkedThenDenied = "poll: a conversion that was marked and then denied",
     ReadNotValid = "read: not valid",
     ReadStored = "read: a stored value",
     ReadConverting = "read: by a converting lock",
     ReadUnread = "read: by a lock with a completion unread",
     ReadLittleRoom = "read: less than 32 bytes of room",
+    ReadMarked = "read: by a marked lock",
     ListCutShort = "list: more locks than fit",
     ListNoRoom = "list: no room",
     ListRoomLeft = "list: room left over",
     ListAllQueues = "list: locks in all three queues",
+    ListMarked = "list: a marked lock",
     LoadOtherSizes = "load: accepted with other sizes",
     HolderConverting = "holder: a converting lock holds EX",
     HolderNobody = "holder: known name, nobody holds EX",
@@ -143,6 +200,8 @@ events! {
     SoundLargestFull = "sound: R 256, L 1024 with all resources and all locks in use",
     SoundEveryState = "sound: locks of every state, resources free and in use",
     SoundEveryCompletion = "sound: notices with completions 1, 2 and 3",
+    SoundEveryMark = "sound: every mark, of granted and of converting locks",
+    SoundMarkUnread = "sound: a mark beside completion 1, and one beside 3",
     SoundLongestName = "sound: a name of 64 bytes",
     SoundZeroName = "sound: a name, and the same with a zero byte behind it",
     SoundNamesByCase = "sound: two names that differ in the case of letters alone",
@@ -182,6 +241,9 @@ pub fn events(before: &State, call: &Call, answer: u64, refused: Option<u32>, af
         (Call::Holder { image: Image::OfTables { changes, .. }, name }, None) if changes.list.is_empty() => notes.holder(name, &mut found),
         (Call::Sound, None) => sound(before, &mut found),
         _ => {}
+    }
+    if refused.is_none() {
+        note_marks(before, call, answer, after, &mut found);
     }
     if sizes_of(before) == LARGEST {
         found.push(Event::LargestTables);
@@ -258,7 +320,7 @@ struct Notes<'a> {
 }
 
 /// Adds an event if something is so.
-fn note(found: &mut Vec<Event>, so: bool, event: Event) {
+pub fn note(found: &mut Vec<Event>, so: bool, event: Event) {
     if so {
         found.push(event);
     }

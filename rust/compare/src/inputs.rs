@@ -111,8 +111,8 @@ pub fn chosen() -> Vec<Input> {
     plain.into_iter().map(|(what, bytes)| Input::new(what, bytes)).chain(edges()).chain(last_lines()).collect()
 }
 
-/// Three clients are denied requests that stand in their own way, and the second is polled first.
-const DENIED: &[u8] = b"q 1 5 0 a\nq 2 5 0 b\nq 3 5 0 c\nq 1 5 0 a\nq 2 5 0 b\nq 3 5 0 c\nd\nd\nd\nd\nn 2\nn 1\nn 3\nn 3\n";
+/// Three clients are denied requests that stand in their own way, and the second is polled first: a mark, then the denial.
+const DENIED: &[u8] = b"q 1 5 0 a\nq 2 5 0 b\nq 3 5 0 c\nq 1 5 0 a\nq 2 5 0 b\nq 3 5 0 c\nd\nd\nd\nd\nn 2\nn 2\nn 1\nn 1\nn 3\nn 3\nn 3\n";
 
 /// A random script: calls that go by what the tables hold, and lines with something wrong, more often in some scripts than in others.
 pub fn random(seed: u64) -> Input {

@@ -2,7 +2,7 @@
 
 use crate::call::{Call, Entry};
 use crate::counts::CallCounts;
-use crate::events::{Event, events};
+use crate::events::Event;
 use crate::manager::{Tables, accepted, refused};
 use crate::refusals::Given;
 use crate::tally::Tally;
@@ -278,14 +278,17 @@ impl LineCounts {
     }
 
     fn add_call(&mut self, call: &Call, before: &model::State, reply: &Reply, run: &Run) {
-        let (answer, refused) = match reply {
-            Reply::Answer(numbers) => (accepted(numbers[0], numbers.get(1).copied().unwrap_or(0)), None),
-            Reply::Refused(refusal) => (refused(refusal.0), Some(refusal.0)),
+        let answer = match reply {
+            Reply::Answer(numbers) => {
+                let number = |at: usize| numbers.get(at).copied().unwrap_or(0);
+                accepted(number(0), number(1), number(2))
+            }
+            Reply::Refused(refusal) => refused(refusal.0),
             Reply::AnotherForm => return,
         };
         let (words, slots) = (Vec::new(), Vec::new());
         self.calls.add(call, &Tables { words, slots }, Some(before), answer);
-        events(before, call, answer, refused, &run.state).into_iter().filter(met).for_each(|event| self.calls.add_event(event));
+        self.calls.add_events(before, call, answer, &run.state);
     }
 
     pub fn lines(&self) -> u64 {

@@ -238,7 +238,8 @@ mod tests {
         assert!(found(|input| [input, b"\n"].concat(), same), "a further line");
         assert!(found(<[u8]>::to_vec, |printed| printed.replace(" ! 13", " ! 12")), "another refusal");
         assert!(found(<[u8]>::to_vec, |printed| printed.trim_end().to_string()), "no byte 10 at the end");
-        assert!(found(<[u8]>::to_vec, |printed| printed.replace("n 0 0", "n 0")), "a field less");
+        assert!(found(<[u8]>::to_vec, |printed| printed.replace("n 0 0 0", "n 0 0")), "a field less");
+        assert!(found(<[u8]>::to_vec, |printed| printed.replace("n 0 1 5", "n 0 1 0")), "another mark");
     }
 
     #[test]

@@ -13,6 +13,7 @@ mod inputs;
 mod lines;
 mod lockplay;
 mod manager;
+mod marks;
 mod play;
 mod program;
 mod refusals;
@@ -205,7 +206,7 @@ impl Failed {
 /// Makes every call in the first states of small tables of several sizes.
 fn play_every(other: &dyn Manager, states: usize) -> ExitCode {
     for sizes in [(1, 1), (1, 2), (1, 3), (2, 3), (1, 4)] {
-        match every::explore(&Model, other, sizes, states) {
+        match every::explore(&Model, other, sizes, &every::MODES, states) {
             Ok(explored) => println!(
                 "R {}, L {}: {} calls ({} accepted) in {} of {} states met, no difference",
                 sizes.0, sizes.1, explored.calls, explored.accepted, explored.states, explored.met
@@ -278,9 +279,9 @@ fn read_back(board: &Board) -> Option<State> {
 mod tests {
     use super::*;
     use crate::call::Change;
-    use crate::manager::{Listed, Tables};
+    use crate::manager::{Listed, Tables, accepted, lock, mark, result};
     use crate::sizes::BUFFERS;
-    use model::layout::{MOST_CLIENT, NAME_BYTES, header};
+    use model::layout::{self, MOST_CLIENT, NAME_BYTES, header, lock_at};
 
     /// Plays games of a seed until there were enough calls, or the first that fails.
     fn play(other: &dyn Manager, seed: u64, enough: u64) -> Result<Counts, Failed> {
@@ -310,6 +311,10 @@ mod tests {
         SlotByte,
         /// Unsound tables with a nonzero word 7 are taken for sound.
         Soundness,
+        /// A poll doesn't tell the mark.
+        UntoldMark,
+        /// A poll tells a mark and leaves it in its lock.
+        KeptMark,
     }
 
     /// Flat with one mistake.
@@ -352,7 +357,16 @@ mod tests {
         }
 
         fn poll(&self, t: &mut Tables, client: u32) -> u64 {
-            Flat.poll(t, client)
+            let answer = Flat.poll(t, client);
+            match self.0 {
+                Mistake::UntoldMark if refusal(answer).is_none() => accepted(result(answer), lock(answer), 0),
+                Mistake::KeptMark if refusal(answer).is_none() && mark(answer) != 0 => {
+                    let resources = t.words[header::RESOURCES];
+                    t.words[lock_at(resources, lock(answer), layout::lock::MARK)] = mark(answer);
+                    answer
+                }
+                _ => answer,
+            }
         }
 
         fn read(&self, t: &Tables, client: u32, lock: u32, value: &mut [u8]) -> u64 {
@@ -411,6 +425,16 @@ mod tests {
     }
 
     #[test]
+    fn mistakes_with_marks_are_found() {
+        let (failed, short) = found(Mistake::UntoldMark);
+        assert!(matches!(failed.difference, Difference::Answer(..)));
+        assert_eq!(short.last().map(Call::entry), Some(Entry::Poll));
+        let (failed, short) = found(Mistake::KeptMark);
+        assert!(matches!(failed.difference, Difference::Words { first: 0, .. }));
+        assert_eq!(short.last().map(Call::entry), Some(Entry::Poll));
+    }
+
+    #[test]
     fn a_difference_in_soundness_is_found() {
         let (_, short) = found(Mistake::Soundness);
         assert!(short.len() <= 2, "{} calls are left", short.len());
@@ -447,6 +471,7 @@ mod tests {
         let too_large = format!("load of an image of {} words, accepted", sizes::words(sizes::over(BUFFERS[1])));
         for expected in [
             "poll answering 3",
+            "poll: a conversion that was marked and then denied",
             "request refused with 13: behind a conversion",
             "convert refused with 7 where 8 fits as well",
             "the damage \"a convert head kept waiting by its own mode alone\" of tables",

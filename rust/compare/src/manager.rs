@@ -23,7 +23,7 @@ impl Tables {
 }
 
 /// A lock manager. Answers are those of zamgyorud.h: a refusal has the highest bit set and its number below; otherwise the result is in bits 0
-/// to 15 and the lock in bits 16 to 31. A call may change only what its `&mut` arguments lend.
+/// to 15, the lock in bits 16 to 31 and the mark in bits 32 to 47. A call may change only what its `&mut` arguments lend.
 pub trait Manager {
     fn start(&self, tables: &mut Tables, resources: u32, locks: u32) -> u64;
     fn request(&self, tables: &mut Tables, client: u32, mode: u32, flags: u32, name: &[u8]) -> u64;
@@ -60,8 +60,8 @@ pub fn refused(number: u32) -> u64 {
 }
 
 /// An accepted call's answer.
-pub fn accepted(result: u32, lock: u32) -> u64 {
-    u64::from(lock) << 16 | u64::from(result)
+pub fn accepted(result: u32, lock: u32, mark: u32) -> u64 {
+    u64::from(mark) << 32 | u64::from(lock) << 16 | u64::from(result)
 }
 
 /// The result in an accepted call's answer.
@@ -74,6 +74,11 @@ pub fn lock(answer: u64) -> u32 {
     result(answer >> 16)
 }
 
+/// The mark in an accepted call's answer.
+pub fn mark(answer: u64) -> u32 {
+    result(answer >> 32)
+}
+
 /// An answer of a result alone.
 fn one(answer: Result<u32, Refused>) -> u64 {
     two(answer.map(|result| (result, 0)))
@@ -81,7 +86,12 @@ fn one(answer: Result<u32, Refused>) -> u64 {
 
 /// An answer of a result and a lock.
 fn two(answer: Result<(u32, u32), Refused>) -> u64 {
-    answer.map_or_else(refused, |(result, lock)| accepted(result, lock))
+    three(answer.map(|(result, lock)| (result, lock, 0)))
+}
+
+/// An answer of a result, a lock and a mark.
+fn three(answer: Result<(u32, u32, u32), Refused>) -> u64 {
+    answer.map_or_else(refused, |(result, lock, mark)| accepted(result, lock, mark))
 }
 
 /// Break's answer: the denied lock is its result and its lock.
@@ -147,7 +157,7 @@ impl Manager for Model {
 
     fn poll(&self, t: &mut Tables, client: u32) -> u64 {
         let answer = model::entries::poll(&mut t.words, &mut t.slots, client);
-        two(answer.map(|polled| (polled.completion, polled.lock)).map_err(|refused| refused.0))
+        three(answer.map(|polled| (polled.completion, polled.lock, polled.mark)).map_err(|refused| refused.0))
     }
 
     fn read(&self, t: &Tables, client: u32, lock: u32, value: &mut [u8]) -> u64 {
@@ -213,7 +223,7 @@ impl Manager for Flat {
     }
 
     fn poll(&self, t: &mut Tables, client: u32) -> u64 {
-        two(flat::poll(&mut t.words, &t.slots, client))
+        three(flat::poll(&mut t.words, &t.slots, client))
     }
 
     fn read(&self, t: &Tables, client: u32, lock: u32, value: &mut [u8]) -> u64 {

@@ -1,7 +1,7 @@
 //! Two managers side by side: each call is made on both, and all that they give back or hold is compared.
 
 use crate::call::{Call, damage};
-use crate::manager::{Listed, Manager, Tables, lock, refusal, refused, result};
+use crate::manager::{Listed, Manager, Tables, lock, mark, refusal, refused, result};
 use std::fmt;
 
 /// What a call gave back, besides what it did to the tables.
@@ -51,7 +51,7 @@ fn shown(answer: u64) -> String {
     match refusal(answer) {
         Some(number) if answer == refused(number) => format!("refusal {number}"),
         Some(_) => format!("{answer:#018x}, a refusal with something beside its number"),
-        None => format!("{answer:#x} ({}, {})", result(answer), lock(answer)),
+        None => format!("{answer:#x} ({}, {}, {})", result(answer), lock(answer), mark(answer)),
     }
 }
 

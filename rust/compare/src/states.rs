@@ -97,7 +97,20 @@ pub fn varied() -> State {
     for (at, standing) in standings.into_iter().enumerate() {
         put(&mut state, 1 + at as u8 % 4, standing);
     }
+    // Of each kind of lock that may have a mark, some have one and others none.
+    for (number, mark) in [(2, Ex), (6, Pw), (7, Ex), (12, Cr), (17, Ex), (18, Ex), (20, Ex)] {
+        set_mark(&mut state, number, mark);
+    }
     state
+}
+
+/// A lock that holds a mode gets a mark, and joins the notices unless it has a completion.
+fn set_mark(state: &mut State, number: u32, mark: Mode) {
+    let lock = state.locks.get_mut(&number).expect("a lock in use");
+    if !lock.noticed() {
+        state.notices.push_back(number);
+    }
+    lock.mark = Some(mark);
 }
 
 /// The first free lock stands so, at the ends of its chains.
@@ -114,7 +127,7 @@ fn put(state: &mut State, client: u8, standing: Standing) {
     if lock.blocked() {
         state.blocked.push_back(number);
     }
-    if lock.completion() != 0 {
+    if lock.noticed() {
         state.notices.push_back(number);
     }
     state.locks.insert(number, lock);
@@ -132,10 +145,21 @@ fn add_exclusive_conversion(rng: &mut Rng, state: &mut State, filling: &Filling)
         let number = state.free_locks.pop_front().expect("just seen");
         queues.converting.push_back(number);
         insert_somewhere(rng, &mut state.blocked, number);
-        let standing = Standing::Converting { resource, held, asked };
-        state.locks.insert(number, Lock::new(*rng.pick(filling.clients) as u8, standing));
+        insert_lock(rng, state, filling, number, Standing::Converting { resource, held, asked });
     }
     state.resources.insert(resource, queues);
+}
+
+/// A lock of some client stands so. It may have a mark, and is put among the notices if it has something to tell.
+fn insert_lock(rng: &mut Rng, state: &mut State, filling: &Filling, number: u32, standing: Standing) {
+    let mut lock = Lock::new(*rng.pick(filling.clients) as u8, standing);
+    if lock.held().is_some() && rng.percent(35) {
+        lock.mark = Some(Mode::ALL[rng.between(1, 5)]);
+    }
+    if lock.noticed() {
+        insert_somewhere(rng, &mut state.notices, number);
+    }
+    state.locks.insert(number, lock);
 }
 
 /// A resource of a name with no locks yet and any value.
@@ -185,20 +209,18 @@ fn fitting_mode(rng: &mut Rng, state: &State, resource: u32) -> Mode {
 
 fn add_lock(rng: &mut Rng, state: &mut State, filling: &Filling, resource: Option<u32>, stays: bool) {
     let number = state.free_locks.pop_front().expect("no more than there are");
-    let client = *rng.pick(filling.clients) as u8;
     let kind = rng.weighted(&STANDINGS);
     let standing = match resource {
         Some(resource) if kind != 3 || stays => stand(rng, state, number, resource, kind),
         _ => {
             insert_somewhere(rng, &mut state.denied, number);
-            insert_somewhere(rng, &mut state.notices, number);
             Standing::Denied
         }
     };
-    state.locks.insert(number, Lock::new(client, standing));
+    insert_lock(rng, state, filling, number, standing);
 }
 
-/// A lock that stands on a resource, put on its chains.
+/// How a lock stands on a resource, whose chain it is put on.
 fn stand(rng: &mut Rng, state: &mut State, number: u32, resource: u32, kind: usize) -> Standing {
     let held = fitting_mode(rng, state, resource);
     let asked = *rng.pick(&Mode::ALL);
@@ -217,9 +239,6 @@ fn stand(rng: &mut Rng, state: &mut State, number: u32, resource: u32, kind: usi
         _ => {
             insert_somewhere(rng, &mut queues.granted, number);
             let unread = [None, None, None, Some(Unread::Granted), Some(Unread::ConversionDenied)][rng.below(5)];
-            if unread.is_some() {
-                insert_somewhere(rng, &mut state.notices, number);
-            }
             Standing::Granted { resource, held, unread }
         }
     }

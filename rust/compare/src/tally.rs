@@ -13,6 +13,11 @@ impl<K: Ord + Display> Tally<K> {
         Tally { counts: expected.into_iter().map(|key| (key, 0)).collect() }
     }
 
+    /// Whether something is expected or has occurred.
+    pub fn has(&self, key: &K) -> bool {
+        self.counts.contains_key(key)
+    }
+
     pub fn add(&mut self, key: K) {
         *self.counts.entry(key).or_default() += 1;
     }

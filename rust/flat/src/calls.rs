@@ -3,7 +3,7 @@
 use crate::Refused;
 use crate::deadlock;
 use crate::layout::{
-    LockRecord, MOST_CLIENT, MOST_RESOURCES, NAME_BYTES, Records, Slot, VALUE_BYTES, Value, completion, head, lock, resource,
+    LockRecord, MOST_CLIENT, MOST_RESOURCES, NAME_BYTES, Records, Slot, VALUE_BYTES, Value, completion, head, lock, noticed, resource,
     sizes_allowed, slots_for, state, words_for,
 };
 use crate::modes::{EX, PW, admits, down};
@@ -135,6 +135,7 @@ pub fn request(words: &mut [u32], slots: &mut [u8], client: u32, mode: u32, flag
         *queues.lock(k) = record;
         queues.append_home(number, resource::WAIT, k);
         queues.append_blocked(k);
+        queues.mark_holders(number, k, mode);
         Ok((WAITS, k))
     }
 }
@@ -175,6 +176,7 @@ pub fn convert(words: &mut [u32], slots: &mut [u8], client: u32, k: u32, mode: u
         record[lock::ASKED] = mode;
         queues.append_home(number, resource::CONVERT, k);
         queues.append_blocked(k);
+        queues.mark_holders(number, k, mode);
         Ok(WAITS)
     }
 }
@@ -192,6 +194,9 @@ pub fn release(words: &mut [u32], slots: &mut [u8], client: u32, k: u32, flags: 
         act_on_value(&mut queues, slots, number, flags, value);
     }
     queues.remove_home(number, resource::GRANT, k);
+    if noticed(queues.lock(k)) {
+        queues.remove_notice(k);
+    }
     queues.free_lock(k);
     free_or_sweep(&mut queues, slots, number);
     Ok(())
@@ -258,6 +263,7 @@ pub fn break_deadlock(words: &mut [u32], slots: &[u8]) -> Result<u32, Refused> {
         return Ok(0);
     }
     let number = queues.lock(k)[lock::RESOURCE];
+    let joins = !noticed(queues.lock(k));
     if queues.lock(k)[lock::STATE] == state::CONVERTING {
         queues.unconvert(k);
         queues.lock(k)[lock::COMPLETION] = completion::CONVERSION_DENIED;
@@ -271,13 +277,15 @@ pub fn break_deadlock(words: &mut [u32], slots: &[u8]) -> Result<u32, Refused> {
         record[lock::COMPLETION] = completion::REQUEST_DENIED;
         queues.append_denied(k);
     }
-    queues.append_notice(k);
+    if joins {
+        queues.append_notice(k);
+    }
     queues.sweep(number);
     Ok(k)
 }
 
-/// Takes the client's first notice: its completion and lock, or zeros.
-pub fn poll(words: &mut [u32], slots: &[u8], client: u32) -> Result<(u32, u32), Refused> {
+/// Takes the client's first notice: its completion, lock and mark, or zeros.
+pub fn poll(words: &mut [u32], slots: &[u8], client: u32) -> Result<(u32, u32, u32), Refused> {
     let mut queues = Queues::open(words, slots)?;
     check_client(client)?;
     let mut k = queues.head[head::NOTICE];
@@ -285,15 +293,16 @@ pub fn poll(words: &mut [u32], slots: &[u8], client: u32) -> Result<(u32, u32), 
         k = queues.lock(k)[lock::NOTICE];
     }
     if k == 0 {
-        return Ok((completion::NONE, 0));
+        return Ok((completion::NONE, 0, 0));
     }
     queues.remove_notice(k);
-    let told = std::mem::take(&mut queues.lock(k)[lock::COMPLETION]);
+    let record = queues.lock(k);
+    let (told, mark) = (std::mem::take(&mut record[lock::COMPLETION]), std::mem::take(&mut record[lock::MARK]));
     if told == completion::REQUEST_DENIED {
         queues.remove_denied(k);
         queues.free_lock(k);
     }
-    Ok((told, k))
+    Ok((told, k, mark))
 }
 
 /// A client's granted or converting lock, for read and list.

@@ -54,7 +54,8 @@ pub mod lock {
     pub const HELD: usize = 6;
     pub const ASKED: usize = 7;
     pub const COMPLETION: usize = 8;
-    pub const WIDTH: usize = 9;
+    pub const MARK: usize = 9;
+    pub const WIDTH: usize = 10;
 }
 
 /// States of a lock.
@@ -85,6 +86,12 @@ pub type LockRecord = [u32; lock::WIDTH];
 pub type Value = [u8; VALUE_BYTES];
 /// A resource's name and value block.
 pub type Slot = [u8; NAME_BYTES + VALUE_BYTES];
+
+/// Whether a lock's record has a completion or a mark, and so stands on the notice chain.
+#[inline]
+pub fn noticed(record: &LockRecord) -> bool {
+    record[lock::COMPLETION] | record[lock::MARK] != 0
+}
 
 /// How many words there are for so many records.
 pub fn words_for(resources: usize, locks: usize) -> usize {

@@ -1,6 +1,6 @@
 //! The chains of sound tables, and what the calls do with them.
 
-use crate::layout::{Head, LockRecord, Records, ResourceRecord, completion, head, lock, resource, state};
+use crate::layout::{Head, LockRecord, Records, ResourceRecord, completion, head, lock, noticed, resource, state};
 use crate::modes::{Held, admits, only};
 use crate::{Refused, sound};
 
@@ -11,18 +11,25 @@ pub struct Queues<'a> {
     pub locks: &'a mut [LockRecord],
 }
 
-/// The ends of the two chains that a sweep adds to, so that they are looked for once.
+/// The ends of the two chains that a sweep adds to, once they were looked for.
+#[derive(Default)]
 struct Ends {
-    granted: u32,
-    notices: u32,
+    granted: Option<u32>,
+    notices: Option<u32>,
 }
 
-/// Puts a lock at the end of a chain. Its own link there is zero.
-fn append(first: &mut u32, locks: &mut [LockRecord], link: usize, number: u32) {
-    match last(*first, locks, link) {
+/// Puts a lock at the end of a chain. The end is looked for once, and known from then on. The lock's own link there is zero.
+fn join(end: &mut Option<u32>, first: &mut u32, locks: &mut [LockRecord], link: usize, number: u32) {
+    match end.unwrap_or_else(|| last(*first, locks, link)) {
         0 => *first = number,
         end => locks[end as usize - 1][link] = number,
     }
+    *end = Some(number);
+}
+
+/// Puts a lock at the end of a chain.
+fn append(first: &mut u32, locks: &mut [LockRecord], link: usize, number: u32) {
+    join(&mut None, first, locks, link, number);
 }
 
 /// The last lock of a chain, or 0.
@@ -55,17 +62,13 @@ fn remove(first: &mut u32, locks: &mut [LockRecord], link: usize, number: u32) {
 
 /// Takes all locks of a client out of a chain in one walk.
 fn remove_all(first: &mut u32, locks: &mut [LockRecord], link: usize, client: u32) {
-    let mut end = 0;
+    let mut end = None;
     let mut at = std::mem::take(first);
     while at != 0 {
         let record = &mut locks[at as usize - 1];
         let next = std::mem::take(&mut record[link]);
         if record[lock::CLIENT] != client {
-            match end {
-                0 => *first = at,
-                end => locks[end as usize - 1][link] = at,
-            }
-            end = at;
+            join(&mut end, first, locks, link, at);
         }
         at = next;
     }
@@ -142,6 +145,26 @@ impl<'a> Queues<'a> {
 
     pub fn append_notice(&mut self, k: u32) {
         append(&mut self.head[head::NOTICE], self.locks, lock::NOTICE, k);
+    }
+
+    /// Marks those on a resource, but for one lock, whose held mode isn't compatible with a mode. The notice chain's end is looked for once.
+    pub fn mark_holders(&mut self, number: u32, other_than: u32, mode: u32) {
+        let mut end = None;
+        for chain in [resource::GRANT, resource::CONVERT] {
+            let mut at = self.resources[number as usize - 1][chain];
+            while at != 0 {
+                let record = &mut self.locks[at as usize - 1];
+                let next = record[lock::HOME];
+                if at != other_than && !admits(mode, only(record[lock::HELD])) {
+                    let joins = !noticed(record);
+                    record[lock::MARK] = record[lock::MARK].max(mode);
+                    if joins {
+                        join(&mut end, &mut self.head[head::NOTICE], self.locks, lock::NOTICE, at);
+                    }
+                }
+                at = next;
+            }
+        }
     }
 
     pub fn remove_notice(&mut self, k: u32) {
@@ -224,7 +247,7 @@ impl<'a> Queues<'a> {
             return;
         }
         let mut held = self.held(number);
-        let mut ends = None;
+        let mut ends = Ends::default();
         loop {
             let k = self.resource(number)[resource::CONVERT];
             if k == 0 {
@@ -252,28 +275,20 @@ impl<'a> Queues<'a> {
         }
     }
 
-    /// Grants the head of a chain of a resource.
-    fn grant_head(&mut self, number: u32, chain: usize, k: u32, ends: &mut Option<Ends>) {
-        let ends = ends.get_or_insert_with(|| Ends {
-            granted: last(self.resources[number as usize - 1][resource::GRANT], self.locks, lock::HOME),
-            notices: last(self.head[head::NOTICE], self.locks, lock::NOTICE),
-        });
+    /// Grants the head of a chain of a resource. With a mark it stands on the notice chain already.
+    fn grant_head(&mut self, number: u32, chain: usize, k: u32, ends: &mut Ends) {
         self.remove_blocked(k);
         let record = self.lock(k);
+        let joins = !noticed(record);
         let next = std::mem::take(&mut record[lock::HOME]);
         record[lock::HELD] = std::mem::take(&mut record[lock::ASKED]);
         record[lock::STATE] = state::GRANTED;
         record[lock::COMPLETION] = completion::GRANTED;
         self.resource(number)[chain] = next;
-        match ends.granted {
-            0 => self.resource(number)[resource::GRANT] = k,
-            end => self.lock(end)[lock::HOME] = k,
+        join(&mut ends.granted, &mut self.resources[number as usize - 1][resource::GRANT], self.locks, lock::HOME, k);
+        if joins {
+            join(&mut ends.notices, &mut self.head[head::NOTICE], self.locks, lock::NOTICE, k);
         }
-        match ends.notices {
-            0 => self.head[head::NOTICE] = k,
-            end => self.lock(end)[lock::NOTICE] = k,
-        }
-        *ends = Ends { granted: k, notices: k };
     }
 }
 

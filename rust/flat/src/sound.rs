@@ -2,10 +2,11 @@
 //!
 //! A chain that ends has each of its records once, since a record that came twice would come forever. Each home chain asks for a state and
 //! a resource of its own, so no lock can be on two of them. What is left is counting: the home chains together must have exactly L locks,
-//! the blocked chain as many as are blocked, the notice chain as many as have a completion, the free chain as many resources as have no name.
+//! the blocked chain as many as are blocked, the notice chain as many as have a completion or a mark, the free chain as many resources as
+//! have no name.
 
 use crate::layout::{
-    LockRecord, MOST_CLIENT, MOST_RESOURCES, NAME_BYTES, Records, ResourceRecord, Slot, completion, head, lock, resource, state,
+    LockRecord, MOST_CLIENT, MOST_RESOURCES, NAME_BYTES, Records, ResourceRecord, Slot, completion, head, lock, noticed, resource, state,
 };
 use crate::modes::{EX, admits, only};
 
@@ -75,9 +76,8 @@ impl Records<'_> {
         self.free_resources(self.resources.len() - used)?;
         need(census.locks == self.locks.len())?;
         let is_blocked = |record: &LockRecord| matches!(record[lock::STATE], state::CONVERTING | state::WAITING);
-        let is_noticed = |record: &LockRecord| record[lock::COMPLETION] != completion::NONE;
         self.side_chain(self.head[head::BLOCKED], lock::BLOCKED, census.blocked, is_blocked)?;
-        self.side_chain(self.head[head::NOTICE], lock::NOTICE, census.noticed, is_noticed)?;
+        self.side_chain(self.head[head::NOTICE], lock::NOTICE, census.noticed, noticed)?;
         need(self.names_differ())
     }
 
@@ -106,6 +106,7 @@ impl Records<'_> {
                 && record[lock::HELD] == 0
                 && record[lock::ASKED] == 0
                 && record[lock::COMPLETION] == completion::REQUEST_DENIED
+                && record[lock::MARK] == 0
                 && in_use(record, false, true)
         })?;
         census.noticed += census.locks - before;
@@ -125,22 +126,23 @@ impl Records<'_> {
     }
 
     fn granted_locks(&self, number: u32, first: u32, held: &mut u8, census: &mut Census) -> Option<()> {
-        let mut noticed = 0;
+        let mut notices = 0;
         self.home_chain(first, census, |record| {
             let told = record[lock::COMPLETION];
             let right = record[lock::STATE] == state::GRANTED
                 && record[lock::RESOURCE] == number
                 && record[lock::ASKED] == 0
                 && matches!(told, completion::NONE | completion::GRANTED | completion::CONVERSION_DENIED)
-                && in_use(record, false, told != completion::NONE)
+                && record[lock::MARK] <= EX
+                && in_use(record, false, noticed(record))
                 && admits(record[lock::HELD], *held);
-            noticed += usize::from(told != completion::NONE);
+            notices += usize::from(noticed(record));
             if right {
                 *held |= only(record[lock::HELD]);
             }
             right
         })?;
-        census.noticed += noticed;
+        census.noticed += notices;
         Some(())
     }
 
@@ -149,12 +151,15 @@ impl Records<'_> {
         // The head must not be grantable beside the others, so the modes held by them are kept apart from its own.
         let mut beside_head = *held;
         let mut position = 0;
+        let mut notices = 0;
         self.home_chain(first, census, |record| {
             let right = record[lock::STATE] == state::CONVERTING
                 && record[lock::RESOURCE] == number
                 && record[lock::COMPLETION] == completion::NONE
-                && in_use(record, true, false)
+                && record[lock::MARK] <= EX
+                && in_use(record, true, noticed(record))
                 && admits(record[lock::HELD], *held);
+            notices += usize::from(noticed(record));
             if right {
                 *held |= only(record[lock::HELD]);
                 if position > 0 {
@@ -165,6 +170,7 @@ impl Records<'_> {
             right
         })?;
         census.blocked += census.locks - before;
+        census.noticed += notices;
         need(first == 0 || !admits(self.locks[first as usize - 1][lock::ASKED], beside_head))
     }
 
@@ -175,7 +181,7 @@ impl Records<'_> {
             record[lock::STATE] == state::WAITING
                 && record[lock::RESOURCE] == number
                 && record[lock::HELD] == 0
-                && record[lock::COMPLETION] == completion::NONE
+                && !noticed(record)
                 && in_use(record, true, false)
         })?;
         census.blocked += census.locks - before;

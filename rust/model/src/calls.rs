@@ -29,12 +29,13 @@ impl Answer {
     }
 }
 
-/// What poll answers: a completion and a lock, zeros if there is no notice.
-#[derive(Clone, Copy, Debug, PartialEq, Eq)]
+/// What poll answers: a completion, a lock and its mark, zeros if there is no notice. A mark alone has completion 0.
+#[derive(Clone, Copy, Debug, Default, PartialEq, Eq)]
 #[allow(missing_docs)]
 pub struct Polled {
     pub completion: u32,
     pub lock: u32,
+    pub mark: u32,
 }
 
 /// A lock as list shows it.
@@ -125,6 +126,7 @@ impl State {
         } else {
             self.at(resource).waiting.push_back(number);
             self.blocked.push_back(number);
+            self.mark_those_in_the_way_of(number);
             Ok((Answer::Waits, number))
         }
     }
@@ -152,6 +154,7 @@ impl State {
             drop_number(&mut queues.granted, lock);
             queues.converting.push_back(lock);
             self.blocked.push_back(lock);
+            self.mark_those_in_the_way_of(lock);
             Ok(Answer::Waits)
         }
     }
@@ -218,7 +221,7 @@ impl State {
             self.stand(lock, Standing::Denied);
             self.denied.push_back(lock);
         }
-        self.notices.push_back(lock);
+        self.notify(lock);
         self.sweep(resource);
         lock
     }
@@ -227,17 +230,20 @@ impl State {
     pub fn poll(&mut self, client: u32) -> Result<Polled, Refused> {
         let client = client_of(client)?;
         let Some(lock) = self.notices.iter().copied().find(|lock| self.locks[lock].client == client) else {
-            return Ok(Polled { completion: 0, lock: 0 });
+            return Ok(Polled::default());
         };
-        let completion = self.locks[&lock].completion();
-        match self.locks[&lock].standing {
-            Standing::Granted { resource, held, .. } => {
-                self.stand(lock, Standing::Granted { resource, held, unread: None });
-                drop_number(&mut self.notices, lock);
-            }
-            _ => self.free_lock(lock),
+        let found = self.locks.get_mut(&lock).expect("a lock in use");
+        let polled = Polled { completion: found.completion(), lock, mark: found.mark_number() };
+        if found.standing == Standing::Denied {
+            self.free_lock(lock);
+            return Ok(polled);
         }
-        Ok(Polled { completion, lock })
+        found.mark = None;
+        if let Standing::Granted { unread, .. } = &mut found.standing {
+            *unread = None;
+        }
+        drop_number(&mut self.notices, lock);
+        Ok(polled)
     }
 
     /// The value block of a lock's resource, and whether it is valid.
@@ -357,6 +363,23 @@ impl State {
         drop_number(&mut self.blocked, lock);
     }
 
+    /// A lock has something to tell its client. If it had before, it keeps its place.
+    fn notify(&mut self, lock: u32) {
+        if !self.notices.contains(&lock) {
+            self.notices.push_back(lock);
+        }
+    }
+
+    /// Each lock that a queued one waits for is marked with the mode asked for, unless it has a larger mark.
+    fn mark_those_in_the_way_of(&mut self, lock: u32) {
+        let asked = self.locks[&lock].asked();
+        for other in self.in_the_way_of(lock).collect::<Vec<u32>>() {
+            let marked = self.locks.get_mut(&other).expect("a lock in use");
+            marked.mark = marked.mark.max(asked);
+            self.notify(other);
+        }
+    }
+
     /// A resource left empty is freed, another swept.
     fn free_or_sweep(&mut self, resource: u32) {
         if self.resources[&resource].locks().next().is_none() {
@@ -385,6 +408,6 @@ impl State {
         self.stand(lock, Standing::Granted { resource, held: asked, unread: Some(Unread::Granted) });
         self.at(resource).granted.push_back(lock);
         drop_number(&mut self.blocked, lock);
-        self.notices.push_back(lock);
+        self.notify(lock);
     }
 }

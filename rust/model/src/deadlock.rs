@@ -1,6 +1,6 @@
 //! The deadlock search, as the paper words it: what each blocked lock leads to, and whether one leads back to itself.
 
-use crate::{Lock, Standing, State};
+use crate::{Standing, State};
 use std::collections::BTreeMap;
 
 /// A set of lock numbers.
@@ -67,7 +67,7 @@ impl State {
         let mut found = Numbers::none(self.most_locks);
         self.ahead_of(number).for_each(|other| found.insert(other));
         for other in self.in_the_way_of(number) {
-            if let Some(blocked) = by_client.get(&other.client) {
+            if let Some(blocked) = by_client.get(&self.locks[&other].client) {
                 found.add_all(blocked);
             }
         }
@@ -82,16 +82,6 @@ impl State {
         let (all_of, part_of) = if waits { (Some(&queues.converting), &queues.waiting) } else { (None, &queues.converting) };
         let before = part_of.iter().copied().take_while(move |other| *other != number);
         all_of.into_iter().flatten().copied().chain(before)
-    }
-
-    /// The other locks there whose held mode is incompatible with its asked mode.
-    fn in_the_way_of(&self, number: u32) -> impl Iterator<Item = &Lock> + '_ {
-        let lock = &self.locks[&number];
-        let resource = lock.resource().expect("a blocked lock stands on a resource");
-        let asked = lock.asked().expect("a blocked lock asks for a mode");
-        let others = self.resources[&resource].holders().filter(move |other| *other != number);
-        let others = others.map(|other| &self.locks[&other]);
-        others.filter(move |other| other.held().is_some_and(|held| !held.compatible(asked)))
     }
 
     /// Whether a lock leads to itself: all that it reaches in one step, in two, and so on, until nothing new is reached.

@@ -1,4 +1,4 @@
-//! Where document 01 puts things ("The two tables"). No other file of the model writes a number of the layout. Records are numbered from 1,
+//! Where document 01 ("The two tables") and document 02 put things. No other file of the model writes a number of the layout. Records are numbered from 1,
 //! the words of a record from 0.
 
 /// The most resource records.
@@ -65,7 +65,8 @@ pub mod lock {
     pub const HELD: usize = 6;
     pub const ASKED: usize = 7;
     pub const COMPLETION: usize = 8;
-    pub const WIDTH: usize = 9;
+    pub const MARK: usize = 9;
+    pub const WIDTH: usize = 10;
 
     /// Those that name a lock.
     pub const LINKS: [usize; 3] = [HOME, BLOCKED, NOTICE];

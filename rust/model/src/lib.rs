@@ -1,6 +1,6 @@
-//! An independent model of the lock manager of document 01.
+//! An independent model of the lock manager of document 01, with what document 02 has added to it so far.
 //!
-//! It is written from the paper alone and made to be read beside it, not to be fast. A [`State`] is a value of its own form: maps of the
+//! It is written from the papers alone and made to be read beside them, not to be fast. A [`State`] is a value of its own form: maps of the
 //! records in use and queues of record numbers. [`State::to_tables`] writes out every word and slot that the paper prescribes for it, and
 //! [`State::from_tables`] reads tables back, which decides whether they are sound. The [`entries`] are the paper's calls over lent tables:
 //! read the state back, make the call on it, write it out. [`lockplay`] is the paper's program, [`layout`] where things stand in the tables.

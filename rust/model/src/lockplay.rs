@@ -1,4 +1,5 @@
-//! The program `lockplay`: what it prints for an input, from what document 01 says of it at the end of its bench sequences.
+//! The program `lockplay`: what it prints for an input, from what document 01 says of it at the end of its bench sequences. Document 02: it
+//! "prints a field that an answer gains [..] after the others, in its sample too".
 
 use crate::{Refused, State};
 
@@ -87,7 +88,7 @@ impl Asked<'_> {
             Asked::Cancel { client, lock } => state.cancel(client, lock).map(|answer| vec![answer]),
             Asked::Purge { client } => state.purge(client).map(|count| vec![count]),
             Asked::Break => Ok(vec![state.break_deadlock()]),
-            Asked::Poll { client } => state.poll(client).map(|polled| vec![polled.completion, polled.lock]),
+            Asked::Poll { client } => state.poll(client).map(|polled| vec![polled.completion, polled.lock, polled.mark]),
         }
     }
 }
@@ -144,7 +145,7 @@ mod tests {
     #[test]
     fn the_sample() {
         let input = b"q 1 5 0 vip-7\nq 2 5 0 vip-7\nq 2 5 4 vip-7\np 1\nn 2\nn 2\n";
-        assert_eq!(printed(input), "q 1 1\nq 2 2\nq ! 13\np 1\nn 1 2\nn 0 0\n");
+        assert_eq!(printed(input), "q 1 1\nq 2 2\nq ! 13\np 1\nn 1 2 0\nn 0 0 0\n");
     }
 
     #[test]

@@ -1,7 +1,7 @@
 //! What the tables mean: records in use, by number, and queues of record numbers.
 //!
 //! The types leave out much that soundness must forbid in the tables: a free record has no fields at all, a waiting lock no held mode, and
-//! only granted and denied locks can have a completion.
+//! only granted and denied locks can have a completion. That only granted and converting locks have a mark is the calls' to keep.
 
 use crate::Mode;
 use crate::layout::{VALUE_BYTES, Value};
@@ -26,7 +26,7 @@ pub struct State {
     pub denied: VecDeque<u32>,
     /// The converting and waiting locks of all resources.
     pub blocked: VecDeque<u32>,
-    /// The locks with a completion that its client hasn't polled.
+    /// The locks with a completion or a mark that its client hasn't polled.
     pub notices: VecDeque<u32>,
 }
 
@@ -54,6 +54,8 @@ pub struct Lock {
     pub client: u8,
     /// How it stands.
     pub standing: Standing,
+    /// The largest mode that it was in the way of since its client polled it; never NL, which nothing is in the way of.
+    pub mark: Option<Mode>,
 }
 
 /// How a lock stands, and with which modes.
@@ -82,7 +84,7 @@ pub enum Unread {
 impl Lock {
     /// A lock as a call makes it.
     pub fn new(client: u8, standing: Standing) -> Lock {
-        Lock { client, standing }
+        Lock { client, standing, mark: None }
     }
 
     /// The resource that the lock stands on; a denied one stands on none.
@@ -135,6 +137,16 @@ impl Lock {
             _ => 0,
         }
     }
+
+    /// The mark's number, 0 for none.
+    pub fn mark_number(&self) -> u32 {
+        self.mark.map_or(0, Mode::number)
+    }
+
+    /// Whether it belongs on the notice chain: it has a completion or a mark.
+    pub fn noticed(&self) -> bool {
+        self.completion() != 0 || self.mark.is_some()
+    }
 }
 
 impl Resource {
@@ -180,6 +192,16 @@ impl State {
     pub fn fits(&self, resource: u32, mode: Mode, beside: u32) -> bool {
         let others = self.resources[&resource].holders().filter(|lock| *lock != beside);
         others.filter_map(|lock| self.locks[&lock].held()).all(|held| mode.compatible(held))
+    }
+
+    /// The locks on a blocked lock's resource, other than itself, whose held mode is incompatible with its asked mode: in grant, then convert
+    /// chain order.
+    pub(crate) fn in_the_way_of(&self, number: u32) -> impl Iterator<Item = u32> + '_ {
+        let lock = &self.locks[&number];
+        let resource = lock.resource().expect("a blocked lock stands on a resource");
+        let asked = lock.asked().expect("a blocked lock asks for a mode");
+        let others = self.resources[&resource].holders().filter(move |other| *other != number);
+        others.filter(move |other| self.locks[other].held().is_some_and(|held| !held.compatible(asked)))
     }
 
     /// The convert head, if it is grantable.

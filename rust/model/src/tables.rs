@@ -51,9 +51,11 @@ pub enum Flaw {
     Asked,
     /// A completion isn't one that the lock's state can have.
     Completion,
+    /// A mark is above 5, or a waiting or denied lock has one.
+    Mark,
     /// The blocked chain hasn't exactly the converting and waiting locks.
     Blocked,
-    /// The notice chain hasn't exactly the locks with a completion.
+    /// The notice chain hasn't exactly the locks with a completion or a mark.
     Notices,
     /// A lock off the blocked chain has a link there.
     BlockedLink,
@@ -69,7 +71,7 @@ pub enum Flaw {
 
 impl Flaw {
     /// All flaws, in the order in which they are looked for.
-    pub const ALL: [Flaw; 29] = [
+    pub const ALL: [Flaw; 30] = [
         Flaw::Sizes,
         Flaw::Lengths,
         Flaw::NotZero,
@@ -92,6 +94,7 @@ impl Flaw {
         Flaw::Held,
         Flaw::Asked,
         Flaw::Completion,
+        Flaw::Mark,
         Flaw::Blocked,
         Flaw::Notices,
         Flaw::BlockedLink,
@@ -103,7 +106,7 @@ impl Flaw {
 }
 
 impl State {
-    /// Every word and slot that document 01 prescribes for this state.
+    /// Every word and slot that the papers prescribe for this state.
     pub fn to_tables(&self) -> (Vec<u32>, Vec<u8>) {
         let mut writer = Writer {
             words: vec![0; layout::words(self.most_resources, self.most_locks)],
@@ -181,6 +184,7 @@ impl Writer {
             (lock::HELD, lock.held().map_or(0, Mode::number)),
             (lock::ASKED, lock.asked().map_or(0, Mode::number)),
             (lock::COMPLETION, lock.completion()),
+            (lock::MARK, lock.mark_number()),
         ];
         fields.into_iter().for_each(|(field, word)| self.words[lock_at(self.resources, number, field)] = word);
     }
@@ -378,7 +382,10 @@ impl<'a> Reader<'a> {
             (Home::Wait(_), 0) => Standing::Waiting { resource, asked: asked_mode },
             _ => return Err(Flaw::Completion),
         };
-        Ok(Some(Lock { client, standing }))
+        let mark_mode = Mode::from_number(record[lock::MARK]).ok_or(Flaw::Mark)?;
+        let mark = Some(mark_mode).filter(|mode| *mode != Mode::Nl);
+        check(holds || mark.is_none(), Flaw::Mark)?;
+        Ok(Some(Lock { client, standing, mark }))
     }
 
     /// The blocked and notice chains, and the links of the locks that aren't on them.
@@ -387,7 +394,7 @@ impl<'a> Reader<'a> {
             state.locks.iter().filter(|(_, lock)| test(lock)).map(|(number, _)| *number).collect()
         };
         let blocked = with(Lock::blocked);
-        let noticed = with(|lock| lock.completion() != 0);
+        let noticed = with(Lock::noticed);
         let same = |chain: &VecDeque<u32>, set: &BTreeSet<u32>| &chain.iter().copied().collect::<BTreeSet<u32>>() == set;
         check(same(&state.blocked, &blocked), Flaw::Blocked)?;
         check(same(&state.notices, &noticed), Flaw::Notices)?;

@@ -1,8 +1,8 @@
-//! What the model's calls do beyond what lockplay shows: values, validity, the orders of chains, and other table sizes. The bench sequences of
-//! document 01 are scripts of lockplay, in `examples/bench`.
+//! What the model's calls do beyond what lockplay shows: values, validity, the orders of chains, and other table sizes; and what document 02
+//! says of marks. The bench sequences of document 01 are scripts of lockplay, in `examples/bench`.
 
-use model::layout::{VALUE_BYTES, slots, words};
-use model::{Answer, Polled, Refused, State};
+use model::layout::{VALUE_BYTES, lock, lock_at, slots, words};
+use model::{Answer, Flaw, Polled, Refused, State};
 
 const NL: u32 = 0;
 const CR: u32 = 1;
@@ -21,14 +21,14 @@ fn requests(state: &mut State, modes: &[u32]) -> Vec<Answer> {
     modes.iter().enumerate().map(one).collect()
 }
 
-/// Polls every client until none has a notice: the completions, in the order of clients.
-fn poll_all(state: &mut State) -> Vec<(u32, u32)> {
+/// Polls every client until none has a notice: completions, locks and marks, in the order of clients.
+fn poll_all(state: &mut State) -> Vec<(u32, u32, u32)> {
     let mut found = Vec::new();
     for client in 1..=255 {
-        while let Ok(Polled { completion, lock }) = state.poll(client)
+        while let Ok(Polled { completion, lock, mark }) = state.poll(client)
             && lock != 0
         {
-            found.push((completion, lock));
+            found.push((completion, lock, mark));
         }
     }
     found
@@ -104,7 +104,7 @@ fn purge_frees_ascending_and_invalidates() {
     assert_eq!(s.free_locks, [6, 5, 3, 1, 7, 8]);
     assert_eq!(s.free_resources, [3]);
     assert!(s.resources.values().all(|resource| !resource.valid));
-    assert_eq!(s.notices, [2]);
+    assert_eq!(s.notices, [4, 2], "4's mark is older than 2's grant, and outlasts the lock that asked");
     assert!(s.denied.is_empty());
     assert_eq!(s.purge(1), Ok(0));
     assert_sound(&s);
@@ -119,9 +119,9 @@ fn a_denied_conversion_is_told_first() {
     assert_eq!(s.blocked, [3, 1, 2]);
     // 3 waits behind the cycle of 1 and 2 and isn't on it.
     assert_eq!(s.break_deadlock(), 1);
-    assert_eq!(s.notices, [1]);
+    assert_eq!(s.notices, [1, 2]);
     assert_eq!(s.cancel(1, 1), Err(Refused::UNREAD));
-    assert_eq!(s.poll(1), Ok(Polled { completion: 3, lock: 1 }));
+    assert_eq!(s.poll(1), Ok(Polled { completion: 3, lock: 1, mark: EX }));
     assert_eq!(s.break_deadlock(), 0);
     assert_eq!(s.cancel(1, 1), Err(Refused::STATE));
     assert_eq!(s.cancel(2, 2), Ok(1));
@@ -138,7 +138,7 @@ fn the_denied_lock_joins_the_notices_before_those_its_sweep_grants() {
     assert_eq!(s.request(2, PR, 0, b"name"), Ok((Answer::Waits, 3)));
     // 1 is blocked by 2's PR; client 2 waits with 3 behind 1.
     assert_eq!(s.break_deadlock(), 1);
-    assert_eq!(s.notices, [1, 3]);
+    assert_eq!(s.notices, [2, 1, 3], "2's mark came before");
     assert_sound(&s);
 }
 
@@ -151,7 +151,7 @@ fn cancelling_a_head_sweeps() {
     assert_eq!(s.cancel(2, 2), Ok(2));
     assert_eq!(s.convert(1, 1, CR, 0, b""), Ok(Answer::Granted));
     assert_eq!(s.convert(3, 3, CR, 0, b""), Ok(Answer::Granted));
-    assert_eq!(poll_all(&mut s), [(1, 4)]);
+    assert_eq!(poll_all(&mut s), [(0, 1, EX), (0, 3, CW), (1, 4, 0)]);
     assert_sound(&s);
 }
 
@@ -167,4 +167,113 @@ fn list_and_holder() {
     assert_eq!(s.holder(b"name"), Ok(1));
     assert_eq!(s.holder(b"other"), Ok(0));
     assert_eq!(s.holder(b""), Err(Refused::NAME));
+}
+
+#[test]
+fn a_holder_is_told_that_it_is_in_the_way() {
+    let mut s = state(1, 4);
+    requests(&mut s, &[PR, EX]);
+    assert_eq!(s.poll(2), Ok(Polled { completion: 0, lock: 0, mark: 0 }));
+    assert_eq!(s.poll(1), Ok(Polled { completion: 0, lock: 1, mark: EX }));
+    assert_eq!(s.poll(1), Ok(Polled::default()), "a mark is told once");
+    assert_eq!(s.convert(1, 1, NL, 0, b""), Ok(Answer::Granted));
+    assert_eq!(poll_all(&mut s), [(1, 2, 0)]);
+    assert_sound(&s);
+}
+
+#[test]
+fn a_mark_grows_in_its_place() {
+    let mut s = state(1, 8);
+    requests(&mut s, &[PR, PR, PR, CW]);
+    assert_eq!(s.notices, [1, 2, 3]);
+    assert_eq!(s.poll(2), Ok(Polled { completion: 0, lock: 2, mark: CW }));
+    assert_eq!(s.request(5, EX, 0, b"name"), Ok((Answer::Waits, 5)));
+    assert_eq!(s.notices, [1, 3, 2], "1 and 3 keep their places, 2 joins again");
+    assert_eq!(s.request(6, PW, 0, b"name"), Ok((Answer::Waits, 6)));
+    assert_eq!(poll_all(&mut s), [(0, 1, EX), (0, 2, EX), (0, 3, EX)], "a smaller mode changes nothing");
+    assert_sound(&s);
+}
+
+#[test]
+fn marked_are_incompatible_holders_by_the_matrix() {
+    let mut s = state(1, 8);
+    requests(&mut s, &[NL, CR, PR, PW]);
+    assert_eq!(poll_all(&mut s), [(0, 3, PW)], "CR goes with PW");
+    assert_eq!(s.convert(3, 3, CW, 0, b""), Ok(Answer::Granted));
+    assert_eq!(s.request(5, PR, 0, b"name"), Ok((Answer::Waits, 5)));
+    assert_eq!(poll_all(&mut s), [(0, 3, PR)], "PR and CW exclude each other");
+    assert_eq!(s.request(3, EX, 0, b"name"), Ok((Answer::Waits, 6)));
+    assert_eq!(poll_all(&mut s), [(0, 2, EX), (0, 3, EX)], "the asking client's other lock too");
+}
+
+#[test]
+fn a_conversion_marks_granted_then_converting_locks_and_never_itself() {
+    let mut s = state(1, 8);
+    requests(&mut s, &[PR, PR, PR, PR]);
+    assert_eq!(s.convert(1, 1, EX, 0, b""), Ok(Answer::Waits));
+    assert_eq!(s.notices, [2, 3, 4]);
+    assert_eq!(poll_all(&mut s).len(), 3);
+    assert_eq!(s.convert(3, 3, CW, 0, b""), Ok(Answer::Waits));
+    assert_eq!(s.notices, [2, 4, 1]);
+    assert_eq!(s.poll(1), Ok(Polled { completion: 0, lock: 1, mark: CW }), "a converting lock is told too");
+    assert_eq!(s.locks[&1].state_number(), 2);
+    // CR goes with every PR, and waits only because conversions stand in the queue.
+    assert_eq!(s.request(5, CR, 0, b"name"), Ok((Answer::Waits, 5)));
+    assert_eq!(s.notices, [2, 4]);
+    assert_sound(&s);
+}
+
+#[test]
+fn a_mark_stays_through_conversions_and_is_told_with_the_completion() {
+    let mut s = state(1, 8);
+    requests(&mut s, &[PR, PR, EX]);
+    assert_eq!(s.notices, [1, 2]);
+    assert_eq!(s.convert(1, 1, PW, 0, b""), Ok(Answer::Waits), "a mark stops no conversion");
+    assert_eq!(s.cancel(1, 1), Ok(1), "nor a cancel");
+    assert_eq!(s.convert(1, 1, PW, 0, b""), Ok(Answer::Waits));
+    assert_eq!(s.convert(2, 2, CR, 0, b""), Ok(Answer::Granted), "this grants 1");
+    assert_eq!(s.notices, [1, 2]);
+    assert_eq!(s.release(1, 1, 0, b""), Err(Refused::UNREAD), "a completion does");
+    assert_eq!(s.poll(1), Ok(Polled { completion: 1, lock: 1, mark: EX }));
+    assert_eq!(s.cancel(3, 3), Ok(2));
+    assert_eq!(s.poll(2), Ok(Polled { completion: 0, lock: 2, mark: EX }), "a mark outlasts its reason");
+    assert_sound(&s);
+}
+
+#[test]
+fn a_mark_goes_with_its_lock() {
+    let mut s = state(2, 8);
+    requests(&mut s, &[PR, PR, EX]);
+    s.request(2, EX, 0, b"other").unwrap();
+    s.request(1, PR, 0, b"other").unwrap();
+    assert_eq!(s.notices, [1, 2, 4]);
+    assert_eq!(s.release(1, 1, 0, b""), Ok(()), "a mark stops no release");
+    assert_eq!(s.notices, [2, 4]);
+    assert_eq!(s.purge(2), Ok(2));
+    assert_eq!(poll_all(&mut s), [(1, 5, 0), (1, 3, 0)]);
+    assert_eq!(s.request(4, NL, 0, b"name"), Ok((Answer::Granted, 4)));
+    assert_eq!(poll_all(&mut s), [], "a freed record keeps nothing");
+    assert_sound(&s);
+}
+
+/// Sound tables with a mark, in which lock 1 is granted and lock 2 waits, and a word of a lock changed.
+fn judged(lock: u32, field: usize, word: u32) -> Result<State, Flaw> {
+    let mut s = state(1, 4);
+    requests(&mut s, &[PR, EX]);
+    let (mut words, slots) = s.to_tables();
+    words[lock_at(1, lock, field)] = word;
+    State::read_tables(&words, &slots)
+}
+
+#[test]
+fn marks_in_sound_tables() {
+    assert_eq!(words(1, 4), 8 + 8 + 40, "ten words for each lock");
+    for mark in CR..=EX {
+        assert_eq!(judged(1, lock::MARK, mark).map(|s| s.locks[&1].mark_number()), Ok(mark));
+    }
+    assert_eq!(judged(1, lock::MARK, 6), Err(Flaw::Mark));
+    assert_eq!(judged(1, lock::MARK, 0), Err(Flaw::Notices), "a notice without a mark or a completion");
+    assert_eq!(judged(2, lock::MARK, 1), Err(Flaw::Mark), "a waiting lock");
+    assert_eq!(judged(3, lock::MARK, 1), Err(Flaw::FreeLock));
+    assert!(judged(1, lock::COMPLETION, 1).is_ok(), "a mark beside a completion");
 }
