@@ -1,5 +1,5 @@
 -- A lock where its home chain has it: what is left of `stands` once the chain's state and resource are known.
-use mathlib.Core.Path.{_≡_, refl, ap}
+use mathlib.Core.Path.{_≡_, refl, sym, ap, _∙_}
 use mathlib.Core.Bool.{Bool, true, false, not, _&&_, _||_}
 use mathlib.Core.List.{List}
 use Prim.Native.Nat.{ℕ, _≤_}
@@ -10,6 +10,7 @@ use Rattle.tables.specs.declared.Lock.{Lock}
 use Rattle.tables.specs.State.{noticed}
 use Rattle.tables.specs.Layout.{of-lock, resources-in, word-in, read-lock}
 use Rattle.tables.specs.Sound.{client-right, modes-right, granted-completion}
+use Rattle.tables.proofs.Cases.{clash}
 use Rattle.table_names.specs.Names.{named}
 use Rattle.check_laws.specs.Check.{on-named, fields-fine, links-fine, lock-fine, stands}
 
@@ -18,6 +19,11 @@ then-four : (a b c d e f : Bool) {x : Bool} → (a ≡ true → b ≡ true → (
 then-four true true c d e f q = q refl refl
 then-four true false c d e f q = refl
 then-four false b c d e f q = refl
+
+then-five : (a b c d e f g : Bool) {x : Bool} → (a ≡ true → b ≡ true → (c && d && e && f && g) ≡ x) → (a && b && c && d && e && f && g) ≡ (a && b && x)
+then-five true true c d e f g q = q refl refl
+then-five true false c d e f g q = refl
+then-five false b c d e f g q = refl
 
 then-six : (a b c d e f g h : Bool) {x : Bool} → (a ≡ true → b ≡ true → (c && d && e && f && g && h) ≡ x) → (a && b && c && d && e && f && g && h) ≡ (a && b && x)
 then-six true true c d e f g h q = q refl refl
@@ -46,9 +52,12 @@ denied-left true true true true z false b n q = refl
 denied-left true true true true z true false n q = refl
 denied-left true true true true z true true n q = rw (q refl)
 
-granted-left : (p b n : Bool) → (p && b && n) ≡ ((p || false || false || false) && (b && n))
-granted-left false b n = refl
-granted-left true b n = refl
+granted-left : (p b f n : Bool) → (p && b && (f && n)) ≡ (((p && f) || false || false || false) && (b && n))
+granted-left false b f n = refl
+granted-left true false false n = refl
+granted-left true false true n = refl
+granted-left true true false n = refl
+granted-left true true true n = refl
 
 converting-left : (p n : Bool) → (p && n) ≡ ((p || false || false) && n)
 converting-left false n = refl
@@ -64,6 +73,23 @@ waiting-left true true true true n = refl
 -- a denied lock has a completion
 denied-noticed : (f : ℕ) → eqb f 2 ≡ true → eqb f 0 ≡ false
 denied-noticed f e = ne-eqb f 0 (λ z. omega (arith, eqb-true f 2 e))
+
+-- notice_right: with a notice, and without one
+with-link : (f n : Bool) → f ≡ (f && (true || n))
+with-link false n = refl
+with-link true n = refl
+
+silent : (f m o p n : Bool) → (not f || not m) ≡ false → n ≡ ((f || o || p) && (not f || not m || n))
+silent true true o p n h = refl
+silent true false o p n h = clash true refl h
+silent false m o p n h = clash true refl h
+
+module _ (l : Lock) (x : Bool) (e : x ≡ noticed l) where
+  pub notice-some : x ≡ true → (f : Bool) → f ≡ granted-completion (l .completion) → (n : Bool) → f ≡ (granted-completion (l .completion) && (noticed l || n))
+  notice-some h f g n = rw (← g, ← e, h) (with-link f n)
+
+  pub notice-none : x ≡ false → {w v : ℕ} → w ≡ v → eqb w 0 ≡ (granted-completion (l .completion) && (noticed l || eqb v 0))
+  notice-none h {w} {v} q = rw q (silent (eqb (l .completion) 0) (eqb (l .mark) 0) _ _ (eqb v 0) (sym e ∙ h))
 
 -- the state is known
 is : (j s : ℕ) → eqb j s ≡ true → (i : ℕ) → eqb j i ≡ eqb s i
@@ -98,15 +124,17 @@ module _ (ws : List ℕ) (k : ℕ) {l : Lock} (e : l ≡ read-lock ws k) where
     unfolding on-named
     here j t = rw (eqb-true j r t, le-leb 1 r u, le-leb r (resources-in ws) v) w
 
-    pub granted-stands : {f n : Bool} {x : ℕ} → f ≡ granted-completion (l .completion) → x ≡ word-in ws (of-lock k 1) → n ≡ (noticed l || eqb (word-in ws (of-lock k 2)) 0) → (eqb (l .state) 1 && eqb (l .resource) r && c && m && eqb (l .asked) 0 && f && eqb x 0 && n) ≡ stands ws 1 r k
+    pub granted-stands : {g : Bool} {x : ℕ} → x ≡ word-in ws (of-lock k 1) → g ≡ (granted-completion (l .completion) && (noticed l || eqb (word-in ws (of-lock k 2)) 0)) → (eqb (l .state) 1 && eqb (l .resource) r && c && m && eqb (l .asked) 0 && eqb x 0 && g) ≡ stands ws 1 r k
     unfolding stands lock-fine fields-fine links-fine
-    granted-stands {f} {n} g p q =
+    granted-stands p q =
         let b = eqb (word-in ws (of-lock k 1)) 0 in
-        rw (p, ← e, ← o, ← d, ← g, ← q)
-        (then-six (eqb (l .state) 1) (eqb (l .resource) r) c m (eqb (l .asked) 0) f b n
+        let f = granted-completion (l .completion) in
+        let n = noticed l || eqb (word-in ws (of-lock k 2)) 0 in
+        rw (p, q, ← e, ← o, ← d)
+        (then-five (eqb (l .state) 1) (eqb (l .resource) r) c m (eqb (l .asked) 0) b (f && n)
         (λ s t.
         rw (is (l .state) 1 s 0, is (l .state) 1 s 1, is (l .state) 1 s 2, is (l .state) 1 s 3, is (l .state) 1 s 4, here (l .resource) t)
-        (granted-left (c && m && eqb (l .asked) 0 && f) b n)))
+        (granted-left (c && m && eqb (l .asked) 0) b f n)))
 
     pub converting-stands : {n : Bool} → n ≡ (noticed l || eqb (word-in ws (of-lock k 2)) 0) → (eqb (l .state) 2 && eqb (l .resource) r && c && m && eqb (l .completion) 0 && n) ≡ stands ws 2 r k
     unfolding stands lock-fine fields-fine links-fine

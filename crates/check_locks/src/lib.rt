@@ -18,7 +18,7 @@ use table_fields::lock_at;
 use table_fields::lock_word;
 use tables::Lock;
 ghost use mathlib.Core.Path.{_≡_};
-ghost use mathlib.Core.Bool.{true, _||_};
+ghost use mathlib.Core.Bool.{true, _&&_, _||_};
 ghost use Prim.Native.Nat.{_≤_};
 ghost use lib.Dec.{eqb};
 ghost use Rattle.tables.specs.State.{noticed, «state-free», «state-granted», «state-converting», «state-waiting», «state-denied»};
@@ -58,6 +58,19 @@ fn notice_link_right(words: &[u32], k: u32, l: Lock) -> bool
     ensures { λ x. ⌜ x ≡ (noticed l || eqb (word-in (now (words .entry)) (of-lock k 2)) 0) ⌝ }
 {
     is_noticed(l) | (lock_word(words, k, LOCK_NEXT_NOTICE) == 0)
+}
+
+// The same of a granted lock, and its completion is right. Most locks have no notice: the link's test is then all that is
+// left.
+fn notice_right(words: &[u32], k: u32, l: Lock) -> bool
+    requires { ⌜ Sized (now words) ⌝ }
+    requires { ⌜ (1 ≤ k) × (k ≤ locks-in (now words)) ⌝ }
+    ensures { λ x. ⌜ x ≡ (granted-completion (l .completion) && (noticed l || eqb (word-in (now (words .entry)) (of-lock k 2)) 0)) ⌝ }
+{
+    if is_noticed(l) {
+        return granted_completion(l);
+    }
+    lock_word(words, k, LOCK_NEXT_NOTICE) == 0
 }
 
 // These tests are of a lock that is met on a home chain: its state and its resource are that chain's, its other fields
@@ -111,9 +124,8 @@ pub fn stands_granted(words: &[u32], r: u32, k: u32) -> bool
         & client_right(l)
         & modes_right(l)
         & (l.asked == 0)
-        & granted_completion(l)
         & (lock_word(words, k, LOCK_NEXT_BLOCKED) == 0)
-        & notice_link_right(words, k, l)
+        & notice_right(words, k, l)
 }
 
 // A lock converting on resource r, which is in use: it may have a mark.
