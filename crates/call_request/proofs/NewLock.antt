@@ -6,7 +6,7 @@ use Prim.Native.Nat.{ℕ}
 use native.Mathlib.Omega.{arith}
 use borrow.Author.Needs.{needs}
 use Rattle.tables.specs.declared.Lock.{Lock}
-use Rattle.tables.specs.State.{Tables, lock, move}
+use Rattle.tables.specs.State.{Tables, move}
 use Rattle.tables.specs.Layout.{words, slots}
 use Rattle.tables.specs.Grants.{admits}
 use Rattle.tables.proofs.Cases.{clash}

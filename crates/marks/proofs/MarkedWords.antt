@@ -1,17 +1,16 @@
 -- Marking a lock, by the words: its record, its place on the notice chain, and where the chain ends then.
 use mathlib.Core.Path.{_≡_, refl, sym, _∙_, ap}
 use mathlib.Core.Logic.{_≢_}
-use mathlib.Core.Bool.{Bool, true, false, _||_, not}
+use mathlib.Core.Bool.{Bool, true, false}
 use mathlib.Core.List.{List, [], _∷_, _++_}
 use Prim.Native.Nat.{ℕ, zero, suc, _+_, _*_, _-_, _<_, _≤_}
 use native.Mathlib.Omega.{arith}
 use lib.ListN.{set, length}
-use lib.Dec.{eqb}
 use borrow.Author.Needs.{needs}
 use borrow.Author.Tests.{ne-eqb}
 use Rattle.tables.specs.declared.Lock.{Lock}
 use Rattle.tables.specs.Lists.{within}
-use Rattle.tables.specs.State.{Tables, with-notice, lock, unread, noticed, blocked-lock, holds, shift, move, notices, of-locks, last-mode}
+use Rattle.tables.specs.State.{Tables, with-notice, lock, unread, noticed, blocked-lock, shift, move, notices, of-locks}
 use Rattle.tables.specs.Layout.{place, cell, header-width, resource-width, lock-width, words, resources-in, locks-in, read-lock}
 use Rattle.tables.specs.Stores.{cell-holding, cell-place, join-cells, stays, shift-cells, set-cells}
 use Rattle.tables.specs.Threads.{Absent}

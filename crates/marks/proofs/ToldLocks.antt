@@ -1,6 +1,6 @@
 -- Telling locks one after the other, on a state: what stays, and that all holders told so are the obstacles marked.
-use mathlib.Core.Path.{_≡_, refl, sym, _∙_, ap, ap₂}
-use mathlib.Core.Bool.{Bool, true, false, _&&_, not}
+use mathlib.Core.Path.{_≡_, refl, _∙_, ap₂}
+use mathlib.Core.Bool.{true, false, _&&_, not}
 use mathlib.Core.List.{List, [], _∷_, _++_}
 use Prim.Native.Nat.{ℕ, _≤_}
 use native.Mathlib.Omega.{arith}
@@ -9,14 +9,13 @@ use lib.Dec.{eqb}
 use Rattle.modes.specs.Modes.{compatible}
 use Rattle.tables.specs.declared.Lock.{Lock}
 use Rattle.tables.specs.Lists.{within, count, keep}
-use Rattle.tables.specs.State.{Tables, with-notice, lock, resource, holds, Queue, grants, converts, queue-of}
+use Rattle.tables.specs.State.{Tables, with-notice, lock, resource, holds, Queue, queue-of}
 use Rattle.tables.specs.Layout.{slots}
 use Rattle.tables.specs.Grants.{holders}
 use Rattle.tables.specs.Validity.{Core}
 use Rattle.tables.proofs.Cases.{by-cases, and-right}
-use Rattle.tables.proofs.Counts.{count-same, count-step, count-append, keep-cong}
+use Rattle.tables.proofs.Counts.{count-same, count-step, keep-cong}
 use Rattle.tables.proofs.Valid.{locks-length, resources-length}
-use Rattle.tables.proofs.ChainMembers.{in-holder}
 use Rattle.tables.proofs.SlotChanges.{slots-move}
 use Rattle.rules.specs.Deadlock.{in-the-way, obstacles}
 use Rattle.rules.specs.Calls.{mark-lock, mark-locks, tell-obstacles}

@@ -1,5 +1,5 @@
 -- Telling the locks along a queue, and then all obstacles, by the words.
-use mathlib.Core.Path.{_≡_, refl, sym, _∙_, ap, ap₂}
+use mathlib.Core.Path.{_≡_, refl, sym, _∙_, ap}
 use mathlib.Core.Logic.{_≢_}
 use mathlib.Core.Bool.{Bool, true, false, not}
 use mathlib.Core.List.{List, [], _∷_, _++_, append-assoc, nil≢cons, head-eq-of-cons-eq, tail-eq-of-cons-eq}
@@ -25,7 +25,7 @@ use Rattle.table_fields.proofs.Laws.{kept-all}
 use Rattle.table_fields.proofs.StateWords.{core-sized, resources-is, locks-is, lock-record, lock-low, lock-high}
 use Rattle.table_chains.specs.Contracts.{Some, Turns, Resourced}
 use Rattle.table_chains.specs.Walking.{At, Walking}
-use Rattle.table_chains.proofs.ChainWalks.{walk-ends, walk-splits, walk-goes, walk-on, walk-sized, walk-low, walk-high, queue-present, chain-begins, queue-onward}
+use Rattle.table_chains.proofs.ChainWalks.{walk-ends, walk-splits, walk-goes, walk-on, walk-low, walk-high, queue-present, chain-begins, queue-onward}
 use Rattle.table_chains.proofs.ChainCells.{kept-trans}
 use Rattle.deadlock_graph.specs.Contracts.{seen}
 use Rattle.deadlock_graph.specs.Owners.{in-way}

@@ -7,26 +7,26 @@ use Prim.Native.Nat.{ℕ, zero, suc, _+_, _≤_}
 use native.Mathlib.Omega.{arith}
 use lib.ListN.{length}
 use lib.Dec.{eqb}
-use borrow.Author.Tests.{eqb-true, eqb-false, not-true}
+use borrow.Author.Tests.{eqb-true, eqb-false}
 use Rattle.modes.specs.Modes.{down}
 use Rattle.modes.proofs.Laws.{compatible-sym, down-use}
 use Rattle.tables.specs.declared.Lock.{Lock}
-use Rattle.tables.specs.Lists.{within, count, remove, all, first-that, null}
-use Rattle.tables.specs.State.{Resource, Tables, no-lock, denied-lock, no-resource, lock, resource, granted, converting, waiting, blocked-lock, holds, noticed, shift, shift-front, relist, move, move-resource, grants, converts, waits, blocked, notices, queue, last-mode, value-width}
-use Rattle.tables.specs.Grants.{holders, fits, convert-grantable, empty}
-use Rattle.tables.proofs.Cases.{by-cases, by-equal, clash, eqb-same, and-left, and-right, or-left, or-right, nor-left, nor-right}
-use Rattle.tables.proofs.Counts.{count-nil, first-in, head-in, null-nil}
-use Rattle.tables.specs.Validity.{used, Place, LockOk, Core, line, idle, Settled, Valid, Near, as-free, as-granted, as-converting, as-denied}
+use Rattle.tables.specs.Lists.{within, count, first-that, null}
+use Rattle.tables.specs.State.{Tables, no-lock, denied-lock, lock, resource, granted, converting, waiting, blocked-lock, holds, noticed, shift, relist, move, converts, waits, blocked, notices, queue, last-mode, value-width}
+use Rattle.tables.specs.Grants.{convert-grantable, empty}
+use Rattle.tables.proofs.Cases.{by-cases, clash, eqb-same, and-left, and-right, or-left, or-right, nor-right}
+use Rattle.tables.proofs.Counts.{count-nil, first-in, null-nil}
+use Rattle.tables.specs.Validity.{used, Place, LockOk, Core, line, idle, Valid, Near, as-granted, as-converting, as-denied}
 use Rattle.tables.proofs.StateCases.{StateOk, ok-numbered}
-use Rattle.tables.proofs.Valid.{ok-at, holder-place, used-within, lock-same, lock-other, resource-same, locks-length, resources-length, used-zero, Fits, core-move}
-use Rattle.tables.proofs.ChainMembers.{state-within, on-chain, chain-has, fits-true, true-fits, settled-other, line-blocked}
-use Rattle.rules.specs.Queues.{sweep, free-lock, settle}
+use Rattle.tables.proofs.Valid.{ok-at, holder-place, used-within, lock-same, resource-same, locks-length, Fits, core-move}
+use Rattle.tables.proofs.ChainMembers.{state-within, on-chain, chain-has, fits-true}
+use Rattle.rules.specs.Queues.{sweep}
 use Rattle.rules.specs.Deadlock.{victim}
-use Rattle.rules.specs.Calls.{stores, strong, leave-value, held-at, asking, in-place, convert-change, release-change, restored, cancel-change, deny, deny-victim, break, notice-read, take-notice, poll-notice, poll-change}
-use Rattle.rules.proofs.SweepLaws.{Swept, free-kept, sweep-swept}
+use Rattle.rules.specs.Calls.{stores, strong, leave-value, held-at, asking, in-place, convert-change, release-change, restored, cancel-change, deny, deny-victim, break, take-notice, poll-notice, poll-change}
+use Rattle.rules.proofs.SweepLaws.{free-kept}
 use Rattle.rules.proofs.ChangesKeepSound.{After, unchanged-after, then-sweep, then-stop, quiet-after, freed-settle, freed-sweep, freed-stop, full-of, granted-full, fits-alone, Grows, grows-move, head-still, head-new, nothing-at-zero}
 use Rattle.rules.proofs.NoticesKeepSound.{noted-ok, noted-after, told-after}
-use Rattle.rules.proofs.ResourceChanges.{empty-chains, used-changed, free-empty, Quiet, leave-quiet}
+use Rattle.rules.proofs.ResourceChanges.{leave-quiet}
 
 -- RELEASE
 pub release-after : (k f : ℕ) (v : List ℕ) (t : Tables) → Valid t → granted (lock t k) ≡ true → (stores f ≡ true → length v ≡ value-width) →

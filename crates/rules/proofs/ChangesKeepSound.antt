@@ -1,30 +1,25 @@
 -- A lock changes, and its resource is settled, swept or left: the state stays sound, and what that does to the free locks.
-use mathlib.Core.Path.{_≡_, refl, ap, _∙_}
+use mathlib.Core.Path.{_≡_, refl, _∙_}
 use mathlib.Core.Logic.{_≢_}
-use mathlib.Core.Bool.{Bool, true, false, _&&_, cond}
-use mathlib.Core.List.{List, [], _∷_, _++_}
-use Prim.Native.Nat.{ℕ, zero, suc, _+_, _≤_}
+use mathlib.Core.Bool.{true, false}
+use mathlib.Core.List.{List, [], _∷_}
+use Prim.Native.Nat.{ℕ, _+_, _≤_}
 use native.Mathlib.Omega.{arith}
 use lib.ListN.{length}
 use lib.Dec.{eqb}
-use borrow.Author.Tests.{eqb-true, eqb-false, not-true}
-use Rattle.modes.specs.Modes.{down}
-use Rattle.modes.proofs.Laws.{compatible-sym, down-use}
+use borrow.Author.Tests.{not-true}
 use Rattle.tables.specs.declared.Lock.{Lock}
-use Rattle.tables.specs.Lists.{within, count, remove, all, first-that, null}
-use Rattle.tables.specs.State.{Resource, Tables, no-lock, denied-lock, no-resource, lock, resource, granted, converting, waiting, blocked-lock, holds, noticed, shift, shift-front, relist, move, move-resource, grants, converts, waits, blocked, notices, queue, last-mode, value-width}
+use Rattle.tables.specs.Lists.{within, count, remove, all}
+use Rattle.tables.specs.State.{Resource, Tables, no-lock, no-resource, lock, resource, granted, converting, waiting, blocked-lock, holds, shift, shift-front, relist, move, move-resource, grants, queue}
 use Rattle.tables.specs.Grants.{holders, fits, convert-grantable, empty}
-use Rattle.tables.proofs.Cases.{by-cases, by-equal, clash, eqb-same, and-left, and-right, or-left, or-right, nor-left, nor-right}
-use Rattle.tables.proofs.Counts.{count-nil, first-in, head-in, null-nil}
-use Rattle.tables.specs.Validity.{used, Place, LockOk, Core, line, idle, Settled, Valid, Near, as-free, as-granted, as-converting, as-denied}
-use Rattle.tables.proofs.StateCases.{StateOk, ok-numbered}
-use Rattle.tables.proofs.Valid.{ok-at, holder-place, used-within, lock-same, lock-other, resource-same, locks-length, resources-length, used-zero, Fits, core-move}
-use Rattle.tables.proofs.ChainMembers.{state-within, on-chain, chain-has, fits-true, true-fits, settled-other, line-blocked}
+use Rattle.tables.proofs.Cases.{by-cases, by-equal, clash, eqb-same, nor-left, nor-right}
+use Rattle.tables.proofs.Counts.{count-nil, head-in}
+use Rattle.tables.specs.Validity.{used, LockOk, Core, line, idle, Settled, Valid, Near, as-free}
+use Rattle.tables.proofs.Valid.{lock-same, lock-other, resource-same, locks-length, resources-length, used-zero, Fits, core-move}
+use Rattle.tables.proofs.ChainMembers.{chain-has, fits-true, true-fits, settled-other, line-blocked}
 use Rattle.rules.specs.Queues.{sweep, free-lock, settle}
-use Rattle.rules.specs.Deadlock.{victim}
-use Rattle.rules.specs.Calls.{stores, strong, leave-value, held-at, asking, in-place, convert-change, release-change, restored, cancel-change, deny, deny-victim, break, notice-read, take-notice, poll-notice, poll-change}
-use Rattle.rules.proofs.SweepLaws.{Swept, free-kept, sweep-swept}
-use Rattle.rules.proofs.ResourceChanges.{empty-chains, used-changed, free-empty, Quiet, leave-quiet}
+use Rattle.rules.proofs.SweepLaws.{Swept, sweep-swept}
+use Rattle.rules.proofs.ResourceChanges.{empty-chains, used-changed, free-empty, Quiet}
 
 -- settling: what a call does last on the resource r
 pub record Settles (r : ℕ) (t t′ : Tables) : Type 0 where

@@ -1,5 +1,5 @@
 -- The marks theorem: every call does to the marks what R-1 promises, on states and then on the words.
-use mathlib.Core.Path.{_≡_, refl, sym, ap, ap₂, _∙_, subst}
+use mathlib.Core.Path.{_≡_, refl, sym, ap, ap₂, _∙_}
 use mathlib.Core.Logic.{_≢_}
 use mathlib.Core.Bool.{Bool, true, false, _&&_, _||_, not, and-false}
 use mathlib.Core.List.{List, [], _∷_, _++_}
@@ -8,13 +8,11 @@ use native.Mathlib.Omega.{arith}
 use lib.ListN.{length}
 use lib.Dec.{eqb, ltb}
 use borrow.Author.Tests.{eqb-true, eqb-false, eq-eqb, ne-eqb, not-true}
-use Rattle.modes.specs.Modes.{compatible}
 use Rattle.tables.specs.declared.Lock.{Lock}
 use Rattle.tables.specs.Lists.{within, count, keep, first, first-that, null}
-use Rattle.tables.specs.State.{Tables, started, no-lock, denied-lock, lock, resource, converting, has-mark, unread, noticed, holds, shift, move, move-resource, free-locks, notices, queue, grants, converts, of-locks, last-mode}
-use Rattle.tables.specs.Layout.{read-chain, read-lock, words, slots}
+use Rattle.tables.specs.State.{Tables, started, no-lock, denied-lock, lock, resource, converting, has-mark, unread, noticed, holds, shift, move, move-resource, free-locks, notices, queue, grants, converts, of-locks}
+use Rattle.tables.specs.Layout.{read-chain, read-lock, words}
 use Rattle.tables.specs.Grants.{holders, admits}
-use Rattle.tables.specs.Sound.{sound}
 use Rattle.tables.specs.Validity.{used, Core, Valid}
 use Rattle.tables.proofs.Cases.{by-cases, by-equal, clash, eqb-same, and-left, and-right, or-right}
 use Rattle.tables.proofs.Counts.{count-same, within-le, le-within, first-in, first-passes, keep-cong}
@@ -24,10 +22,10 @@ use Rattle.tables.proofs.ChainMembers.{state-within, on-chain, chain-has, in-ho
 use Rattle.tables.proofs.ReadBack.{resources-word, locks-word}
 use Rattle.rules.specs.Queues.{free-lock, find}
 use Rattle.rules.specs.Deadlock.{in-the-way, obstacles, victim}
-use Rattle.rules.specs.Calls.{Step, refused, accepted-step, refused-or, strong, leave-value, larger, mark-locks, tell-obstacles, new-resource, resource-for, with-resource, holding, queued, request-on, request-change, request-refusal, request, held-at, asking, in-place, convert-change, convert-refusal, convert, release-change, release-refusal, release, restored, cancel-change, cancel-refusal, cancel, locks-of, purge-locks, purge-change, purge-refusal, purge, deny, deny-victim, break, notice-read, take-notice, poll-notice, poll-change, poll-refusal, poll}
-use Rattle.rules.specs.Entries.{Lent, lent-of, Outcome, Call, kind, same-kind, a-request, a-convert, a-poll, call-entry, step-of, to-request, to-convert, to-release, to-cancel, to-purge, to-break, to-poll}
+use Rattle.rules.specs.Calls.{Step, refused, accepted-step, refused-or, strong, leave-value, larger, tell-obstacles, new-resource, resource-for, with-resource, holding, queued, request-on, request-change, request-refusal, request, held-at, asking, in-place, convert-change, convert-refusal, convert, release-change, release-refusal, release, restored, cancel-change, cancel-refusal, cancel, locks-of, purge-locks, purge-change, purge-refusal, purge, deny, deny-victim, break, notice-read, take-notice, poll-notice, poll-change, poll-refusal, poll}
+use Rattle.rules.specs.Entries.{lent-of, Call, kind, same-kind, a-request, a-convert, a-poll, call-entry, step-of, to-request, to-convert, to-release, to-cancel, to-purge, to-break, to-poll}
 use Rattle.rules.specs.Accepted.{Requestable, Releasable, Convertible, Cancellable, Purgeable}
-use Rattle.rules.specs.Theorem.{lent-after-calls, IsLock, IsResource, keeps-out}
+use Rattle.rules.specs.Theorem.{IsLock, IsResource, keeps-out}
 use Rattle.rules.specs.Marks.{begins-to-wait, asking-lock, asked-mode, answers-lock, MarksRight, MarksAfter, MarksTheorem}
 use Rattle.rules.proofs.NoticesKeepSound.{shift-same, holder-stands, obstacle-in}
 use Rattle.rules.proofs.CallsKeepSound.{in-place-after, queue-after, release-after, cancel-after, break-after}

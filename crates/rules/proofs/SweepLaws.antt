@@ -8,7 +8,7 @@ use native.Mathlib.Omega.{arith}
 use lib.ListN.{length}
 use lib.Dec.{eqb}
 use Rattle.tables.specs.declared.Lock.{Lock}
-use Rattle.tables.specs.Lists.{put, count, remove, null}
+use Rattle.tables.specs.Lists.{count, remove, null}
 use Rattle.tables.specs.State.{Tables, lock, resource, converting, waiting, shift, shift-front, relist, move, converts, waits, queue}
 use Rattle.tables.specs.Grants.{convert-grantable, wait-grantable, empty}
 use Rattle.tables.proofs.Cases.{by-cases, eqb-same}
