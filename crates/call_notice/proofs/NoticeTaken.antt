@@ -51,7 +51,7 @@ module _ (k : ℕ) (t : Tables) (p : Noticed k t) where
   denied-unmarked : lock t k .completion ≡ 2 → lock t k .mark ≡ 0
   denied-unmarked e =
       let s = noticed-denied (used t) (lock t k) (lock t k .state) its-state e in
-      ok-at (used t) (lock t k) 4 (p .core .lock-ok k) (rw s) .unmarked
+      ok-at (used t) (lock t k) 4 (p .core .lock-ok k) (rw s) .no-mark
 
   -- one that is no denied request's holds a mode
   module _ (n : lock t k .completion ≢ 2) where

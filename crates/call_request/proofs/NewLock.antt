@@ -57,7 +57,7 @@ module _ (r k c m f : ℕ) where
           place = record { in-use = p .in-use; client-low = p .client-low; client-high = p .client-high; held-mode = omega arith; asked-mode = p .asks .mode; mark-mode = omega arith };
           notice = refl;
           holds = refl;
-          unmarked = refl;
+          no-mark = refl;
         }))
 
     queued-begun : Begun k (move r k (queued r c m) t)

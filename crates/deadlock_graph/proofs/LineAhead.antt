@@ -14,8 +14,7 @@ use Rattle.tables.proofs.Cases.{by-cases, by-equal, clash, eqb-same}
 use Rattle.tables.proofs.Counts.{count-nil, count-same, count-other, count-append, any-has}
 use Rattle.tables.specs.Validity.{Core, line}
 use Rattle.tables.proofs.ChainMembers.{state-within, chain-has, on-converts, blocked-place}
-use Rattle.rules.specs.Deadlock.{before, ahead, obstacles}
-use Rattle.deadlock_graph.specs.Owners.{in-way}
+use Rattle.rules.specs.Deadlock.{in-the-way, before, ahead, obstacles}
 use Rattle.deadlock_graph.proofs.SameVictim.{Alike}
 
 -- ---- who stands before a member
@@ -91,6 +90,6 @@ line-alike t u a r = rw (a .queues converts r, a .queues waits r)
 
 -- ---- the holders in a lock's way
 
-pub obstacles-are : (t : Tables) (a : ℕ) → obstacles t a ≡ keep (in-way t a) (resource t (lock t a .resource) .grant ++ resource t (lock t a .resource) .convert)
-unfolding obstacles holders in-way
+pub obstacles-are : (t : Tables) (a : ℕ) → obstacles t a ≡ keep (in-the-way t a) (resource t (lock t a .resource) .grant ++ resource t (lock t a .resource) .convert)
+unfolding obstacles holders in-the-way
 obstacles-are t a = refl

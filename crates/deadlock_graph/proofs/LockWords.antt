@@ -16,7 +16,7 @@ use Rattle.tables.proofs.Counts.{within-le}
 use Rattle.tables.specs.Validity.{used, Core}
 use Rattle.tables.proofs.Valid.{used-within, blocked-lock-place}
 use Rattle.tables.proofs.ChainMembers.{on-chain, chain-has, blocked-within}
-use Rattle.rules.specs.Deadlock.{owner}
+use Rattle.rules.specs.Deadlock.{in-the-way, owner}
 use Rattle.table_fields.specs.Sizes.{Sized}
 use Rattle.table_fields.proofs.StateWords.{resources-is, locks-is}
 use Rattle.table_chains.specs.Contracts.{Some}
@@ -25,7 +25,7 @@ use Rattle.table_chains.proofs.ChainWalks.{some-sized, grants-walk, converts-wa
 use Rattle.table_chains.proofs.LockLimits as limits
 use Rattle.table_chains.proofs.LockLimits.{at-sized, held-mode, asked-mode}
 use Rattle.deadlock_graph.specs.Contracts.{seen, Blocked}
-use Rattle.deadlock_graph.specs.Owners.{in-way, Owned, owner-places}
+use Rattle.deadlock_graph.specs.Owners.{Owned, owner-places}
 use Rattle.deadlock_graph.proofs.SameVictim.{Alike, alike}
 
 -- the state that the words tell is like that whose words they are
@@ -84,8 +84,8 @@ module _ (ws : List ℕ) (k : ℕ) (a : At ws k) where
 
 -- whether j is in a's way
 pub way-known : (ws : List ℕ) (a j x y : ℕ) (g : Bool) → At ws a → At ws j → x ≡ word-in ws (of-lock j 6) → y ≡ word-in ws (of-lock a 7) → g ≡ compatible x y
-    → (not (eqb j a) && not g) ≡ in-way (seen ws) a j
-unfolding in-way
+    → (not (eqb j a) && not g) ≡ in-the-way (seen ws) a j
+unfolding in-the-way
 way-known ws a j x y g p q ex ey eg = rw (eg, ex, ey, held-told ws j q, asked-told ws a p)
 
 -- blocked locks

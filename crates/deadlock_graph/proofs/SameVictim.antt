@@ -86,6 +86,7 @@ module _ (t u : Tables) (a : Alike t u) where
   ahead-alike k = simp (a .locks, convert-is, wait-is)
 
   way-alike : (k : ℕ) → in-the-way u k ≡ in-the-way t k
+  unfolding in-the-way
   way-alike k = λ i j. not (eqb j k) && not (compatible (a .locks j i .held) (a .locks k i .asked))
 
   pub obstacles-alike : (k : ℕ) → obstacles u k ≡ obstacles t k

@@ -8,9 +8,10 @@ use table_fields::LOCK_HELD;
 use table_fields::lock_word;
 use table_fields::wide;
 ghost use mathlib.Core.Path.{_≡_};
+ghost use Rattle.rules.specs.Deadlock.{«in-the-way»};
 ghost use Rattle.table_chains.specs.Walking.{At};
 ghost use Rattle.deadlock_graph.specs.Contracts.{seen};
-ghost use Rattle.deadlock_graph.specs.Owners.{«in-way», Owned};
+ghost use Rattle.deadlock_graph.specs.Owners.{Owned};
 
 // A place for each owner: an owner is a client.
 pub const OWNER_PLACES: usize = LAST_CLIENT as usize + 1;
@@ -24,10 +25,10 @@ pub fn owner_of(words: &[u32], k: u32) -> usize
 }
 
 // Whether the mode that j holds is incompatible with the mode that a, another lock, asks for.
-pub fn in_way(words: &[u32], a: u32, j: u32) -> bool
+pub fn in_the_way(words: &[u32], a: u32, j: u32) -> bool
     requires { ⌜ At (now words) a ⌝ }
     requires { ⌜ At (now words) j ⌝ }
-    ensures { λ r. ⌜ r ≡ in-way (seen (now (words .entry))) a j ⌝ }
+    ensures { λ r. ⌜ r ≡ in-the-way (seen (now (words .entry))) a j ⌝ }
 {
     let held = lock_word(words, j, LOCK_HELD);
     let asked = lock_word(words, a, LOCK_ASKED);

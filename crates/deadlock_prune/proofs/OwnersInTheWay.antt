@@ -12,28 +12,28 @@ use borrow.Author.Needs.{needs}
 use Rattle.modes.specs.Modes.{compatible}
 use Rattle.modes.specs.Sets.{fits-set, with-mode}
 use Rattle.modes.proofs.Laws.{with-mode-small, fits-with}
-use Rattle.tables.specs.Lists.{count, any, keep}
+use Rattle.tables.specs.Lists.{count, any}
 use Rattle.tables.specs.State.{Tables, lock, resource, grants, converts}
 use Rattle.tables.specs.Layout.{of-resource, of-lock, resources-in, word-in, onward}
 use Rattle.tables.specs.Grants.{holders}
 use Rattle.tables.proofs.Cases.{by-cases, by-equal, clash, and-left, and-right, or-left}
-use Rattle.tables.proofs.Counts.{count-nil, count-other, count-keep, any-intro}
+use Rattle.tables.proofs.Counts.{count-nil, count-other, any-intro}
 use Rattle.tables.specs.Validity.{Core}
-use Rattle.rules.specs.Deadlock.{obstacles}
+use Rattle.rules.specs.Deadlock.{in-the-way, obstacles}
+use Rattle.rules.proofs.NoticesKeepSound.{obstacle-in}
 use Rattle.table_chains.specs.Contracts.{Some}
 use Rattle.table_chains.specs.Walking.{At, Walking}
 use Rattle.table_chains.proofs.ChainWalks.{some-sized, walk-splits, walk-ends, grants-walk, walk-sized, walk-low, walk-high, walk-stands, walk-less, walk-on}
 use Rattle.table_chains.proofs.LockLimits.{held-mode, at-sized}
 use Rattle.deadlock_graph.specs.Contracts.{seen, Blocked}
-use Rattle.deadlock_graph.specs.Owners.{in-way, Owned}
+use Rattle.deadlock_graph.specs.Owners.{Owned}
 use Rattle.deadlock_graph.proofs.SeenChains.{queue-seen}
 use Rattle.deadlock_graph.proofs.LockWords.{held-few, asked-few, held-told, resource-told, blocked-at, owner-place, blocked-sized, blocked-low, blocked-high, bar-low, bar-high}
-use Rattle.deadlock_graph.proofs.LineAhead.{obstacles-are}
 use Rattle.deadlock_prune.specs.Clearing.{is-busy, hinders, with-busy, with-all-busy, busy-modes}
 
 -- ---- one lock
 
-module _ (ws : List ℕ) (b : List Bool) (a j : ℕ) (r : Bool) (e : r ≡ in-way (seen ws) a j) where
+module _ (ws : List ℕ) (b : List Bool) (a j : ℕ) (r : Bool) (e : r ≡ in-the-way (seen ws) a j) where
   pub hinders-not : not r ≡ true → false ≡ hinders (seen ws) b a j
   unfolding hinders
   hinders-not h = rw (sym e ∙ not-true r h)
@@ -208,32 +208,24 @@ pub ruleset modes-laws = (needs, some-sized, grants-walk, modes-small, modes-don
 pub record Unhindered (ws : List ℕ) (b : List Bool) (a : ℕ) : Type 0 where
   pub none : (j : ℕ) → 1 ≤ count j (obstacles (seen ws) a) → is-busy (seen ws) b j ≡ false
 
-obstacle-is : (t : Tables) (a j : ℕ) → 1 ≤ count j (obstacles t a) → (1 ≤ count j (holders t (lock t a .resource))) × (in-way t a j ≡ true)
-unfolding holders
-obstacle-is t a j m =
-    let kept : 1 ≤ count j (keep (in-way t a) (resource t (lock t a .resource) .grant ++ resource t (lock t a .resource) .convert)) = rw (obstacles-are t a) at m in
-    by-cases (in-way t a j)
-    (λ h. (rw (count-keep, h) at kept, h))
-    (λ h. absurd (omega (arith, rw (count-keep, h) at kept)))
-
 module _ (ws : List ℕ) (b : List Bool) (a : ℕ) where
   pub unhindered : any (hinders (seen ws) b a) (holders (seen ws) (lock (seen ws) a .resource)) ≡ false → Unhindered ws b a
   unfolding hinders
   unhindered h =
       record {
         none = λ j m.
-            let o = obstacle-is (seen ws) a j m in
+            let o = obstacle-in (seen ws) a j m in
             by-cases (is-busy (seen ws) b j)
             (λ y. clash _ (any-intro (hinders (seen ws) b a) (holders (seen ws) (lock (seen ws) a .resource)) j (o .0) (rw (o .1) y)) h)
             (λ y. y);
       }
 
   pub fits-unhindered : (r : ℕ) → Some Core ws → lock (seen ws) a .resource ≡ r → fits-set (busy-modes (seen ws) b r) (lock (seen ws) a .asked) ≡ true → Unhindered ws b a
-  unfolding busy-modes in-way
+  unfolding busy-modes in-the-way
   fits-unhindered r s e h =
       record {
         none = λ j m.
-            let o = obstacle-is (seen ws) a j m in
+            let o = obstacle-in (seen ws) a j m in
             let clashes : compatible (lock (seen ws) j .held) (lock (seen ws) a .asked) ≡ false = not-true _ (and-right (not (eqb j a)) _ (o .1)) in
             by-cases (is-busy (seen ws) b j)
             (λ y. clash _ (fits-each (seen ws) b (held-few ws s) (lock (seen ws) a .asked) (asked-few ws s a) 0 (holders (seen ws) r) (omega arith) h j (rw e at (o .0)) y) clashes)

@@ -9,10 +9,10 @@ use Rattle.tables.specs.Lists.{count}
 use Rattle.tables.specs.State.{Tables, lock, resource}
 use Rattle.tables.specs.Grants.{holders}
 use Rattle.tables.specs.Validity.{Core}
-use Rattle.rules.specs.Deadlock.{owner, leads}
+use Rattle.rules.specs.Deadlock.{in-the-way, owner, leads}
 use Rattle.table_chains.specs.Contracts.{Some}
 use Rattle.deadlock_graph.specs.Contracts.{seen}
-use Rattle.deadlock_graph.specs.Owners.{in-way, owner-places}
+use Rattle.deadlock_graph.specs.Owners.{owner-places}
 use Rattle.table_chains.specs.Marks.{marked}
 use Rattle.deadlock_graph.specs.Marks.{unmarked, Cleared}
 
@@ -32,7 +32,7 @@ pub record Busy (ws : List ℕ) (m b : List Bool) : Type 0 where
 
 -- j is in a's way, and its owner is busy
 unfoldable pub hinders : Tables → List Bool → ℕ → ℕ → Bool
-hinders t b a j = in-way t a j && is-busy t b j
+hinders t b a j = in-the-way t a j && is-busy t b j
 
 -- the set with the mode that j holds, if its owner is busy; the same for a list of locks; the modes that busy owners hold on r
 unfoldable pub with-busy : Tables → List Bool → ℕ → ℕ → ℕ

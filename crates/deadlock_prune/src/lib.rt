@@ -1,6 +1,6 @@
 // Clearing blocked locks that are on no cycle: passes along the lines, as long as they clear locks.
 use deadlock_graph::OWNER_PLACES;
-use deadlock_graph::in_way;
+use deadlock_graph::in_the_way;
 use deadlock_graph::owner_of;
 use modes::fits_row;
 use modes::with_mode;
@@ -69,7 +69,7 @@ fn hinders(words: &[u32], busy: &[bool], a: u32, j: u32) -> bool
     requires { ⌜ length (now busy) ≡ owner-places ⌝ }
     ensures { λ r. ⌜ r ≡ hinders (seen (now (words .entry))) (now (busy .entry)) a j ⌝ }
 {
-    if !in_way(words, a, j) {
+    if !in_the_way(words, a, j) {
         return false;
     }
     let owner = owner_of(words, j);

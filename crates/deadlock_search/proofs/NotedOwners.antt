@@ -11,9 +11,9 @@ use borrow.Author.Needs.{needs}
 use Rattle.tables.specs.Lists.{keep}
 use Rattle.tables.specs.State.{lock, resource, grants, converts}
 use Rattle.tables.specs.Layout.{of-resource, of-lock, word-in, onward}
-use Rattle.rules.specs.Deadlock.{obstacles, owner}
+use Rattle.rules.specs.Deadlock.{in-the-way, obstacles, owner}
 use Rattle.deadlock_graph.specs.Contracts.{seen, Blocked}
-use Rattle.deadlock_graph.specs.Owners.{in-way, Owned, owner-places}
+use Rattle.deadlock_graph.specs.Owners.{Owned, owner-places}
 use Rattle.deadlock_graph.proofs.SeenChains.{queue-seen}
 use Rattle.deadlock_graph.proofs.LockWords.{client-few, resource-told, blocked-at, owner-place, blocked-sized, blocked-low, blocked-high, bar-low, bar-high}
 use Rattle.table_chains.specs.Walking.{At, Walking}
@@ -25,7 +25,7 @@ use Rattle.deadlock_search.proofs.OwnersInTheWay.{length-note, length-n
 
 -- ---- one lock
 
-module _ (ws : List ℕ) (a j : ℕ) (o : List Bool) (r : Bool) (e : r ≡ in-way (seen ws) a j) where
+module _ (ws : List ℕ) (a j : ℕ) (o : List Bool) (r : Bool) (e : r ≡ in-the-way (seen ws) a j) where
   pub note-skips : not r ≡ true → o ≡ note (seen ws) a j o
   unfolding note
   note-skips h = rw (sym e ∙ not-true r h)
@@ -75,7 +75,7 @@ module _ {ws : List ℕ} {a r : ℕ} (b : Blocked ws a) (e : r ≡ word-in ws (o
       let holders : List ℕ = resource (seen ws) r .grant ++ resource (seen ws) r .convert in
       let all : o₂ ≡ note-all (seen ws) a holders o = e₂ ∙ rw (e₁, gs, cs) (sym (notes-append (seen ws) a (resource (seen ws) r .grant) (resource (seen ws) r .convert) o)) in
       let few : (j : ℕ) → owner (lock (seen ws) j) < length o = λ j. omega (arith, client-few ws (b .some) j, u .wide) in
-      let obstacles-here : obstacles (seen ws) a ≡ keep (in-way (seen ws) a) holders = rw here (obstacles-are (seen ws) a) in
+      let obstacles-here : obstacles (seen ws) a ≡ keep (in-the-way (seen ws) a) holders = rw here (obstacles-are (seen ws) a) in
       record {
         wide = ap length all ∙ length-notes (seen ws) a holders o ∙ u .wide;
         each = λ c l.

@@ -11,14 +11,13 @@ use borrow.Author.Tests.{eq-eqb, ne-eqb}
 use Rattle.tables.specs.Lists.{any, keep}
 use Rattle.tables.specs.State.{Tables, lock}
 use Rattle.tables.proofs.Cases.{by-cases, by-equal, or-right}
-use Rattle.rules.specs.Deadlock.{owner}
-use Rattle.deadlock_graph.specs.Owners.{in-way}
+use Rattle.rules.specs.Deadlock.{in-the-way, owner}
 use Rattle.deadlock_search.specs.OwnersInTheWay.{note, note-all}
 
 module _ (t : Tables) (a : ℕ) where
   pub length-note : (j : ℕ) (o : List Bool) → length (note t a j o) ≡ length o
   unfolding note
-  length-note j o = by-cases (in-way t a j) (λ h. rw h (length-set o (owner (lock t j)) true)) (λ h. rw h)
+  length-note j o = by-cases (in-the-way t a j) (λ h. rw h (length-set o (owner (lock t j)) true)) (λ h. rw h)
 
   pub length-notes : (js : List ℕ) (o : List Bool) → length (note-all t a js o) ≡ length o
   unfolding note-all
@@ -33,19 +32,19 @@ module _ (t : Tables) (a : ℕ) where
   -- who is written down: those that were, and the owners of those in a's way
   module _ (c : ℕ) where
     abbrev barred : List ℕ → Bool
-    barred js = any (λ j. eqb (owner (lock t j)) c) (keep (in-way t a) js)
+    barred js = any (λ j. eqb (owner (lock t j)) c) (keep (in-the-way t a) js)
 
-    note-off : (j : ℕ) (js : List ℕ) (o : List Bool) → in-way t a j ≡ false → (getD (note t a j o) c false || barred js) ≡ (getD o c false || barred (j ∷ js))
+    note-off : (j : ℕ) (js : List ℕ) (o : List Bool) → in-the-way t a j ≡ false → (getD (note t a j o) c false || barred js) ≡ (getD o c false || barred (j ∷ js))
     unfolding note keep
     note-off j js o h = rw h
 
-    note-here : (j : ℕ) (js : List ℕ) (o : List Bool) → owner (lock t j) < length o → in-way t a j ≡ true → owner (lock t j) ≡ c →
+    note-here : (j : ℕ) (js : List ℕ) (o : List Bool) → owner (lock t j) < length o → in-the-way t a j ≡ true → owner (lock t j) ≡ c →
         (getD (note t a j o) c false || barred js) ≡ (getD o c false || barred (j ∷ js))
     unfolding note keep any
     note-here j js o l h e =
         rw (h, eq-eqb (owner (lock t j)) c e, e, getD-set-same o c true false (rw e at l)) (sym (or-right (getD o c false) true refl))
 
-    note-past : (j : ℕ) (js : List ℕ) (o : List Bool) → in-way t a j ≡ true → owner (lock t j) ≢ c →
+    note-past : (j : ℕ) (js : List ℕ) (o : List Bool) → in-the-way t a j ≡ true → owner (lock t j) ≢ c →
         (getD (note t a j o) c false || barred js) ≡ (getD o c false || barred (j ∷ js))
     unfolding note keep any
     note-past j js o h e =
@@ -56,6 +55,6 @@ module _ (t : Tables) (a : ℕ) where
     notes-at [] o few = unfold keep any in sym (or-false (getD o c false))
     notes-at (j ∷ js) o few =
         notes-at js (note t a j o) (λ i. rw (length-note j o) (few i))
-        ∙ by-cases (in-way t a j)
+        ∙ by-cases (in-the-way t a j)
         (λ h. by-equal (owner (lock t j)) c (λ e. note-here j js o (few j) h e) (λ e. note-past j js o h e))
         (λ h. note-off j js o h)

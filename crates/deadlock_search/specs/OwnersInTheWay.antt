@@ -7,13 +7,13 @@ use lib.ListN.{getD, set, length}
 use lib.Dec.{eqb}
 use Rattle.tables.specs.Lists.{any}
 use Rattle.tables.specs.State.{Tables, lock}
-use Rattle.rules.specs.Deadlock.{obstacles, owner}
+use Rattle.rules.specs.Deadlock.{in-the-way, obstacles, owner}
 use Rattle.deadlock_graph.specs.Contracts.{seen}
-use Rattle.deadlock_graph.specs.Owners.{in-way, owner-places}
+use Rattle.deadlock_graph.specs.Owners.{owner-places}
 
 -- the owner of j is written down if j is in a's way; the same for each lock of a list
 unfoldable pub note : Tables → ℕ → ℕ → List Bool → List Bool
-note t a j o = cond (in-way t a j) (set o (owner (lock t j)) true) o
+note t a j o = cond (in-the-way t a j) (set o (owner (lock t j)) true) o
 
 unfoldable pub note-all : Tables → ℕ → List ℕ → List Bool → List Bool
 unfolding note

@@ -1,6 +1,6 @@
 // Breaking deadlocks: the first blocked lock that leads back to itself, found in the lent words.
 use deadlock_graph::OWNER_PLACES;
-use deadlock_graph::in_way;
+use deadlock_graph::in_the_way;
 use deadlock_graph::owner_of;
 use deadlock_prune::clear_all;
 use table_fields::BLOCKED;
@@ -44,7 +44,7 @@ fn note_owner(words: &[u32], a: u32, j: u32, owners: &mut [bool])
     requires { ⌜ length (now owners) ≡ owner-places ⌝ }
     ensures { λ _. ⌜ now (owners .exit) ≡ note (seen (now (words .entry))) a j (now (owners .entry)) ⌝ }
 {
-    if !in_way(words, a, j) {
+    if !in_the_way(words, a, j) {
         return;
     }
     let owner = owner_of(words, j);

@@ -36,6 +36,7 @@ module _ (k j : ℕ) (t : Tables) where
   told-none h = rw (h, tell)
 
   pub way-markable : Tellable k j t → in-the-way t k j ≡ true → Markable j (lock t k .asked) t
+  unfolding in-the-way
   way-markable p h =
       record {
         core = p .core;
@@ -73,6 +74,7 @@ module _ (k j : ℕ) (t : Tables) where
 
     -- the same locks are in the way
     tell-way : (i : ℕ) → in-the-way (tell k j t) k i ≡ in-the-way t k i
+    unfolding in-the-way
     tell-way i =
         ap₂ (λ (h a : ℕ). not (eqb i k) && not (compatible h a)) (tell-field (λ (l : Lock). l .held) (λ e a l. refl) i) (tell-field (λ (l : Lock). l .asked) (λ e a l. refl) k)
 

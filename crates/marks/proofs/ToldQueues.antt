@@ -28,7 +28,6 @@ use Rattle.table_chains.specs.Walking.{At, Walking}
 use Rattle.table_chains.proofs.ChainWalks.{walk-ends, walk-splits, walk-goes, walk-on, walk-low, walk-high, queue-present, chain-begins, queue-onward}
 use Rattle.table_chains.proofs.ChainCells.{kept-trans}
 use Rattle.deadlock_graph.specs.Contracts.{seen}
-use Rattle.deadlock_graph.specs.Owners.{in-way}
 use Rattle.deadlock_graph.proofs.SameVictim.{alike}
 use Rattle.deadlock_graph.proofs.LineAhead.{line-has}
 use Rattle.marks.specs.Telling.{tell, tell-each, notices-end}
@@ -58,9 +57,9 @@ module _ (k j : ℕ) (a : List ℕ) where
     pub tell-high : k ≤ locks-in a
     tell-high = tell-waits .high
 
-  module _ (x : Bool) (ex : x ≡ in-way (seen a) k j) where
+  module _ (x : Bool) (ex : x ≡ in-the-way (seen a) k j) where
     way-is : (t : Tables) → Core t → a ≡ words t → x ≡ in-the-way t k j
-    unfolding in-way
+    unfolding in-the-way
     way-is t core is = let same = alike t core a is in ex ∙ rw (same .locks j, same .locks k)
 
     pub tell-none : not x ≡ true → Turns (Tellable k j) (tell k j) a a

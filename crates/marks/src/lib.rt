@@ -1,6 +1,6 @@
 // When a lock begins to wait, each lock that is in its way is told: it gets a mark, and a place on the notice chain if it
 // has none there. The end of the notice chain is looked for once, and each lock that joins is the next end.
-use deadlock_graph::in_way;
+use deadlock_graph::in_the_way;
 use table_fields::LOCK_ASKED;
 use table_fields::LOCK_NEXT;
 use table_fields::LOCK_NEXT_NOTICE;
@@ -69,7 +69,7 @@ fn tell(words: &mut [u32], k: u32, j: u32, end: usize) -> usize
     ensures { λ x. ⌜ x ≡ notices-end (now (words .exit)) ⌝ }
     ensures { λ _. ⌜ Kept (now (words .entry)) (now (words .exit)) ⌝ }
 {
-    if !in_way(words, k, j) {
+    if !in_the_way(words, k, j) {
         return end;
     }
     let mode = lock_word(words, k, LOCK_ASKED);

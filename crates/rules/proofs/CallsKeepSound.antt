@@ -116,7 +116,7 @@ pub noticed-holds : (u : ℕ → Bool) (l : Lock) (s : ℕ) → l .state ≡ s �
 noticed-holds u l zero q ok h b = clash (noticed l) h (rw ok)
 noticed-holds u l (suc zero) q ok h b = rw q
 noticed-holds u l (suc (suc zero)) q ok h b = rw q
-noticed-holds u l (suc (suc (suc zero))) q ok h b = clash (noticed l) h (rw (ok .notice, ok .unmarked))
+noticed-holds u l (suc (suc (suc zero))) q ok h b = clash (noticed l) h (rw (ok .notice, ok .no-mark))
 noticed-holds u l (suc (suc (suc (suc zero)))) q ok h b = absurd (b (ok .notice))
 noticed-holds u l (suc (suc (suc (suc (suc n))))) q ok h b = absurd ok
 
@@ -147,7 +147,7 @@ pub denied-ok : (u : ℕ → Bool) (l : Lock) → LockOk u l → waiting l ≡ t
 denied-ok u l ok w =
     let o = ok-at u l 3 ok w in
     let p = o .place in
-    as-denied refl (record { client-low = p .client-low; client-high = p .client-high; nowhere = refl; holds = refl; asks = refl; notice = refl; unmarked = o .unmarked })
+    as-denied refl (record { client-low = p .client-low; client-high = p .client-high; nowhere = refl; holds = refl; asks = refl; notice = refl; no-mark = o .no-mark })
 
 deny-after : (k : ℕ) (t : Tables) → Valid t → blocked-lock (lock t k) ≡ true → After t (deny k t) (t .free-locks)
 unfolding deny

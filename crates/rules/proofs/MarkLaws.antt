@@ -154,6 +154,7 @@ module _ (t : Tables) (c : Core t) (k : ℕ) where
       (λ b. omega (arith, rw b at e))
 
   pub keeps-out-way : (j : ℕ) → 1 ≤ count j (holders t r) → keeps-out r k m j (lock t j) ≡ in-the-way t k j
+  unfolding in-the-way
   keeps-out-way j i = let h = in-holder t (c .linked) r j i in rw (h .0, eq-eqb (lock t j .resource) r (h .1))
 
   obstacle-keeps : (j : ℕ) → keeps-out r k m j (lock t j) ≡ true → (holds (lock t j) ≡ true) × (count j (obstacles t k) ≡ 1)

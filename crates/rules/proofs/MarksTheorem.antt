@@ -117,6 +117,7 @@ module _ (t : Tables) (r k m : ℕ) (l : Lock) (w : within (length (t .locks)) k
       (λ n. let o = lock-other r k l t j n in rw (tell-not t1 c1 k j (rw (at-r, for-m, o) h)) (rw o))
 
   positive : (j : ℕ) → 1 ≤ count j (obstacles t1 k) → 1 ≤ lock t1 k .asked
+  unfolding in-the-way
   positive j i =
       let o = obstacle-in t1 k j i in
       let p = holder-place (used t1) (lock t1 j) (c1 .lock-ok j) (in-holder t1 (c1 .linked) (lock t1 k .resource) j (o .0) .0) in

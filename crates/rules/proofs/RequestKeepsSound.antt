@@ -89,7 +89,7 @@ module _ (t : Tables) (co : Core t) (r k c m : ℕ) (ks : List ℕ) (rest : (s :
         place = record { in-use = u; client-low = low; client-high = high; held-mode = omega arith; asked-mode = mode; mark-mode = omega arith };
         notice = refl;
         holds = refl;
-        unmarked = refl;
+        no-mark = refl;
       })
 
       fit : holds l ≡ true → Fits t r k 0

@@ -62,8 +62,8 @@ notice-small : (u : ℕ → Bool) (l : Lock) (s : ℕ) → StateOk u l s → (l 
 notice-small u l zero ok = (omega (arith, ap (λ (x : Lock). x .completion) ok), omega (arith, ap (λ (x : Lock). x .mark) ok))
 notice-small u l (suc zero) ok = (omega (arith, ok .notice), omega (arith, ok .place .mark-mode))
 notice-small u l (suc (suc zero)) ok = (omega (arith, ok .notice), omega (arith, ok .place .mark-mode))
-notice-small u l (suc (suc (suc zero))) ok = (omega (arith, ok .notice), omega (arith, ok .unmarked))
-notice-small u l (suc (suc (suc (suc zero)))) ok = (omega (arith, ok .notice), omega (arith, ok .unmarked))
+notice-small u l (suc (suc (suc zero))) ok = (omega (arith, ok .notice), omega (arith, ok .no-mark))
+notice-small u l (suc (suc (suc (suc zero)))) ok = (omega (arith, ok .notice), omega (arith, ok .no-mark))
 notice-small u l (suc (suc (suc (suc (suc n))))) ok = absurd ok
 
 convert-small : (k m f : ℕ) (v : List ℕ) (t : Tables) → Small (convert-change k m f v t .said)

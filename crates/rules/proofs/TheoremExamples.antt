@@ -12,7 +12,7 @@ use Rattle.tables.specs.Layout.{rows, sheet, by-address, words, slot, slots, fo
 use Rattle.tables.specs.Grants.{holders, fits, convert-grantable, admits, wait-grantable, grantable-head, no-grantable-head, empty}
 use Rattle.tables.specs.Sound.{sizes-right, zeros-right, resource-index, lock-index, indices-right, ends, chain-ends, chains-end, all-zero, free-resource-right, name-unique, used-resource-right, resource-right, stands-right, home-right, client-right, modes-right, on-resource, fields-right, lock-right, linked-right, holders-compatible, state-right, sound}
 use Rattle.rules.specs.Queues.{granted-lock, grant-lock, grant-while, grant-converts, grant-waits, sweep, free-lock, settle, find}
-use Rattle.rules.specs.Deadlock.{obstacles}
+use Rattle.rules.specs.Deadlock.{in-the-way, obstacles}
 use Rattle.rules.specs.Calls.{accepted, unless, refused-or, stores, spoils, no-queue, request-flags, convert-flags, name-right, value-right, own, strong, with-value, leave-value, larger, mark-lock, mark-locks, tell-obstacles, resource-for, with-resource, request-on, request-change, at-once, request-refusal, request, in-place, convert-change, convert-refusal, convert, cancel-change, cancel-refusal, cancel}
 use Rattle.rules.specs.Entries.{Lent, lent, lent-of, Call, to-cancel, written-back, if-sound, entry, call-entry}
 use Rattle.rules.specs.Bench.{requests-a, converts-to, NL, CR, EX}
@@ -109,5 +109,5 @@ conversion-taken-back = refl
 
 -- DEMAND 3 for these calls: they leave `three-left`, and their answers add up
 pub three-locks-hold : Demand three-locks (lent-of (started 1 3))
-unfolding lent-after-calls sum-of requests-accepted releases-accepted requests-cancelled locks-purged polled-denials in-use call-entry entry if-sound written-back started no-value lock resource shift shift-front relist move move-resource rows sheet by-address words slot slots follow read-chain read-lock slot-in read-resource read count remove all any keep first-that next same holders fits convert-grantable admits wait-grantable grantable-head no-grantable-head empty sizes-right zeros-right resource-index lock-index indices-right ends chain-ends chains-end all-zero free-resource-right name-unique used-resource-right resource-right stands-right home-right client-right modes-right on-resource fields-right lock-right linked-right holders-compatible state-right sound granted-lock grant-lock grant-while grant-converts grant-waits sweep free-lock settle find unless refused-or stores spoils no-queue request-flags convert-flags name-right value-right own strong with-value leave-value obstacles larger mark-lock mark-locks tell-obstacles resource-for with-resource request-on request-change at-once request-refusal request in-place convert-change convert-refusal convert cancel-change cancel-refusal cancel matrix compatible all-modes down
+unfolding lent-after-calls sum-of requests-accepted releases-accepted requests-cancelled locks-purged polled-denials in-use call-entry entry if-sound written-back started no-value lock resource shift shift-front relist move move-resource rows sheet by-address words slot slots follow read-chain read-lock slot-in read-resource read count remove all any keep first-that next same holders fits convert-grantable admits wait-grantable grantable-head no-grantable-head empty sizes-right zeros-right resource-index lock-index indices-right ends chain-ends chains-end all-zero free-resource-right name-unique used-resource-right resource-right stands-right home-right client-right modes-right on-resource fields-right lock-right linked-right holders-compatible state-right sound granted-lock grant-lock grant-while grant-converts grant-waits sweep free-lock settle find unless refused-or stores spoils no-queue request-flags convert-flags name-right value-right own strong with-value leave-value in-the-way obstacles larger mark-lock mark-locks tell-obstacles resource-for with-resource request-on request-change at-once request-refusal request in-place convert-change convert-refusal convert cancel-change cancel-refusal cancel matrix compatible all-modes down
 three-locks-hold = record { queues = three-hold; balance = refl }

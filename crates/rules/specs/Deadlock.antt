@@ -26,7 +26,7 @@ ahead t a =
     cond (waiting (lock t a)) (x .convert ++ before a (x .wait)) (before a (x .convert))
 
 -- "any lock other than a whose held mode there is incompatible with a's asked mode"
-abbrev pub in-the-way : Tables → ℕ → ℕ → Bool
+unfoldable pub in-the-way : Tables → ℕ → ℕ → Bool
 in-the-way t a j = not (eqb j a) && not (compatible (lock t j .held) (lock t a .asked))
 
 unfoldable pub obstacles : Tables → ℕ → List ℕ

@@ -92,7 +92,7 @@ fields-are t l (suc (suc (suc zero))) e h =
       place = place-is t l (search parts depth 20) (search parts depth 20) (search parts depth 20);
       notice = eqb-true (l .completion) 0 (search parts depth 20);
       holds = eqb-true (l .held) 0 (search parts depth 20);
-      unmarked = eqb-true (l .mark) 0 (search parts depth 20);
+      no-mark = eqb-true (l .mark) 0 (search parts depth 20);
     }
 fields-are t l (suc (suc (suc (suc zero)))) e h =
     let c = client-is (l .client) (search parts depth 20) in
@@ -103,7 +103,7 @@ fields-are t l (suc (suc (suc (suc zero)))) e h =
       holds = eqb-true (l .held) 0 (search parts depth 20);
       asks = eqb-true (l .asked) 0 (search parts depth 20);
       notice = eqb-true (l .completion) 2 (search parts depth 20);
-      unmarked = eqb-true (l .mark) 0 (search parts depth 20);
+      no-mark = eqb-true (l .mark) 0 (search parts depth 20);
     }
 fields-are t l (suc (suc (suc (suc (suc n))))) e h =
     let s = suc (suc (suc (suc (suc n)))) in

@@ -216,7 +216,7 @@ pub ok-map : (u v : ℕ → Bool) (l : Lock) → (u (l .resource) ≡ true → v
 ok-map u v l h (as-free e) = as-free e
 ok-map u v l h (as-granted s ok) = as-granted s (record { place = place-map u v l h (ok .place); asks = ok .asks; notice = ok .notice; not-denied = ok .not-denied })
 ok-map u v l h (as-converting s ok) = as-converting s (record { place = place-map u v l h (ok .place); notice = ok .notice })
-ok-map u v l h (as-waiting s ok) = as-waiting s (record { place = place-map u v l h (ok .place); notice = ok .notice; holds = ok .holds; unmarked = ok .unmarked })
+ok-map u v l h (as-waiting s ok) = as-waiting s (record { place = place-map u v l h (ok .place); notice = ok .notice; holds = ok .holds; no-mark = ok .no-mark })
 ok-map u v l h (as-denied s ok) = as-denied s ok
 
 same-resource-ok : (x y : Resource) → y .name ≡ x .name → y .value ≡ x .value → y .valid ≡ x .valid → ResourceOk x → ResourceOk y

@@ -37,7 +37,7 @@ pub record Waiting (u : ℕ → Bool) (l : Lock) : Type 0 where
   pub place : Place u l
   pub notice : l .completion ≡ completion-none
   pub holds : l .held ≡ 0
-  pub unmarked : l .mark ≡ mark-none
+  pub no-mark : l .mark ≡ mark-none
 
 pub record Denied (l : Lock) : Type 0 where
   pub client-low : 1 ≤ l .client
@@ -46,7 +46,7 @@ pub record Denied (l : Lock) : Type 0 where
   pub holds : l .held ≡ 0
   pub asks : l .asked ≡ 0
   pub notice : l .completion ≡ completion-denied
-  pub unmarked : l .mark ≡ mark-none
+  pub no-mark : l .mark ≡ mark-none
 
 -- a lock is in one of the five states, and has that state's fields
 pub data LockOk (u : ℕ → Bool) (l : Lock) : Type 0 where
