@@ -45,9 +45,8 @@
  *      read, sound                       constant
  *      poll, list                        linear in L
  *      start, image, load                linear in R and L
- *      holder, request that is granted   linear in R and L: each name is compared with the one given
- *      request that waits                linear in R, quadratic in L: linear for each lock that gets a mark
- *      convert, release, cancel, purge   quadratic in L: linear for each lock that gets a mark, is freed or is granted
+ *      request, holder                   linear in R and L: each name is compared with the one given
+ *      convert, release, cancel, purge   quadratic in L: linear for each lock that is freed or granted
  *      break                             cubic in L: a search from each blocked lock over all blocked locks, and their holders
  *
  * Measured with R 256 and L 1,024 on one machine: most calls take 5 to 10 us. At worst, names that look alike add 30 us, a release that grants 1,023
