@@ -49,8 +49,8 @@
  *      convert, release, cancel, purge   quadratic in L: linear for each lock that is freed or granted
  *      break                             cubic in L: a search from each blocked lock over all blocked locks, and their holders
  *
- * Measured with R 256 and L 1,024 on one machine: most calls take 5 to 10 us. At worst, names that look alike add 30 us, a release that grants 1,023
- * locks takes 4 ms, and a break takes 1 s.
+ * Measured with R 256 and L 1,024 on one machine: most calls take 5 to 10 us. At worst, names that look alike add 30 us, a request with 1,022 locks in
+ * its way takes 20 us, a release that grants 1,023 locks takes 4 ms, and a break takes 1 s.
  */
 #ifndef ZAMGYORUD_H
 #define ZAMGYORUD_H

@@ -22,7 +22,7 @@ use Rattle.rules.specs.Calls.{mark-lock, tell-obstacles}
 use Rattle.rules.proofs.NoticesKeepSound.{holder-stands}
 use Rattle.table_fields.specs.Sizes.{Sized, Kept}
 use Rattle.table_fields.proofs.Laws.{kept-all}
-use Rattle.table_fields.proofs.StateWords.{core-sized, resources-is, locks-is, lock-record, lock-low, lock-high}
+use Rattle.table_fields.proofs.StateWords.{core-sized, resources-is, lock-record, lock-low, lock-high}
 use Rattle.table_chains.specs.Contracts.{Some, Turns, Resourced}
 use Rattle.table_chains.specs.Walking.{At, Walking}
 use Rattle.table_chains.proofs.ChainWalks.{walk-ends, walk-splits, walk-goes, walk-on, walk-low, walk-high, queue-present, chain-begins, queue-onward}
@@ -38,15 +38,19 @@ use Rattle.marks.proofs.ToldLocks.{told-one, told-none, way-markable, t
 -- tell
 module _ (k j : ℕ) (a : List ℕ) where
   module _ (s : Some (Tellable k j) a) where
+    stands : (i : ℕ) → within (length (s .state .locks)) i ≡ true → At a i
+    stands i w =
+        record {
+          some = record { state = s .state; good = s .good .core; is = s .is };
+          low = lock-low (s .state) a (s .is) i w;
+          high = lock-high (s .state) a (s .is) i w;
+        }
+
     pub tell-waits : At a k
-    tell-waits =
-        let w = within-le (length (s .state .locks)) k (s .good .in-range) in
-        record { some = record { state = s .state; good = s .good .core; is = s .is }; low = w .0; high = rw (locks-is (s .state) a (s .is)) (w .1) }
+    tell-waits = stands k (s .good .in-range)
 
     pub tell-holds : At a j
-    tell-holds =
-        let w = within-le (length (s .state .locks)) j (holder-stands (s .state) j (s .good .holder) .0) in
-        record { some = record { state = s .state; good = s .good .core; is = s .is }; low = w .0; high = rw (locks-is (s .state) a (s .is)) (w .1) }
+    tell-holds = stands j (holder-stands (s .state) j (s .good .holder) .0)
 
     pub tell-sized : Sized a
     tell-sized = core-sized (s .state) a (s .is) (s .good .core)

@@ -93,7 +93,7 @@ fn tell_each(words: &mut [u32], k: u32, first: u32, end: usize) -> usize
     last
 }
 
-// The last cell of the notice chain: it holds 0.
+// Where the last cell of the notice chain is, which holds 0.
 fn notices_end(words: &[u32]) -> usize
     requires { ⌜ Some Core (now words) ⌝ }
     ensures { λ x. ⌜ x ≡ notices-end (now (words .entry)) ⌝ }
