@@ -74,7 +74,7 @@ broken (broken-cases.Denied k) = denial k
 broken broken-cases.NoDeadlock = accepted 0 0
 broken (broken-cases.Refused n) = refused-with n
 
--- "A mark alone is completion 0 with the lock. None is lock 0."
+-- a mark alone: no completion, and the lock, which tells it from no notice. Locks are numbered from 1.
 abbrev pub mark-alone : ℕ → ℕ → Said
 mark-alone zero m = never
 mark-alone (suc k) m = notified completion-none (suc k) m

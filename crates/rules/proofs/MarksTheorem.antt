@@ -412,8 +412,9 @@ module _ (c : Call) (t : Tables) (val : Valid t) where
       (λ h. omega (arith, sm .waited q .others j h)))
       (λ q. omega (arith, sm .calm q j p n)))
 
-  answered-words : (j : ℕ) → IsLock (words t) j → answers-lock c (s .said) j ≡ true → (c ≡ to-poll (read-lock (words t) j .client)) × (s .said .extra ≡ read-lock (words t) j .mark)
-  answered-words j i p = let a = sm .answered j (i .low) p in rw (before j i) (a .0, a .1)
+  answered-words : (j : ℕ) → IsLock (words t) j → answers-lock c (s .said) j ≡ true →
+      (c ≡ to-poll (read-lock (words t) j .client)) × (s .said .extra ≡ read-lock (words t) j .mark) × (read-lock (words (s .tables)) j .mark ≡ 0)
+  answered-words j i p = rw (before j i, then j i) (sm .answered j (i .low) p)
 
   valid-marks : MarksRight c (lent-of t) (call-entry c (lent-of t))
   valid-marks =

@@ -80,9 +80,9 @@ pub record MarksRight (c : Call) (t : Lent) (o : Outcome) : Type 0 where
   -- (2) a mark lasts: a lock that no poll answers, and that is not free after the call, has the mark that it had, or a larger one
   pub lasts : (j : ℕ) → IsLock (t .words) j → answers-lock c (o .said) j ≡ false → lock-after o j .state ≢ state-free →
       lock-before t j .mark ≤ lock-after o j .mark
-  -- and a poll that answers a lock is its client's, and says its mark
+  -- and a poll that answers a lock is its client's, says its mark, and clears it
   pub answered : (j : ℕ) → IsLock (t .words) j → answers-lock c (o .said) j ≡ true →
-      (c ≡ to-poll (lock-before t j .client)) × (o .said .extra ≡ lock-before t j .mark)
+      (c ≡ to-poll (lock-before t j .client)) × (o .said .extra ≡ lock-before t j .mark) × (lock-after o j .mark ≡ mark-none)
 
 -- THE MARKS THEOREM: it holds of every call after every list of calls on the tables that `start` leaves. So a mark that was set and is gone was answered
 -- by a poll of its lock's client, or its lock was freed. Proved as `marks-theorem`.

@@ -95,7 +95,8 @@ home-right t k =
     stands-right t free-locks k && stands-right t denied k
     && all (λ r. stands-right t (queue r grants) k && stands-right t (queue r converts) k && stands-right t (queue r waits) k) (from 1 (length (t .resources)))
 
--- "Clients are 1 to 255, modes 0 to 5", a mark "at most 5", and a lock on a resource's chain has a resource that is in use (one chain has it, and none of a free one)
+-- "Clients are 1 to 255, modes 0 to 5", a mark "at most 5", and a lock on a resource's chain has a resource that is in use (one chain has it, and
+-- none of a free one)
 unfoldable pub client-right : ℕ → Bool
 client-right c = leb 1 c && leb c last-client
 
@@ -129,8 +130,8 @@ unfoldable pub lock-right : Tables → ℕ → Bool
 unfolding home-right fields-right
 lock-right t k = home-right t k && fields-right t (lock t k) (lock t k .state)
 
--- 4. "The blocked chain has exactly the converting and waiting locks, once each; the notice chain exactly those with a completion" or a mark; "a lock off one
--- of these has zero as its link there." (A free lock's three links: "all but home next zero".)
+-- 4. "The blocked chain has exactly the converting and waiting locks, once each; the notice chain exactly those with a completion" or a mark; "a
+-- lock off one of these has zero as its link there." (A free lock's three links: "all but home next zero".)
 unfoldable pub linked-right : List ℕ → Tables → LockChain → ℕ → Bool
 unfolding stands-right
 linked-right ws t c k = stands-right t c k && (belongs c (lock t k) || eqb (link-in ws (of-locks c) k) 0)
