@@ -19,6 +19,10 @@
  *
  * So modes can't be compared by their numbers: PR has a larger one than CW, and the two exclude each other.
  *
+ * Order. A new request is granted at once if no conversion and no request waits on its name and its mode is compatible with every mode held there.
+ * NL, which is compatible with every mode, passes waiting requests: it has to wait only where a conversion does. Requests that wait on one name are
+ * granted in the order in which they came, so readers that keep coming can't keep a writer waiting. Conversions go before all of them.
+ *
  * Waiting. A request or conversion that has to wait says so and returns. Convert, release, cancel, purge and break can grant it later, whoever
  * makes them, and break can deny it because of a deadlock. Poll tells how the wait has ended: its completion. A completion is polled before its
  * lock is used again: until then convert, release and cancel of this lock are refused with ZAMGYORUD_REFUSAL_UNREAD.
@@ -63,9 +67,9 @@ extern "C" {
 #endif
 
 /* The version of this header and of the library that comes with it. */
-#define ZAMGYORUD_VERSION "0.3.0"
+#define ZAMGYORUD_VERSION "0.4.0"
 #define ZAMGYORUD_VERSION_MAJOR 0
-#define ZAMGYORUD_VERSION_MINOR 3
+#define ZAMGYORUD_VERSION_MINOR 4
 #define ZAMGYORUD_VERSION_PATCH 0
 
 /* The most that R, L and a client's number can be; the most bytes of a name; the bytes of a value. */
@@ -102,7 +106,7 @@ extern "C" {
  * are ignored where it holds another mode, or is converted to the same or a larger one. */
 #define ZAMGYORUD_FLAG_STORE_VALUE 1      /* convert, release: the value is stored and becomes valid */
 #define ZAMGYORUD_FLAG_INVALIDATE_VALUE 2 /* convert, release: the value becomes not valid; its bytes stay */
-#define ZAMGYORUD_FLAG_NO_QUEUE 4         /* request, convert: refused, with ZAMGYORUD_REFUSAL_BLOCKS, if it would have to wait */
+#define ZAMGYORUD_FLAG_NO_QUEUE 4         /* request, convert: refused, with ZAMGYORUD_REFUSAL_BLOCKS, exactly where it would wait without this flag */
 
 /* Refusals. The first that fits is answered. */
 #define ZAMGYORUD_REFUSAL_UNSOUND 1      /* the tables aren't sound, or the image isn't that of sound tables */
@@ -117,7 +121,7 @@ extern "C" {
 #define ZAMGYORUD_REFUSAL_STATE 10       /* the lock isn't in a state for this call */
 #define ZAMGYORUD_REFUSAL_NO_RESOURCE 11 /* the name is new and no resource record is free */
 #define ZAMGYORUD_REFUSAL_NO_LOCK 12     /* no lock record is free */
-#define ZAMGYORUD_REFUSAL_BLOCKS 13      /* it would have to wait, and flag 4 says not to queue it */
+#define ZAMGYORUD_REFUSAL_BLOCKS 13      /* it would have to wait, be it only because others do, and flag 4 says not to queue it */
 #define ZAMGYORUD_REFUSAL_LENGTHS 14     /* image's area or load's tables have the wrong length */
 
 /* Results of request and convert. */
@@ -251,7 +255,8 @@ static inline struct zamgyorud_answer zamgyorud_tables_start(const struct zamgyo
     return zamgyorud_start(tables->words, tables->words_len, tables->slots, tables->slots_len, resources, locks);
 }
 
-/* Asks for a lock of a mode on a name. Flags: 4. Result: granted or waiting. Lock: the new one. */
+/* Asks for a lock of a mode on a name. Where others wait it waits too, unless its mode is NL and no conversion waits. Flags: 4. Result: granted or
+ * waiting. Lock: the new one. */
 struct zamgyorud_answer zamgyorud_request(uint32_t *words, size_t words_len, uint8_t *slots, size_t slots_len, uint32_t client, uint32_t mode,
                                           uint32_t flags, const uint8_t *name, size_t name_len);
 
@@ -260,8 +265,8 @@ static inline struct zamgyorud_answer zamgyorud_tables_request(const struct zamg
     return zamgyorud_request(tables->words, tables->words_len, tables->slots, tables->slots_len, client, mode, flags, name, name_len);
 }
 
-/* Changes the mode of a granted lock, or has it wait for that and keep its mode meanwhile. Flags: 1, 2, 4. The value is looked at with flag 1 only.
- * Result: granted or waiting. */
+/* Changes the mode of a granted lock, or has it wait for that and keep its mode meanwhile. It goes before requests that wait. Flags: 1, 2, 4. The
+ * value is looked at with flag 1 only. Result: granted or waiting. */
 struct zamgyorud_answer zamgyorud_convert(uint32_t *words, size_t words_len, uint8_t *slots, size_t slots_len, uint32_t client, uint32_t lock,
                                           uint32_t mode, uint32_t flags, const uint8_t *value, size_t value_len);
 

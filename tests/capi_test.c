@@ -495,6 +495,103 @@ static void test_sound_marks(void)
     SAME(memory, other_memory, sizeof memory);
 }
 
+/* Conversions pass the request that waits: lock 1 holds PR, lock 2 NL, and lock 3 waits for EX. */
+static void test_conversions_first(void)
+{
+    start_afresh();
+    GIVES(request(1, ZAMGYORUD_MODE_PR, 0, "A"), 1, 1);
+    GIVES(request(2, ZAMGYORUD_MODE_NL, 0, "A"), 1, 2);
+    GIVES(request(3, ZAMGYORUD_MODE_EX, 0, "A"), 2, 3);
+    GIVES(zamgyorud_tables_convert(&tables, 2, 2, ZAMGYORUD_MODE_PR, ZAMGYORUD_FLAG_NO_QUEUE, NULL, 0), 1, 0);
+
+    /* one that has to wait goes before it too */
+    GIVES(convert(2, 2, ZAMGYORUD_MODE_EX), 2, 0);
+    GIVES(release(1, 1, 0), 0, 0);
+    TELLS(2, ZAMGYORUD_COMPLETION_GRANTED, 2, 0);
+    TELLS(3, 0, 0, 0);
+    GIVES(zamgyorud_tables_purge(&tables, 2), 1, 0);
+    TELLS(3, ZAMGYORUD_COMPLETION_GRANTED, 3, 0);
+}
+
+/* A request is in the way of new ones. Lock 1 holds CR, which goes with all modes but EX, and lock 2 waits for EX: so the wait chain alone keeps the
+ * others out. */
+static void test_behind_a_request(void)
+{
+    start_afresh();
+    GIVES(request(1, ZAMGYORUD_MODE_CR, 0, "A"), 1, 1);
+    GIVES(request(2, ZAMGYORUD_MODE_EX, 0, "A"), 2, 2);
+    TELLS(1, 0, 1, ZAMGYORUD_MODE_EX);
+    keep();
+    for (uint32_t client = 1; client <= 3; client++) /* the holder, the one that waits, another */
+        for (uint32_t mode = ZAMGYORUD_MODE_CR; mode <= ZAMGYORUD_MODE_PW; mode++)
+            REFUSES(request(client, mode, ZAMGYORUD_FLAG_NO_QUEUE, "A"), 13);
+    unchanged();
+
+    /* NL passes, with flag 4 and without */
+    GIVES(request(3, ZAMGYORUD_MODE_NL, ZAMGYORUD_FLAG_NO_QUEUE, "A"), 1, 3);
+    GIVES(release(3, 3, 0), 0, 0);
+    GIVES(request(3, ZAMGYORUD_MODE_NL, 0, "A"), 1, 3);
+
+    /* another name has queues of its own */
+    GIVES(request(3, ZAMGYORUD_MODE_PR, 0, "B"), 1, 4);
+    GIVES(request(4, ZAMGYORUD_MODE_PR, ZAMGYORUD_FLAG_NO_QUEUE, "B"), 1, 5);
+
+    /* PR, PW and PR queue up, and mark nobody: no held mode is in their way */
+    GIVES(request(4, ZAMGYORUD_MODE_PR, 0, "A"), 2, 6);
+    GIVES(request(5, ZAMGYORUD_MODE_PW, 0, "A"), 2, 7);
+    GIVES(request(6, ZAMGYORUD_MODE_PR, 0, "A"), 2, 8);
+    TELLS(1, 0, 0, 0);
+
+    /* granted in turn: EX; then PR, and not the other PR, which fits but stands behind PW; then that, after PW has left the queue */
+    GIVES(release(1, 1, 0), 0, 0);
+    TELLS(2, ZAMGYORUD_COMPLETION_GRANTED, 2, 0);
+    TELLS(4, 0, 0, 0);
+    GIVES(release(2, 2, 0), 0, 0);
+    TELLS(4, ZAMGYORUD_COMPLETION_GRANTED, 6, 0);
+    TELLS(5, 0, 0, 0);
+    TELLS(6, 0, 0, 0);
+    REFUSES(request(7, ZAMGYORUD_MODE_PR, ZAMGYORUD_FLAG_NO_QUEUE, "A"), 13);
+    REFUSES(request(7, ZAMGYORUD_MODE_CR, ZAMGYORUD_FLAG_NO_QUEUE, "A"), 13); /* it would go with the one that waits too */
+    GIVES(zamgyorud_tables_cancel(&tables, 5, 7), ZAMGYORUD_CANCELLED_REQUEST, 0);
+    TELLS(6, ZAMGYORUD_COMPLETION_GRANTED, 8, 0);
+
+    /* nobody waits any more */
+    GIVES(request(7, ZAMGYORUD_MODE_PR, ZAMGYORUD_FLAG_NO_QUEUE, "A"), 1, 7);
+}
+
+/* A conversion is in the way of all new requests, NL too. No request waits, and NL and CR fit the two PR that are held: so the convert chain alone
+ * keeps them out. */
+static void test_behind_a_conversion(void)
+{
+    start_afresh();
+    GIVES(request(1, ZAMGYORUD_MODE_PR, 0, "A"), 1, 1);
+    GIVES(request(2, ZAMGYORUD_MODE_PR, 0, "A"), 1, 2);
+    GIVES(convert(1, 1, ZAMGYORUD_MODE_EX), 2, 0);
+    keep();
+    REFUSES(request(3, ZAMGYORUD_MODE_NL, ZAMGYORUD_FLAG_NO_QUEUE, "A"), 13);
+    REFUSES(request(3, ZAMGYORUD_MODE_CR, ZAMGYORUD_FLAG_NO_QUEUE, "A"), 13);
+    unchanged();
+    GIVES(request(3, ZAMGYORUD_MODE_NL, 0, "A"), 2, 3);
+    GIVES(request(4, ZAMGYORUD_MODE_CR, 0, "A"), 2, 4);
+    GIVES(zamgyorud_tables_cancel(&tables, 1, 1), ZAMGYORUD_CANCELLED_CONVERSION, 0);
+    TELLS(3, ZAMGYORUD_COMPLETION_GRANTED, 3, 0);
+    TELLS(4, ZAMGYORUD_COMPLETION_GRANTED, 4, 0);
+}
+
+/* A client that holds PR asks for PR once more, behind a request that waits for its first lock: each of the two that wait leads to the other. */
+static void test_deadlock_behind_a_request(void)
+{
+    start_afresh();
+    GIVES(request(1, ZAMGYORUD_MODE_PR, 0, "A"), 1, 1);
+    GIVES(request(2, ZAMGYORUD_MODE_EX, 0, "A"), 2, 2);
+    GIVES(zamgyorud_tables_break(&tables), 0, 0);
+    GIVES(request(1, ZAMGYORUD_MODE_PR, 0, "A"), 2, 3);
+    GIVES(zamgyorud_tables_break(&tables), 2, 2);
+    TELLS(2, ZAMGYORUD_COMPLETION_REQUEST_DENIED, 2, 0);
+    TELLS(1, 0, 1, ZAMGYORUD_MODE_EX);
+    TELLS(1, ZAMGYORUD_COMPLETION_GRANTED, 3, 0);
+}
+
 /* Tables that aren't sound: each call but start and load is refused with 1, and nothing changes. */
 static void test_unsound(void)
 {
@@ -557,6 +654,10 @@ int main(void)
     test_marks();
     test_converting_marks();
     test_sound_marks();
+    test_conversions_first();
+    test_behind_a_request();
+    test_behind_a_conversion();
+    test_deadlock_behind_a_request();
     test_unsound();
     test_nothing_lent();
     if (failed != 0) {

@@ -10,14 +10,13 @@ use borrow.Author.Tests.{eqb-true, eqb-false, eq-eqb, ne-eqb, not-false}
 use Rattle.tables.specs.Lists.{within, null, from}
 use Rattle.tables.specs.State.{Tables, free-locks}
 use Rattle.tables.specs.Layout.{of-header, words}
-use Rattle.tables.specs.Grants.{admits}
 use Rattle.tables.proofs.Cases.{by-cases, and-left, and-right, or-right, nor-left, nor-right}
 use Rattle.tables.proofs.Counts.{count-from, bit-one, first-in}
 use Rattle.tables.proofs.Links.{next-here}
 use Rattle.tables.proofs.WordChanges.{read-word}
 use Rattle.tables.specs.Validity.{Core}
 use Rattle.rules.specs.Queues.{find}
-use Rattle.rules.specs.Calls.{unless, no-queue, at-once}
+use Rattle.rules.specs.Calls.{unless, no-queue, granted-at-once, at-once}
 use Rattle.table_fields.proofs.StateWords.{core-sized}
 use Rattle.table_chains.specs.Contracts.{Some, Tells, Resourced}
 use Rattle.queues.proofs.QueueReads.{null-first}
@@ -35,13 +34,13 @@ free-null t g ws is =
     ap (λ (x : ℕ). eqb x 0) (ap (λ (w : List ℕ). getD w 3 0) is ∙ read-word t (of-header 3) (omega arith) ∙ next-here 0 0 (t .free-locks) refl)
     ∙ null-first (t .free-locks) (g .linked free-locks 0)
 
--- on a new name a request would be granted at once; on a known one as its resource admits it
+-- on a new name a request would be granted at once; on a known one as its resource's queues say
 new-at-once : (r m : ℕ) (t : Tables) → r ≡ 0 → at-once r m t ≡ true
 unfolding at-once
 new-at-once zero m t e = refl
 new-at-once (suc r) m t e = absurd (omega arith)
 
-known-at-once : (r m : ℕ) (t : Tables) → (r ≡ 0 → ⊥) → at-once r m t ≡ admits t r m
+known-at-once : (r m : ℕ) (t : Tables) → (r ≡ 0 → ⊥) → at-once r m t ≡ granted-at-once t r m
 unfolding at-once
 known-at-once zero m t z = absurd (z refl)
 known-at-once (suc r) m t z = refl
@@ -108,14 +107,14 @@ module _ (ws : List ℕ) (r : ℕ) where
           pub room-resourced : Some (ResourceOrNone r) ws → Some (Resourced r) ws
           room-resourced s = record { state = s .state; good = there (s .state) (s .good); is = s .is }
 
-          module _ (b : Bool) (eb : Tells (Resourced r) (λ t. admits t r m) ws b) where
-            admits-is : (t : Tables) → ResourceOrNone r t → ws ≡ words t → (not (no-queue f) || at-once r m t) ≡ b
-            admits-is t g is = rw (← eq, not-false q (nor-right (eqb r 0) (not q) only)) (known-at-once r m t known ∙ sym (eb .then t (there t g) is))
+          module _ (b : Bool) (eb : Tells (Resourced r) (λ t. granted-at-once t r m) ws b) where
+            at-once-is : (t : Tables) → ResourceOrNone r t → ws ≡ words t → (not (no-queue f) || at-once r m t) ≡ b
+            at-once-is t g is = rw (← eq, not-false q (nor-right (eqb r 0) (not q) only)) (known-at-once r m t known ∙ sym (eb .then t (there t g) is))
 
-            pub room-admits : b ≡ true → Tells (ResourceOrNone r) (room-refusal r m f) ws 0
+            pub room-at-once : b ≡ true → Tells (ResourceOrNone r) (room-refusal r m f) ws 0
             unfolding room-refusal unless
-            room-admits h = record { then = λ t g is. rw (room-is t (g .core) is, free-is t (g .core) is, admits-is t g is, h) }
+            room-at-once h = record { then = λ t g is. rw (room-is t (g .core) is, free-is t (g .core) is, at-once-is t g is, h) }
 
             pub room-blocks : b ≡ false → Tells (ResourceOrNone r) (room-refusal r m f) ws 13
             unfolding room-refusal unless
-            room-blocks h = record { then = λ t g is. rw (room-is t (g .core) is, free-is t (g .core) is, admits-is t g is, h) }
+            room-blocks h = record { then = λ t g is. rw (room-is t (g .core) is, free-is t (g .core) is, at-once-is t g is, h) }

@@ -202,7 +202,7 @@ fn room_refusal(words: &[u32], found: u32, mode: u32, flags: u32) -> u32
     if (found == 0) | !flags::no_queue(flags) {
         return 0;
     }
-    if queues::admits(words, found, mode) {
+    if queues::granted_at_once(words, found, mode) {
         return 0;
     }
     BLOCKS

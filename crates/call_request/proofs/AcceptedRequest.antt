@@ -8,18 +8,18 @@ use lib.ListN.{length}
 use borrow.Author.Needs.{needs}
 use borrow.Author.Tests.{not-true}
 use Rattle.tables.specs.Lists.{within, first, null}
-use Rattle.tables.specs.State.{Tables, no-lock, lock, move-resource, free-locks}
+use Rattle.tables.specs.State.{Tables, no-lock, lock, move-resource}
 use Rattle.tables.specs.Layout.{of-header, words, slots, word-in}
 use Rattle.tables.proofs.Links.{next-here}
 use Rattle.tables.proofs.ReadBack.{word-read}
-use Rattle.tables.proofs.ChainMembers.{on-chain}
+use Rattle.tables.proofs.ChainMembers.{on-free}
 use Rattle.tables.specs.Validity.{used}
-use Rattle.tables.proofs.Valid.{ok-at, used-within}
+use Rattle.tables.proofs.Valid.{used-within}
 use Rattle.rules.specs.Queues.{find}
 use Rattle.rules.specs.Calls.{at-once, new-resource, resource-for, with-resource, request-on, request-change}
 use Rattle.rules.specs.declared.Said.{Said}
 use Rattle.rules.specs.Accepted.{Requestable}
-use Rattle.rules.proofs.RequestKeepsSound.{found, first-member, new-admits}
+use Rattle.rules.proofs.RequestKeepsSound.{found, first-member, new-at-once}
 use Rattle.rules.proofs.ResourceChanges.{lock-kept, used-changed}
 use Rattle.table_fields.specs.Sizes.{Sized}
 use Rattle.table_fields.proofs.StateWords.{core-sized}
@@ -43,10 +43,7 @@ module _ (c m f : ℕ) (n : List ℕ) (t : Tables) (p : Requestable c m f n t) w
   k = first (t .free-locks)
 
   its-place : (within (length (t .locks)) k ≡ true) × (lock t k ≡ no-lock)
-  its-place =
-      let co = p .valid .core in
-      let o = on-chain t (co .linked) free-locks k (first-member (t .free-locks) (p .lock-left)) in
-      (o .0, ok-at (used t) (lock t k) 0 (co .lock-ok k) (o .1))
+  its-place = on-free t (p .valid .core) k (first-member (t .free-locks) (p .lock-left))
 
   -- on the state that has a resource of that name
   enters : Enters (resource-for (find n t) t) k c m f (with-resource (find n t) n t)
@@ -63,7 +60,7 @@ module _ (c m f : ℕ) (n : List ℕ) (t : Tables) (p : Requestable c m f n t) w
             asks = record {
               here = record { core = taken-core r n t h (p .some) e; in-range = used-within (move-resource r (new-resource n) t) r u };
               mode = p .mode;
-              unqueued = λ z. new-admits c m n t (p .valid) (p .client-low) (p .client-high) (p .mode) (p .some) (p .short) r e left;
+              unqueued = λ z. new-at-once c m n t (p .valid) (p .client-low) (p .client-high) (p .mode) (p .some) (p .short) r e left;
             };
             in-use = u;
             in-range = unfold move-resource in its-place .0;

@@ -8,12 +8,11 @@ use borrow.Author.Needs.{needs}
 use Rattle.tables.specs.declared.Lock.{Lock}
 use Rattle.tables.specs.State.{Tables, move}
 use Rattle.tables.specs.Layout.{words, slots}
-use Rattle.tables.specs.Grants.{admits}
 use Rattle.tables.proofs.Cases.{clash}
 use Rattle.tables.proofs.Valid.{lock-same, core-move}
 use Rattle.tables.proofs.SlotChanges.{slots-move}
 use Rattle.tables.specs.Validity.{used, LockOk, as-granted, as-waiting}
-use Rattle.rules.specs.Calls.{no-queue, tell-obstacles, holding, queued, request-on}
+use Rattle.rules.specs.Calls.{no-queue, tell-obstacles, granted-at-once, holding, queued, request-on}
 use Rattle.table_chains.specs.Contracts.{Some, Turns, Tells, Movable, Moving, Moved, Resourced}
 use Rattle.marks.specs.Contracts.{Begun}
 use Rattle.marks.proofs.ToldLocks.{told-slots}
@@ -23,12 +22,12 @@ use Rattle.answers.specs.Answers.{requested}
 use Rattle.answers.specs.Contracts.{MakesWords}
 use Rattle.call_request.specs.Contracts.{AsksOn, Enters}
 
--- admitted
+-- at_once
 module _ (r m f : ℕ) (a : List ℕ) where
-  pub asks-unqueued : (q : Bool) → q ≡ no-queue f → q ≡ true → Tells (AsksOn r m f) (λ t. admits t r m) a true
+  pub asks-unqueued : (q : Bool) → q ≡ no-queue f → q ≡ true → Tells (AsksOn r m f) (λ t. granted-at-once t r m) a true
   asks-unqueued q e h = record { then = λ t p is. sym (p .unqueued (sym e ∙ h)) }
 
-  pub asks-told : (x : Bool) → Tells (Resourced r) (λ t. admits t r m) a x → Tells (AsksOn r m f) (λ t. admits t r m) a x
+  pub asks-told : (x : Bool) → Tells (Resourced r) (λ t. granted-at-once t r m) a x → Tells (AsksOn r m f) (λ t. granted-at-once t r m) a x
   asks-told x told = record { then = λ t p is. told .then t (p .here) is }
 
 pub ruleset asks-laws = (needs, asks-unqueued, asks-told)
@@ -83,12 +82,12 @@ module _ (r k c m f : ℕ) where
         pub enter-begins : Some (Enters r k c m f) a → Some (Begun k) b
         enter-begins s = record { state = move r k (queued r c m) (s .state); good = queued-begun (s .state) (s .good); is = queued-is (s .state) (s .good) (s .is) }
 
-      module _ (x : Bool) (told : Tells (AsksOn r m f) (λ t. admits t r m) a x) where
+      module _ (x : Bool) (told : Tells (AsksOn r m f) (λ t. granted-at-once t r m) a x) where
         pub enter-grants : x ≡ true → l ≡ holding r c m → MakesWords (Enters r k c m f) (request-on r k c m) a b (requested (Granted k))
         unfolding request-on
         enter-grants q e = record {
           then = λ t p is.
-              let h : admits t r m ≡ true = sym (told .then t (p .asks) is) ∙ q in
+              let h : granted-at-once t r m ≡ true = sym (told .then t (p .asks) is) ∙ q in
               rw (h, request-on)
               (stepped _ 1 k (move r k (holding r c m) t) b (slots t) refl ((rw e at (moved .then r t)) (enters-held t p) is) (sym (slots-move r k (holding r c m) t)));
         }
@@ -97,7 +96,7 @@ module _ (r k c m f : ℕ) where
         unfolding request-on
         enter-waits q e d tells = record {
           then = λ t p is.
-              let h : admits t r m ≡ false = sym (told .then t (p .asks) is) ∙ q in
+              let h : granted-at-once t r m ≡ false = sym (told .then t (p .asks) is) ∙ q in
               let u = move r k (queued r c m) t in
               rw (h, request-on)
               (stepped _ 2 k (tell-obstacles k u) d (slots t) refl (tells .then u (queued-begun t p) (queued-is e t p is)) (sym (told-slots k u ∙ slots-move r k (queued r c m) t)));

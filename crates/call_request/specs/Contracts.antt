@@ -8,10 +8,9 @@ use lib.Dec.{eqb}
 use Rattle.tables.specs.Lists.{within, null}
 use Rattle.tables.specs.State.{Tables, name-width, no-lock, lock, last-client, last-mode}
 use Rattle.tables.specs.Layout.{words, slots}
-use Rattle.tables.specs.Grants.{admits}
 use Rattle.tables.specs.Validity.{used, Core}
 use Rattle.rules.specs.Queues.{find}
-use Rattle.rules.specs.Calls.{no-queue, resource-for, with-resource}
+use Rattle.rules.specs.Calls.{no-queue, granted-at-once, resource-for, with-resource}
 use Rattle.table_chains.specs.Contracts.{Resourced}
 
 -- n is a name, and a resource has it or is left for it
@@ -26,11 +25,11 @@ pub record Houses (n a sa b sb : List ℕ) (r : ℕ) : Type 0 where
   pub then : (t : Tables) → Nameable n t → a ≡ words t → sa ≡ slots t →
       (r ≡ resource-for (find n t) t) × (b ≡ words (with-resource (find n t) n t)) × (sb ≡ slots (with-resource (find n t) n t))
 
--- the mode m may be requested on the resource r, and where flag 4 forbids to queue it is admitted there
+-- the mode m may be requested on the resource r, and where flag 4 forbids to queue it is granted at once
 pub record AsksOn (r m f : ℕ) (t : Tables) : Type 0 where
   pub here : Resourced r t
   pub mode : m ≤ last-mode
-  pub unqueued : no-queue f ≡ true → admits t r m ≡ true
+  pub unqueued : no-queue f ≡ true → granted-at-once t r m ≡ true
 
 -- .. and the free lock k may become a lock of the client c there; r is in use
 pub record Enters (r k c m f : ℕ) (t : Tables) : Type 0 where

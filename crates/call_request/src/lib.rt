@@ -5,8 +5,7 @@ use table_fields::header_word;
 use table_fields::new_lock;
 use tables::Lock;
 ghost use mathlib.Core.Path.{_≡_};
-ghost use Rattle.tables.specs.Grants.{admits};
-ghost use Rattle.rules.specs.Calls.{holding, queued, «request-on», «request-change»};
+ghost use Rattle.rules.specs.Calls.{«granted-at-once», holding, queued, «request-on», «request-change»};
 ghost use Rattle.rules.specs.Accepted.{Requestable};
 ghost use Rattle.table_chains.specs.Contracts.{Some, Tells};
 ghost use Rattle.table_names.specs.Names.{«find-in»};
@@ -42,24 +41,23 @@ fn queued(r: u32, client: u32, mode: u32) -> Lock
     new_lock(r, client, table_fields::STATE_WAITING, 0, mode)
 }
 
-// Whether the mode is admitted on r. With flag 4 it is: a request that would block has been refused.
-fn admitted(words: &[u32], r: u32, mode: u32, flags: u32) -> bool
+// Whether the mode is granted at once on r. With flag 4 it is: a request that would block has been refused.
+fn at_once(words: &[u32], r: u32, mode: u32, flags: u32) -> bool
     requires { ⌜ Some (AsksOn r mode flags) (now words) ⌝ }
-    ensures { λ x. ⌜ Tells (AsksOn r mode flags) (λ t. admits t r mode) (now (words .entry)) x ⌝ }
+    ensures { λ x. ⌜ Tells (AsksOn r mode flags) (λ t. granted-at-once t r mode) (now (words .entry)) x ⌝ }
 {
     if flags::no_queue(flags) {
         return true;
     }
-    queues::admits(words, r, mode)
+    queues::granted_at_once(words, r, mode)
 }
 
-// The lock k, which is free, becomes the client's on r: granted if the mode is admitted there, else waiting. Whoever is
-// in its way is told.
+// The lock k, which is free, becomes the client's on r: granted at once, or waiting. Whoever is in its way is told.
 fn enter(words: &mut [u32], r: u32, k: u32, client: u32, mode: u32, flags: u32) -> Requested
     requires { ⌜ Some (Enters r k client mode flags) (now words) ⌝ }
     ensures { λ x. ⌜ MakesWords (Enters r k client mode flags) (request-on r k client mode) (now (words .entry)) (now (words .exit)) (requested x) ⌝ }
 {
-    if admitted(words, r, mode, flags) {
+    if at_once(words, r, mode, flags) {
         table_chains::move_lock(words, k, holding(r, client, mode));
         return Requested::Granted(k);
     }

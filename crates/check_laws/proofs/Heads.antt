@@ -12,7 +12,7 @@ use Rattle.modes.proofs.Laws.{fits-none}
 use Rattle.tables.specs.Lists.{count, all}
 use Rattle.tables.specs.State.{Resource, lock, resource, Queue, grants, converts, waits}
 use Rattle.tables.specs.Layout.{resources-in, locks-in, follow, read-chain, read-lock, read-resource, read, held-in}
-use Rattle.tables.specs.Grants.{holders, fits, convert-grantable, admits, wait-grantable, grantable-head, no-grantable-head}
+use Rattle.tables.specs.Grants.{holders, fits, convert-grantable, wait-grantable, grantable-head, no-grantable-head}
 use Rattle.tables.specs.Sound.{holders-compatible}
 use Rattle.tables.proofs.Cases.{by-equal, eqb-same, and-left, and-right, or-left, or-right, parts, same-truth}
 use Rattle.tables.proofs.Counts.{count-same, count-step, count-append, all-at, all-intro, all-cong, by-append, head-in}
@@ -211,7 +211,7 @@ module _ (ws ss : List ℕ) (r : ℕ) (from-one : 1 ≤ r) (to-last : r ≤ reso
 
     wait-fits : (k : ℕ) → queue-in ws r converts ≡ [] → 1 ≤ count k (queue-in ws r waits) →
         wait-grantable (read ws ss) r k ≡ all (λ i. compatible (held-in ws i) (asked-in ws k)) (queue-in ws r grants)
-    unfolding wait-grantable admits fits all
+    unfolding wait-grantable fits all
     wait-fits k e m =
         rw (converts-read, e, holders-read) (ap (λ (ks : List ℕ). all p (queue-in ws r grants ++ ks)) e
         ∙ all-append p (queue-in ws r grants) [] ∙ and-true (all p (queue-in ws r grants))
@@ -222,7 +222,7 @@ module _ (ws ss : List ℕ) (r : ℕ) (from-one : 1 ≤ r) (to-last : r ≤ reso
         p i = eqb i 0 || compatible (lock (read ws ss) i .held) (lock (read ws ss) k .asked)
 
     wait-behind : (k j : ℕ) (js : List ℕ) → queue-in ws r converts ≡ j ∷ js → wait-grantable (read ws ss) r k ≡ false
-    unfolding wait-grantable admits
+    unfolding wait-grantable
     wait-behind k j js e = rw (converts-read, e)
 
     heads-read : no-grantable-head (read ws ss) r ≡ kept (held-in ws) (asked-in ws) (queue-in ws r grants) (queue-in ws r converts) (queue-in ws r waits)

@@ -19,8 +19,8 @@ use Rattle.tables.proofs.Valid.{locks-length, resources-length}
 use Rattle.tables.proofs.SlotChanges.{slots-move}
 use Rattle.rules.specs.Deadlock.{in-the-way, obstacles}
 use Rattle.rules.specs.Calls.{mark-lock, mark-locks, tell-obstacles}
-use Rattle.rules.proofs.NoticesKeepSound.{mark-core, mark-field}
-use Rattle.rules.proofs.MarkLaws.{hindered-mode, mark-resource}
+use Rattle.rules.proofs.NoticesKeepSound.{mark-core, mark-field, mark-resource}
+use Rattle.rules.proofs.MarkLaws.{hindered-mode}
 use Rattle.table_chains.proofs.LockLimits.{held-few, asked-few}
 use Rattle.marks.specs.Telling.{tell, tell-each}
 use Rattle.marks.specs.Contracts.{Markable, Tellable, Heeds}

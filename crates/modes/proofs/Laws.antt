@@ -11,7 +11,7 @@ use borrow.Author.Tests.{ltb-true, leb-true, eqb-true, le-leb, lt-leb}
 use Rattle.modes.specs.declared.Made.{Made}
 use Rattle.modes.specs.declared.Made.the-variants.{Mode, Refused}
 use Rattle.modes.specs.declared.Mode as declared
-use Rattle.modes.specs.Modes.{matrix, compatible, all-modes, down}
+use Rattle.modes.specs.Modes.{NL, matrix, compatible, all-modes, down}
 use Rattle.modes.specs.Sets.{in-set, fits-set, FitsRow, with-mode}
 use Rattle.modes.specs.Made.{MadeNumbers, made-numbers, made}
 use Rattle.modes.proofs.Table.{parts, by-range, below, below2, agree2, agree3, entries, entry-at}
@@ -51,6 +51,11 @@ all-modes-at test h (suc (suc (suc zero))) l = search parts
 all-modes-at test h (suc (suc (suc (suc zero)))) l = search parts
 all-modes-at test h (suc (suc (suc (suc (suc zero))))) l = search parts
 all-modes-at test h (suc (suc (suc (suc (suc (suc n)))))) l = absurd (omega arith)
+
+-- nobody is in the way of NL
+pub null-goes : (a : ℕ) → a ≤ 5 → compatible a NL ≡ true
+unfolding all-modes compatible matrix
+null-goes a h = all-modes-at (λ x. compatible x NL) refl a h
 
 pub all-modes-intro : (test : ℕ → Bool) → ((x : ℕ) → x ≤ 5 → test x ≡ true) → all-modes test ≡ true
 unfolding all-modes

@@ -4,6 +4,24 @@ use mathlib.Core.List.{List, [], _∷_}
 use Prim.Native.Nat.{ℕ}
 use lib.ListN.{getD}
 
+abbrev pub NL : ℕ
+NL = 0
+
+abbrev pub CR : ℕ
+CR = 1
+
+abbrev pub CW : ℕ
+CW = 2
+
+abbrev pub PR : ℕ
+PR = 3
+
+abbrev pub PW : ℕ
+PW = 4
+
+abbrev pub EX : ℕ
+EX = 5
+
 -- the matrix: a row for each held mode, NL to EX, and in it a column for each asked mode
 unfoldable pub matrix : List (List Bool)
 matrix =

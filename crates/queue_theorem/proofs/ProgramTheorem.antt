@@ -1,14 +1,19 @@
--- The queue theorem about the program: every run of its entries from `start` on.
+-- The theorems about the program: every run of its entries from `start` on.
 use mathlib.Core.Path.{_≡_, refl, sym, ap, ap₂, subst, _∙_}
+use mathlib.Core.Bool.{false}
 use mathlib.Core.List.{List, [], _∷_}
 use Prim.Native.Nat.{ℕ, _+_}
+use Rattle.tables.specs.State.{granted}
+use Rattle.tables.specs.Layout.{read-lock}
 use Rattle.rules.specs.declared.Said.{Said}
 use Rattle.rules.specs.Entries.{Lent, Outcome, outcome, Call, call-entry, start-entry, Keeps}
 use Rattle.rules.specs.Theorem.{lent-after-calls, sum-of, requests-accepted, releases-accepted, requests-cancelled, locks-purged, polled-denials, Demand}
 use Rattle.rules.specs.Marks.{MarksRight, MarksAfter}
+use Rattle.rules.specs.NoOvertaking.{Waits, KeepsOrder, WaitsThrough, NoOvertaking}
 use Rattle.rules.proofs.QueueTheorem.{queue-theorem}
 use Rattle.rules.proofs.MarksTheorem.{marks-theorem}
-use Rattle.queue_theorem.specs.Runs.{Turn, said, Run, lent-after-run, calls, sum-of-run, RunHolds, ProgramTheorem, ProgramMarks}
+use Rattle.rules.proofs.NoOvertaking.{no-overtaking}
+use Rattle.queue_theorem.specs.Runs.{Turn, said, Run, lent-after-run, calls, sum-of-run, RunHolds, ProgramTheorem, ProgramMarks, WaitsThroughRun, TurnsInOrder, ProgramNoOvertaking}
 
 -- what a turn left is what the definition of its call leaves
 left-is : (t : Lent) (u : Turn) → Keeps (u .call) t (said u) (u .left) → u .left ≡ call-entry (u .call) t .lent-after
@@ -55,3 +60,31 @@ program-marks t r l x u started accepted us run v kept =
     subst (λ (o : Outcome). MarksRight (v .call) (lent-after-run u us) o) (sym kept)
     (subst (λ (a : Lent). MarksRight (v .call) a (call-entry (v .call) a)) (sym (last-is u us run))
     (subst (MarksAfter (calls us) (v .call)) (left-by-start t u r l _ started accepted) (marks-theorem t r l (start-accepts t u r l _ started accepted) (calls us) (v .call))))
+
+-- who waits through a run waits through its calls
+waits-through : (r k : ℕ) (t : Lent) (us : List Turn) → Run t us → WaitsThroughRun r k us t → WaitsThrough r k (calls us) t
+unfolding calls
+waits-through r k t [] run w = w
+waits-through r k t (u ∷ us) run w =
+    (w .0, subst (WaitsThrough r k (calls us)) (left-is t u (run .0)) (waits-through r k (u .left) us (run .1) (w .1)))
+
+turns-in-order : (t : Lent) → NoOvertaking t → TurnsInOrder t
+turns-in-order t h =
+    record {
+      each-turn = λ v kept. subst (λ (o : Outcome). KeepsOrder (v .call) t o) (sym kept) (h .each-call (v .call));
+      in-turn = λ q vs v run kept r j k.
+          let e = left-is t q (run .0) in
+          let left : v .left ≡ call-entry (v .call) (lent-after-calls (calls vs) (q .left)) .lent-after =
+          left-is (lent-after-run (q .left) vs) v kept ∙ ap (λ (a : Lent). call-entry (v .call) a .lent-after) (last-is (q .left) vs (run .1)) in
+          λ a b w x. subst (λ (u : Lent). Waits (u .words) r j → granted (read-lock (u .words) k) ≡ false) (sym left)
+          (subst (λ (u : Lent).
+          let o = call-entry (v .call) (lent-after-calls (calls vs) u) .lent-after in
+          WaitsThrough r j (calls vs) u → WaitsThrough r k (calls vs) u → Waits (o .words) r j → granted (read-lock (o .words) k) ≡ false) (sym e)
+          (h .in-turn (q .call) (calls vs) (v .call) r j k a b) (waits-through r j (q .left) vs (run .1) w) (waits-through r k (q .left) vs (run .1) x));
+    }
+
+pub program-no-overtaking : ProgramNoOvertaking
+program-no-overtaking t r l x u started accepted us run =
+    turns-in-order (lent-after-run u us)
+    (subst NoOvertaking (sym (last-is u us run))
+    (subst (λ (a : Lent). NoOvertaking (lent-after-calls (calls us) a)) (left-by-start t u r l _ started accepted) (no-overtaking t r l (start-accepts t u r l _ started accepted) (calls us))))

@@ -1,12 +1,16 @@
 -- Runs of the program: its entries called one after the other from `start` on, each lent the words and slots that the one before it left. A turn
 -- is what the contract of the call's entry says, `Keeps` (rules/Entries).
 use mathlib.Core.Path.{_≡_}
+use mathlib.Core.Bool.{false}
 use mathlib.Core.List.{List, [], _∷_}
 use Prim.Native.Nat.{ℕ, _+_}
+use Rattle.tables.specs.State.{granted}
+use Rattle.tables.specs.Layout.{read-lock}
 use Rattle.rules.specs.declared.Said.{Said}
 use Rattle.rules.specs.Entries.{Lent, outcome, Call, to-request, to-convert, to-release, to-cancel, to-purge, to-break, to-poll, Keeps, start-entry}
 use Rattle.rules.specs.Theorem.{QueuesHold, in-use, requests-accepted, releases-accepted, requests-cancelled, locks-purged, polled-denials}
 use Rattle.rules.specs.Marks.{MarksRight}
+use Rattle.rules.specs.NoOvertaking.{Waits, KeepsOrder}
 use Rattle.answers.specs.declared.Done.{Done}
 use Rattle.answers.specs.declared.Requested.{Requested}
 use Rattle.answers.specs.declared.Converted.{Converted}
@@ -81,3 +85,21 @@ ProgramMarks =
     (t : Lent) (r l : ℕ) (x : Done) (u : Lent) → outcome (answers.done x) u ≡ start-entry t r l → answers.done x .refusal ≡ 0
     → (us : List Turn) → Run u us → (v : Turn) → Keeps (v .call) (lent-after-run u us) (said v) (v .left)
     → MarksRight (v .call) (lent-after-run u us) (outcome (said v) (v .left))
+
+-- NO OVERTAKING BY THE PROGRAM (R-2). The lock k waits on r before a run and after each of its turns
+abbrev pub WaitsThroughRun : ℕ → ℕ → List Turn → Lent → Type 0
+WaitsThroughRun r k [] t = Waits (t .words) r k
+WaitsThroughRun r k (u ∷ us) t = Waits (t .words) r k × WaitsThroughRun r k us (u .left)
+
+-- every further turn keeps the order, and of two requests that wait through a run the later is not granted while the earlier still waits
+pub record TurnsInOrder (t : Lent) : Type 0 where
+  pub each-turn : (v : Turn) → Keeps (v .call) t (said v) (v .left) → KeepsOrder (v .call) t (outcome (said v) (v .left))
+  pub in-turn : (q : Turn) (vs : List Turn) (v : Turn) → Run t (q ∷ vs) → Keeps (v .call) (lent-after-run (q .left) vs) (said v) (v .left) →
+      (r j k : ℕ) → Waits (t .words) r j → (Waits (t .words) r k → ⊥) → WaitsThroughRun r j vs (q .left) → WaitsThroughRun r k vs (q .left) →
+      Waits (v .left .words) r j → granted (read-lock (v .left .words) k) ≡ false
+
+-- after every run. Proved as `program-no-overtaking`.
+abbrev pub ProgramNoOvertaking : Type 0
+ProgramNoOvertaking =
+    (t : Lent) (r l : ℕ) (x : Done) (u : Lent) → outcome (answers.done x) u ≡ start-entry t r l → answers.done x .refusal ≡ 0
+    → (us : List Turn) → Run u us → TurnsInOrder (lent-after-run u us)

@@ -1,6 +1,6 @@
 -- Reading a resource's queues from the words of a state.
 use mathlib.Core.Path.{_≡_, refl, sym, _∙_, ap, ap₂}
-use mathlib.Core.Bool.{Bool, false}
+use mathlib.Core.Bool.{Bool, true, false, _&&_, _||_, not}
 use mathlib.Core.List.{List, [], _∷_}
 use Prim.Native.Nat.{ℕ, zero, suc, _<_, _≤_}
 use native.Mathlib.Omega.{arith}
@@ -12,7 +12,9 @@ use Rattle.modes.proofs.Laws.{fits-none}
 use Rattle.tables.specs.Lists.{count, first, null}
 use Rattle.tables.specs.State.{Tables, lock, resource, Queue, grants, converts, waits, queue, of-locks, queue-of}
 use Rattle.tables.specs.Layout.{of-resource, of-lock, queue-head, words, word-in, onward, read-lock, held-in}
-use Rattle.tables.specs.Grants.{holders, fits, admits}
+use Rattle.tables.specs.Grants.{holders, fits}
+use Rattle.rules.specs.Calls.{granted-at-once}
+use Rattle.tables.proofs.Cases.{clash}
 use Rattle.tables.proofs.Counts.{count-same}
 use Rattle.tables.specs.Threads.{Each, Threaded}
 use Rattle.tables.proofs.ThreadedChains.{each-counted, core-threaded}
@@ -85,20 +87,39 @@ module _ (ws : List ℕ) (r k s : ℕ) (told : Tells (Resourced r) (others r k) 
 
 pub ruleset fits-laws = (needs, fits-small, fits-told)
 
--- admits
+-- granted_at_once
+-- a and b: the mode is NL, nobody waits; f: the rest of the rule
+barred : (a b f : Bool) → (not a && not b) ≡ true → ((a || b) && f) ≡ false
+barred true b f h = clash false h refl
+barred false true f h = clash false h refl
+barred false false f h = refl
+
+unbarred : (a b f : Bool) → (not a && not b) ≡ false → ((a || b) && f) ≡ f
+unbarred true b f h = refl
+unbarred false true f h = refl
+unbarred false false f h = clash true refl h
+
 module _ (ws : List ℕ) (r m : ℕ) (x : ℕ) (ex : x ≡ word-in ws (of-resource r 2)) where
   none-or : (t : Tables) → Resourced r t → ws ≡ words t → eqb x 0 ≡ null (resource t r .convert)
   none-or t p is = ap (λ (i : ℕ). eqb i 0) ex ∙ head-null r t p ws is converts
 
-  pub admits-not : (x ≡ 0 → ⊥) → Tells (Resourced r) (λ t. admits t r m) ws false
-  unfolding admits
-  admits-not n = record { then = λ t p is. rw (sym (none-or t p is), ne-eqb x 0 n) }
+  pub at-once-not : (x ≡ 0 → ⊥) → Tells (Resourced r) (λ t. granted-at-once t r m) ws false
+  unfolding granted-at-once
+  at-once-not n = record { then = λ t p is. rw (sym (none-or t p is), ne-eqb x 0 n) }
 
-  pub admits-if : x ≡ 0 → (b : Bool) → Tells (Resourced r) (λ t. fits t r 0 m) ws b → Tells (Resourced r) (λ t. admits t r m) ws b
-  unfolding admits
-  admits-if n b told = record { then = λ t p is. rw (sym (none-or t p is), eq-eqb x 0 n) (told .then t p is) }
+  module _ (z : x ≡ 0) (y : ℕ) (ey : y ≡ word-in ws (of-resource r 3)) where
+    nobody-or : (t : Tables) → Resourced r t → ws ≡ words t → eqb y 0 ≡ null (resource t r .wait)
+    nobody-or t p is = ap (λ (i : ℕ). eqb i 0) ey ∙ head-null r t p ws is waits
 
-pub ruleset admits-laws = (needs, here-sized, here-low, here-high, admits-not, admits-if)
+    pub at-once-behind : (not (eqb m 0) && not (eqb y 0)) ≡ true → Tells (Resourced r) (λ t. granted-at-once t r m) ws false
+    unfolding granted-at-once
+    at-once-behind h = record { then = λ t p is. rw (sym (none-or t p is), eq-eqb x 0 z, sym (nobody-or t p is)) (sym (barred (eqb m 0) (eqb y 0) _ h)) }
+
+    pub at-once-if : (not (eqb m 0) && not (eqb y 0)) ≡ false → (b : Bool) → Tells (Resourced r) (λ t. fits t r 0 m) ws b → Tells (Resourced r) (λ t. granted-at-once t r m) ws b
+    unfolding granted-at-once
+    at-once-if h b told = record { then = λ t p is. rw (sym (none-or t p is), eq-eqb x 0 z, sym (nobody-or t p is)) (told .then t p is ∙ sym (unbarred (eqb m 0) (eqb y 0) _ h)) }
+
+pub ruleset at-once-laws = (needs, here-sized, here-low, here-high, at-once-not, at-once-behind, at-once-if)
 
 -- next_up
 module _ (ws : List ℕ) (r : ℕ) (x : ℕ) (ex : x ≡ word-in ws (of-resource r 2)) where

@@ -9,10 +9,10 @@ ghost use Prim.Native.Nat.{_<_};
 ghost use Rattle.tables.specs.Lists.{first};
 ghost use Rattle.tables.specs.State.{«no-resource», resource, «move-resource»};
 ghost use Rattle.tables.specs.Layout.{onward, «held-in»};
-ghost use Rattle.tables.specs.Grants.{fits, admits, empty};
+ghost use Rattle.tables.specs.Grants.{fits, empty};
 ghost use Rattle.tables.specs.Validity.{line};
 ghost use Rattle.rules.specs.Queues.{«granted-lock», sweep, «free-lock», settle};
-ghost use Rattle.rules.specs.Calls.{«in-place», «leave-value», «new-resource»};
+ghost use Rattle.rules.specs.Calls.{«granted-at-once», «in-place», «leave-value», «new-resource»};
 ghost use Rattle.table_chains.specs.Contracts.{Some, Turns, Tells, Answers, Changes, Resourced};
 ghost use Rattle.table_chains.specs.Walking.{At, Walking};
 ghost use Rattle.queues.specs.Holders.{«with-holder», «with-holders», others};
@@ -65,13 +65,17 @@ pub fn fits(words: &[u32], r: u32, k: u32, mode: u32) -> bool
     modes::fits(others(words, r, k), mode)
 }
 
-// A new request of the mode can be granted on r: no conversion waits there, and the mode is compatible with every held mode.
-pub fn admits(words: &[u32], r: u32, mode: u32) -> bool
+// A new request of the mode is granted at once on r: no conversion waits there and, unless it is for NL, no request;
+// and the mode is compatible with every held mode.
+pub fn granted_at_once(words: &[u32], r: u32, mode: u32) -> bool
     requires { ⌜ Some (Resourced r) (now words) ⌝ }
     requires { ⌜ mode < 6 ⌝ }
-    ensures { λ x. ⌜ Tells (Resourced r) (λ t. admits t r mode) (now (words .entry)) x ⌝ }
+    ensures { λ x. ⌜ Tells (Resourced r) (λ t. granted-at-once t r mode) (now (words .entry)) x ⌝ }
 {
     if resource_word(words, r, table_fields::RESOURCE_CONVERT) != 0 {
+        return false;
+    }
+    if (mode != modes::Mode::NL.0) & (resource_word(words, r, table_fields::RESOURCE_WAIT) != 0) {
         return false;
     }
     fits(words, r, 0, mode)

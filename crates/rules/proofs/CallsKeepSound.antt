@@ -1,9 +1,9 @@
--- Every call but request and purge keeps a state sound, and what it does to the free locks.
+-- Every call but request and purge keeps a state sound and the order of those that wait, and what it does to the free locks.
 use mathlib.Core.Path.{_≡_, refl, ap, _∙_}
 use mathlib.Core.Logic.{_≢_}
 use mathlib.Core.Bool.{Bool, true, false, _&&_, cond}
 use mathlib.Core.List.{List, [], _∷_, _++_}
-use Prim.Native.Nat.{ℕ, zero, suc, _+_, _≤_}
+use Prim.Native.Nat.{ℕ, zero, suc, _≤_}
 use native.Mathlib.Omega.{arith}
 use lib.ListN.{length}
 use lib.Dec.{eqb}
@@ -88,7 +88,7 @@ restored-after n a b k t val h =
     let p = ok-at (used t) (lock t k) 2 (val .core .lock-ok k) h .place in
     let ok = restored-ok (used t) (lock t k) n p a b in
     let fit : holds m ≡ true → Fits t r k (lock t k .held) = λ z j i q e. val .core .agree j k i q (or-right (granted (lock t k)) _ h) e in
-    then-sweep t (val .core) r k m (λ q i. val .settled q) w (λ z. refl) (λ z. refl) ok fit _ (free-kept r k m t (rw s) refl)
+    then-sweep t (val .core) r k m (λ q i. val .settled q) w (λ z. refl) (λ z. refl) ok fit (λ z. clash (waiting (lock t k)) z (rw s)) _ (free-kept r k m t (rw s) refl)
     (granted-full t r k m (core-move r k m t (val .core) w (λ z. refl) (λ z. refl) ok fit) w refl refl)
 
 pub cancel-after : (k : ℕ) (t : Tables) → Valid t → blocked-lock (lock t k) ≡ true →
@@ -159,7 +159,7 @@ deny-after k t val b =
     let m = denied-lock (lock t k) in
     rw (h, deny)
     (then-sweep t (val .core) (lock t k .resource) k m (λ q i. val .settled q) (state-within t k 2 s) (λ z. refl) (λ z. absurd (z refl))
-    (denied-ok (used t) (lock t k) (val .core .lock-ok k) a) (λ z. clash false z refl) _ (free-kept (lock t k .resource) k m t (rw s) refl) (waiter-gone t val k m a refl refl)))
+    (denied-ok (used t) (lock t k) (val .core .lock-ok k) a) (λ z. clash false z refl) (λ z. (refl, refl)) _ (free-kept (lock t k .resource) k m t (rw s) refl) (waiter-gone t val k m a refl refl)))
 
 pub break-after : (t : Tables) → Valid t → After t (break t .tables) (t .free-locks)
 unfolding break deny-victim victim
@@ -197,14 +197,14 @@ in-place-after k m b f v t val g low right h =
     }) in
     let fit : holds l ≡ true → Fits t0 r k m = λ z j n. rw (q .lock-is j) (convert-fits k m t (val .core) g h j n) in
     quiet-after t t0 _ (t0 .free-locks) (t .free-locks) q (q .free-is)
-    (then-sweep t0 (q .core) r k l (λ s n. q .settled s (val .settled s)) w near (λ z. refl) ok fit _ (free-kept r k l t0 (rw (q .lock-is k, s)) refl)
+    (then-sweep t0 (q .core) r k l (λ s n. q .settled s (val .settled s)) w near (λ z. refl) ok fit (λ z. clash (waiting (lock t0 k)) z (rw (q .lock-is k, s))) _ (free-kept r k l t0 (rw (q .lock-is k, s)) refl)
     (granted-full t0 r k l (core-move r k l t0 (q .core) w near (λ z. refl) ok fit) w refl refl))
 
 pub queue-after : (k m : ℕ) (t : Tables) → Valid t → granted (lock t k) ≡ true → m ≤ last-mode → in-place k m t ≡ false →
     After t (move (lock t k .resource) k (asking m (lock t k)) t) (t .free-locks)
 unfolding in-place
 queue-after k m t val g low h =
-    then-stop t c r k l (λ q i. val .settled q) w (λ z. refl) (λ z. refl) ok fit _ (free-kept r k l t (rw s) refl)
+    then-stop t c r k l (λ q i. val .settled q) w (λ z. refl) (λ z. refl) ok fit (λ z. clash (waiting (lock t k)) z (rw s)) _ (free-kept r k l t (rw s) refl)
     (record {
       still = go (resource t r .convert) refl;
       peopled = λ u. full-of _ k (omega (arith, chain-has (move r k l t) (c1 .linked) (queue r converts) k (rw (locks-length r k l t) w) (rw (lock-same r k l t w, eqb-same r))));

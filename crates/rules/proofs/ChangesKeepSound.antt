@@ -1,4 +1,4 @@
--- A lock changes, and its resource is settled, swept or left: the state stays sound, and what that does to the free locks.
+-- A lock changes, and its resource is settled, swept or left: the state stays sound, waiting locks keep their order, and what that does to the free locks.
 use mathlib.Core.Path.{_≡_, refl, _∙_}
 use mathlib.Core.Logic.{_≢_}
 use mathlib.Core.Bool.{true, false}
@@ -18,6 +18,8 @@ use Rattle.tables.specs.Validity.{used, LockOk, Core, line, idle, Settled, Vali
 use Rattle.tables.proofs.Valid.{lock-same, lock-other, resource-same, locks-length, resources-length, used-zero, Fits, core-move}
 use Rattle.tables.proofs.ChainMembers.{chain-has, fits-true, true-fits, settled-other, line-blocked}
 use Rattle.rules.specs.Queues.{sweep, free-lock, settle}
+use Rattle.rules.proofs.ListOrder.{FromFront, front-none}
+use Rattle.rules.proofs.WaitChains.{InOrder, nobody-leaves, moved-order, order-before}
 use Rattle.rules.proofs.SweepLaws.{Swept, sweep-swept}
 use Rattle.rules.proofs.ResourceChanges.{empty-chains, used-changed, free-empty, Quiet}
 
@@ -26,6 +28,8 @@ pub record Settles (r : ℕ) (t t′ : Tables) : Type 0 where
   pub core : Core t′
   pub here : Settled t′ r
   pub others : (s : ℕ) → s ≢ r → Settled t s → Settled t′ s
+  pub fronts : (s : ℕ) → FromFront (resource t s .wait) (resource t′ s .wait)
+  pub unmoved : (j : ℕ) → blocked-lock (lock t j) ≡ false → lock t′ j ≡ lock t j
   pub free-same : t′ .free-locks ≡ t .free-locks
   pub locks-same : length (t′ .locks) ≡ length (t .locks)
   pub resources-same : length (t′ .resources) ≡ length (t .resources)
@@ -36,6 +40,8 @@ swept-settles r t t′ s h =
       core = s .core;
       here = record { still = s .still; peopled = h };
       others = s .others;
+      fronts = s .fronts;
+      unmoved = s .unmoved;
       free-same = s .free-same;
       locks-same = s .locks-same;
       resources-same = s .resources-same;
@@ -54,12 +60,13 @@ settle-settles r t c w =
 -- what a call leaves
 pub record After (t t′ : Tables) (fs : List ℕ) : Type 0 where
   pub valid : Valid t′
+  pub in-order : (s : ℕ) → InOrder t t′ s
   pub free-is : t′ .free-locks ≡ fs
   pub locks-are : length (t′ .locks) ≡ length (t .locks)
   pub resources-are : length (t′ .resources) ≡ length (t .resources)
 
 pub unchanged-after : (t : Tables) (fs : List ℕ) → Valid t → t .free-locks ≡ fs → After t t fs
-unchanged-after t fs val e = record { valid = val; free-is = e; locks-are = refl; resources-are = refl }
+unchanged-after t fs val e = record { valid = val; in-order = λ s. nobody-leaves t t t s refl (front-none _); free-is = e; locks-are = refl; resources-are = refl }
 
 -- what a move does to the free locks
 pub free-gained : (r k : ℕ) (m : Lock) (t : Tables) → eqb (lock t k .state) 0 ≡ false → eqb (m .state) 0 ≡ true → move r k m t .free-locks ≡ k ∷ t .free-locks
@@ -70,17 +77,25 @@ pub free-taken : (r k : ℕ) (m : Lock) (t : Tables) → eqb (lock t k .state) 0
 unfolding move shift-front
 free-taken r k m t p q = rw (p, q)
 
--- a lock of a sound state changes, and its resource is settled, swept or left
+-- a lock of a sound state changes, and its resource is settled, swept or left. One that waited is then neither granted nor blocked.
 module _ (t : Tables) (c : Core t) (r k : ℕ) (m : Lock) (rest : (s : ℕ) → s ≢ r → Settled t s)
     (w : within (length (t .locks)) k ≡ true) (near-old : Near r (lock t k)) (near-new : Near r m)
-    (ok : LockOk (used t) m) (fit : holds m ≡ true → Fits t (m .resource) k (m .held)) (fs : List ℕ) (frees : move r k m t .free-locks ≡ fs) where
+    (ok : LockOk (used t) m) (fit : holds m ≡ true → Fits t (m .resource) k (m .held))
+    (drops : waiting (lock t k) ≡ true → (granted m ≡ false) × (blocked-lock m ≡ false)) (fs : List ℕ) (frees : move r k m t .free-locks ≡ fs) where
   pub moved : Core (move r k m t)
   moved = core-move r k m t c w near-old near-new ok fit
+
+  dropped : (t′ : Tables) → Settles r (move r k m t) t′ → waiting (lock t k) ≡ true → (granted (lock t′ k) ≡ false) × (waiting (lock t′ k) ≡ false)
+  dropped t′ s z =
+      let d = drops z in
+      let e : lock t′ k ≡ m = s .unmoved k (rw (lock-same r k m t w) (d .1)) ∙ lock-same r k m t w in
+      rw e (d .0, nor-right (converting m) (waiting m) (d .1))
 
   after : (t′ : Tables) → Settles r (move r k m t) t′ → After t t′ fs
   after t′ s =
       record {
         valid = record { core = s .core; settled = λ q. by-equal q r (λ e. rw e (s .here)) (λ n. s .others q n (settled-other t c r k m near-old q n (rest q n))) };
+        in-order = λ q. moved-order r k m t t′ c w near-old near-new ok (dropped t′ s) q (s .fronts q);
         free-is = s .free-same ∙ frees;
         locks-are = s .locks-same ∙ locks-length r k m t;
         resources-are = s .resources-same ∙ resources-length r k m t;
@@ -93,12 +108,18 @@ module _ (t : Tables) (c : Core t) (r k : ℕ) (m : Lock) (rest : (s : ℕ) → 
   then-sweep h = after _ (sweep-settles r (move r k m t) moved h)
 
   pub then-stop : Settled (move r k m t) r → After t (move r k m t) fs
-  then-stop h = after _ (record { core = moved; here = h; others = λ s n q. q; free-same = refl; locks-same = refl; resources-same = refl })
+  then-stop h = after _ (record { core = moved; here = h; others = λ s n q. q; fronts = λ s. front-none _; unmoved = λ j q. refl; free-same = refl; locks-same = refl; resources-same = refl })
 
 -- after a change that no lock sees
 pub quiet-after : (t t0 t′ : Tables) (fs gs : List ℕ) → Quiet t t0 → fs ≡ gs → After t0 t′ fs → After t t′ gs
 quiet-after t t0 t′ fs gs q e a =
-    record { valid = a .valid; free-is = a .free-is ∙ e; locks-are = a .locks-are ∙ q .locks-are; resources-are = a .resources-are ∙ q .resources-are }
+    record {
+      valid = a .valid;
+      in-order = λ s. order-before t t0 t′ s (q .waits-are s) (a .in-order s);
+      free-is = a .free-is ∙ e;
+      locks-are = a .locks-are ∙ q .locks-are;
+      resources-are = a .resources-are ∙ q .resources-are;
+    }
 
 -- a lock is freed
 module _ (t : Tables) (c : Core t) (r k : ℕ) (e : lock t k .resource ≡ r) (rest : (s : ℕ) → s ≢ r → Settled t s)
@@ -110,17 +131,17 @@ module _ (t : Tables) (c : Core t) (r k : ℕ) (e : lock t k .resource ≡ r) (r
   pub freed-settle : within (length (t .resources)) r ≡ true → After t (settle r (free-lock k t)) (k ∷ t .free-locks)
   freed-settle v =
       rw is-move
-      (then-settle t c r k no-lock rest w (λ z. e) (λ z. absurd (z refl)) (as-free refl) (λ z. clash false z refl) _ (free-gained r k no-lock t stands refl) v)
+      (then-settle t c r k no-lock rest w (λ z. e) (λ z. absurd (z refl)) (as-free refl) (λ z. clash false z refl) (λ z. (refl, refl)) _ (free-gained r k no-lock t stands refl) v)
 
   pub freed-sweep : empty (resource (move r k no-lock t) r) ≡ false → After t (sweep r (free-lock k t)) (k ∷ t .free-locks)
   freed-sweep v =
       rw is-move
-      (then-sweep t c r k no-lock rest w (λ z. e) (λ z. absurd (z refl)) (as-free refl) (λ z. clash false z refl) _ (free-gained r k no-lock t stands refl) v)
+      (then-sweep t c r k no-lock rest w (λ z. e) (λ z. absurd (z refl)) (as-free refl) (λ z. clash false z refl) (λ z. (refl, refl)) _ (free-gained r k no-lock t stands refl) v)
 
   pub freed-stop : Settled (move r k no-lock t) r → After t (free-lock k t) (k ∷ t .free-locks)
   freed-stop v =
       rw is-move
-      (then-stop t c r k no-lock rest w (λ z. e) (λ z. absurd (z refl)) (as-free refl) (λ z. clash false z refl) _ (free-gained r k no-lock t stands refl) v)
+      (then-stop t c r k no-lock rest w (λ z. e) (λ z. absurd (z refl)) (as-free refl) (λ z. clash false z refl) (λ z. (refl, refl)) _ (free-gained r k no-lock t stands refl) v)
 
 -- somebody stands on the resource, or nobody holds a mode there
 pub full-of : (x : Resource) (j : ℕ) → 1 ≤ count j (x .grant) + count j (x .convert) + count j (x .wait) → empty x ≡ false

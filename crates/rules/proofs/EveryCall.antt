@@ -1,4 +1,4 @@
--- Started tables are valid; every call keeps a valid state valid, and says how many locks it takes and frees.
+-- Started tables are valid; every call keeps a valid state valid and the order of those that wait, and says how many locks it takes and frees.
 use mathlib.Core.Path.{_≡_, refl, ap, _∙_}
 use mathlib.Core.Logic.{_≢_}
 use mathlib.Core.Bool.{Bool, true, false, _&&_, cond, and-true, and-false}
@@ -9,19 +9,20 @@ use lib.ListN.{length, length-replicate}
 use lib.Dec.{eqb, eqb·suc-zero}
 use Rattle.tables.specs.Lists.{within, count, bit, keep, first-that, first, null, from}
 use Rattle.tables.specs.State.{Resource, Tables, no-lock, no-resource, lock, resource, started, converting, LockChain, chain, belongs, grants, converts, waits, free-locks, denied, blocked, notices, queue, most-resources, most-locks}
-use Rattle.tables.specs.Grants.{admits}
 use Rattle.tables.proofs.Cases.{by-cases, clash}
 use Rattle.tables.proofs.Counts.{count-nil, count-from}
 use Rattle.tables.proofs.Numbered.{started-lock, started-resource}
 use Rattle.tables.specs.Validity.{used, line, idle, Valid, as-free}
 use Rattle.rules.specs.Queues.{find}
 use Rattle.rules.specs.Deadlock.{victim}
-use Rattle.rules.specs.Calls.{Said, refused, Step, refused-or, resource-for, with-resource, request-on, request-change, request-refusal, request, in-place, convert-change, convert-refusal, convert, release-change, release-refusal, release, cancel-change, cancel-refusal, cancel, purge-change, purge-refusal, purge, deny-victim, break, poll-notice, poll-change, poll-refusal, poll}
+use Rattle.rules.specs.Calls.{Said, refused, Step, refused-or, resource-for, with-resource, granted-at-once, request-on, request-change, request-refusal, request, in-place, convert-change, convert-refusal, convert, release-change, release-refusal, release, cancel-change, cancel-refusal, cancel, purge-change, purge-refusal, purge, deny-victim, break, poll-notice, poll-change, poll-refusal, poll}
 use Rattle.rules.specs.Entries.{Call, step-of, to-request, to-convert, to-release, to-cancel, to-purge, to-break, to-poll}
 use Rattle.rules.specs.Theorem.{requests-accepted, releases-accepted, requests-cancelled, locks-purged, polled-denials}
 use Rattle.rules.proofs.ResourceChanges.{no-value-length}
 use Rattle.rules.specs.Accepted.{Requestable, Releasable, Convertible, Cancellable, Purgeable}
 use Rattle.rules.proofs.AcceptedCalls.{request-passed, convert-passed, release-passed, cancel-passed, purge-passed}
+use Rattle.rules.proofs.ListOrder.{front-none}
+use Rattle.rules.proofs.WaitChains.{InOrder, nobody-leaves}
 use Rattle.rules.proofs.ChangesKeepSound.{After}
 use Rattle.rules.proofs.CallsKeepSound.{release-after, cancel-after, poll-after, break-after, convert-after}
 use Rattle.rules.proofs.RequestKeepsSound.{request-after}
@@ -93,6 +94,7 @@ losses c x = releases-accepted c x + requests-cancelled c x + locks-purged c x +
 -- what a call leaves of a valid state t
 pub record Kept (c : Call) (t : Tables) (s : Step) : Type 0 where
   pub valid : Valid (s .tables)
+  pub in-order : (r : ℕ) → InOrder t (s .tables) r
   pub resources-are : length (s .tables .resources) ≡ length (t .resources)
   pub locks-are : length (s .tables .locks) ≡ length (t .locks)
   pub unchanged : s .said .refusal ≢ 0 → s .tables ≡ t
@@ -104,6 +106,7 @@ accepted-kept : (c : Call) (t : Tables) (s : Step) (fs : List ℕ) → s .said .
 accepted-kept c t s fs e a b =
     record {
       valid = a .valid;
+      in-order = a .in-order;
       resources-are = a .resources-are;
       locks-are = a .locks-are;
       unchanged = λ z. absurd (z e);
@@ -128,6 +131,7 @@ refused-kept c t zero s val h = h refl
 refused-kept c t (suc n) s val h =
     record {
       valid = val;
+      in-order = λ r. nobody-leaves t t t r refl (front-none _);
       resources-are = refl;
       locks-are = refl;
       unchanged = λ z. refl;
@@ -136,12 +140,12 @@ refused-kept c t (suc n) s val h =
     }
 
 -- REQUEST
-request-accepted : (c m : ℕ) (n : List ℕ) (t : Tables) → request-change c m n t .said .refusal ≡ 0
+pub request-accepted : (c m : ℕ) (n : List ℕ) (t : Tables) → request-change c m n t .said .refusal ≡ 0
 unfolding request-change
 request-accepted c m n t = on (resource-for (find n t) t) (first (t .free-locks)) (with-resource (find n t) n t)
   where
     on : (r k : ℕ) (t′ : Tables) → request-on r k c m t′ .said .refusal ≡ 0
-    on r k t′ = unfold request-on in by-cases (admits t′ r m) (λ h. rw (h, request-on)) (λ h. rw (h, request-on))
+    on r k t′ = unfold request-on in by-cases (granted-at-once t′ r m) (λ h. rw (h, request-on)) (λ h. rw (h, request-on))
 
 requested : (c m f : ℕ) (n : List ℕ) (t : Tables) → Requestable c m f n t → Kept (to-request c m f n) t (request-change c m n t)
 unfolding requests-accepted releases-accepted requests-cancelled locks-purged polled-denials

@@ -1,4 +1,7 @@
 pub mod WalkSearch
+pub mod DeadlockVictim
+pub mod ListOrder
+pub mod WaitChains
 pub mod SweepLaws
 pub mod ResourceChanges
 pub mod ChangesKeepSound
@@ -10,10 +13,11 @@ pub mod ChainLengths
 pub mod AcceptedCalls
 pub mod EveryCall
 pub mod SmallNumbers
-pub mod DeadlockVictim
 pub mod QueueProperties
 pub mod QueueTheorem
 pub mod MarkLaws
 pub mod MarksTheorem
+pub mod RequestAnswers
+pub mod NoOvertaking
 pub mod BenchTable
 pub mod TheoremExamples

@@ -1,15 +1,15 @@
 -- What each change of a call does to the marks.
 use mathlib.Core.Path.{_≡_, refl, sym, ap, _∙_}
 use mathlib.Core.Logic.{_≢_}
-use mathlib.Core.Bool.{Bool, true, false, _&&_, not, cond}
+use mathlib.Core.Bool.{Bool, true, false, not, cond}
 use mathlib.Core.List.{List, [], _∷_, _++_, append-assoc, append-nil}
 use Prim.Native.Nat.{ℕ, _≤_}
 use native.Mathlib.Omega.{arith}
 use lib.ListN.{length}
 use lib.Dec.{eqb, leb}
 use borrow.Author.Tests.{eqb-true, eq-eqb, ne-eqb, leb-true, leb-false, not-true}
-use Rattle.modes.specs.Modes.{matrix, compatible, all-modes}
-use Rattle.modes.proofs.Laws.{all-modes-at}
+use Rattle.modes.specs.Modes.{compatible}
+use Rattle.modes.proofs.Laws.{null-goes}
 use Rattle.tables.specs.declared.Lock.{Lock}
 use Rattle.tables.specs.Lists.{within, count, keep}
 use Rattle.tables.specs.State.{Resource, Tables, no-lock, with-notice, no-resource, lock, resource, unread, noticed, holds, shift, move, move-resource, queue, grants, converts, last-mode}
@@ -17,19 +17,15 @@ use Rattle.tables.specs.Grants.{holders, empty}
 use Rattle.tables.specs.Validity.{Core}
 use Rattle.tables.proofs.Cases.{by-cases, by-equal, clash, and-left, and-right, or-right}
 use Rattle.tables.proofs.Counts.{count-same, count-other, count-step, count-nil, count-append, count-keep, keep-cong}
-use Rattle.tables.proofs.Valid.{absent-lock, lock-same, lock-other, resource-other, locks-length}
+use Rattle.tables.proofs.Valid.{absent-lock, lock-same, lock-other, locks-length}
 use Rattle.tables.proofs.ChainMembers.{chain-once, on-grants, on-converts, holder-in, in-holder}
 use Rattle.rules.specs.Queues.{granted-lock, grant-lock, grant-while, grant-converts, grant-waits, sweep, free-lock, settle}
 use Rattle.rules.specs.Deadlock.{in-the-way, obstacles}
 use Rattle.rules.specs.Calls.{leave-value, larger, mark-lock, mark-locks, tell-obstacles, purge-lock, purge-locks, settle-all}
 use Rattle.rules.specs.Theorem.{keeps-out}
-use Rattle.rules.proofs.NoticesKeepSound.{noted-resource, holder-stands, obstacle-in}
+use Rattle.rules.proofs.NoticesKeepSound.{holder-stands, obstacle-in}
 
--- nobody is in the way of NL
-null-goes : (a : ℕ) → a ≤ last-mode → compatible a 0 ≡ true
-unfolding all-modes compatible matrix
-null-goes a h = all-modes-at (λ x. compatible x 0) refl a h
-
+-- NL has nobody in its way
 pub hindered-mode : (h m : ℕ) → h ≤ last-mode → not (compatible h m) ≡ true → 1 ≤ m
 hindered-mode h m le n =
     by-equal m 0
@@ -59,19 +55,6 @@ marks-set m (i ∷ is) t j o h =
     (λ n. let same = mark-other m i t j n in
     marks-set m is (mark-lock m i t) j (sym (count-other j i is n) ∙ o) (rw same h) ∙ (rw same))
 
--- .. to each resource: nothing ..
-pub mark-resource : (m j : ℕ) (t : Tables) (s : ℕ) → resource (mark-lock m j t) s ≡ resource t s
-unfolding mark-lock
-mark-resource m j t s =
-    by-equal s (lock t j .resource)
-    (λ e. rw e (noted-resource j (lock t j .completion) (larger m (lock t j .mark)) t))
-    (λ n. resource-other (lock t j .resource) j _ t s n)
-
-pub marks-resource : (m : ℕ) (js : List ℕ) (t : Tables) (s : ℕ) → resource (mark-locks m js t) s ≡ resource t s
-unfolding mark-locks
-marks-resource m [] t s = refl
-marks-resource m (i ∷ is) t s = marks-resource m is (mark-lock m i t) s ∙ mark-resource m i t s
-
 -- .. and to the notice chain: who did not stand there joins it in order
 pub larger-first : (a b : ℕ) → a ≤ larger a b
 unfolding larger
@@ -94,11 +77,6 @@ unnoticed t j = not (noticed (lock t j))
 keep-first : (p : ℕ → Bool) (i : ℕ) (is : List ℕ) (b : Bool) → p i ≡ b → keep p (i ∷ is) ≡ cond b (i ∷ keep p is) (keep p is)
 unfolding keep
 keep-first p i is b e = rw e
-
-pub keep-keep : (p q : ℕ → Bool) (xs : List ℕ) → keep p (keep q xs) ≡ keep (λ j. q j && p j) xs
-unfolding keep
-keep-keep p q [] = refl
-keep-keep p q (x ∷ xs) = by-cases (q x) (λ h. rw (h, keep, keep-keep p q xs)) (λ h. rw (h, keep-keep p q xs))
 
 pub marks-chain : (m : ℕ) (js : List ℕ) (t : Tables) → ((j : ℕ) → count j js ≤ 1) → ((j : ℕ) → 1 ≤ count j js → 1 ≤ m) →
     mark-locks m js t .notices ≡ t .notices ++ keep (unnoticed t) js

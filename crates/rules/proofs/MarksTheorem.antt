@@ -10,32 +10,33 @@ use lib.Dec.{eqb, ltb}
 use borrow.Author.Tests.{eqb-true, eqb-false, eq-eqb, ne-eqb, not-true}
 use Rattle.tables.specs.declared.Lock.{Lock}
 use Rattle.tables.specs.Lists.{within, count, keep, first, first-that, null}
-use Rattle.tables.specs.State.{Tables, started, no-lock, denied-lock, lock, resource, converting, has-mark, unread, noticed, holds, shift, move, move-resource, free-locks, notices, queue, grants, converts, of-locks}
+use Rattle.tables.specs.State.{Tables, started, no-lock, denied-lock, lock, resource, converting, has-mark, unread, noticed, holds, shift, move, move-resource, notices, queue, grants, converts, of-locks}
 use Rattle.tables.specs.Layout.{read-chain, read-lock, words}
-use Rattle.tables.specs.Grants.{holders, admits}
+use Rattle.tables.specs.Grants.{holders}
 use Rattle.tables.specs.Validity.{used, Core, Valid}
 use Rattle.tables.proofs.Cases.{by-cases, by-equal, clash, eqb-same, and-left, and-right, or-right}
-use Rattle.tables.proofs.Counts.{count-same, within-le, le-within, first-in, first-passes, keep-cong}
+use Rattle.tables.proofs.Counts.{within-le, le-within, head-in, first-in, first-passes, keep-cong}
 use Rattle.tables.proofs.StateCases.{StateOk, ok-numbered}
 use Rattle.tables.proofs.Valid.{ok-at, holder-place, absent-lock, lock-same, lock-other, locks-length, used-within}
-use Rattle.tables.proofs.ChainMembers.{state-within, on-chain, chain-has, in-holder}
+use Rattle.tables.proofs.ChainMembers.{state-within, on-chain, on-free, chain-has, in-holder}
 use Rattle.tables.proofs.ReadBack.{resources-word, locks-word}
 use Rattle.rules.specs.Queues.{free-lock, find}
 use Rattle.rules.specs.Deadlock.{in-the-way, obstacles, victim}
-use Rattle.rules.specs.Calls.{Step, refused, accepted-step, refused-or, strong, leave-value, larger, tell-obstacles, new-resource, resource-for, with-resource, holding, queued, request-on, request-change, request-refusal, request, held-at, asking, in-place, convert-change, convert-refusal, convert, release-change, release-refusal, release, restored, cancel-change, cancel-refusal, cancel, locks-of, purge-locks, purge-change, purge-refusal, purge, deny, deny-victim, break, notice-read, take-notice, poll-notice, poll-change, poll-refusal, poll}
+use Rattle.rules.specs.Calls.{Step, refused, accepted-step, refused-or, strong, leave-value, larger, tell-obstacles, new-resource, resource-for, with-resource, holding, queued, granted-at-once, request-on, request-change, request-refusal, request, held-at, asking, in-place, convert-change, convert-refusal, convert, release-change, release-refusal, release, restored, cancel-change, cancel-refusal, cancel, locks-of, purge-locks, purge-change, purge-refusal, purge, deny, deny-victim, break, notice-read, take-notice, poll-notice, poll-change, poll-refusal, poll}
 use Rattle.rules.specs.Entries.{lent-of, Call, kind, same-kind, a-request, a-convert, a-poll, call-entry, step-of, to-request, to-convert, to-release, to-cancel, to-purge, to-break, to-poll}
 use Rattle.rules.specs.Accepted.{Requestable, Releasable, Convertible, Cancellable, Purgeable}
 use Rattle.rules.specs.Theorem.{IsLock, IsResource, keeps-out}
 use Rattle.rules.specs.Marks.{begins-to-wait, asking-lock, asked-mode, answers-lock, MarksRight, MarksAfter, MarksTheorem}
-use Rattle.rules.proofs.NoticesKeepSound.{shift-same, holder-stands, obstacle-in}
+use Rattle.rules.proofs.ListOrder.{keep-keep}
+use Rattle.rules.proofs.NoticesKeepSound.{shift-same, holder-stands, marks-resource, obstacle-in}
 use Rattle.rules.proofs.CallsKeepSound.{in-place-after, queue-after, release-after, cancel-after, break-after}
-use Rattle.rules.proofs.RequestKeepsSound.{found, first-member, new-admits, enter-waiting}
+use Rattle.rules.proofs.RequestKeepsSound.{found, first-member, new-at-once, enter-waiting}
 use Rattle.rules.proofs.PurgeKeepsSound.{purge-after}
 use Rattle.rules.proofs.AcceptedCalls.{request-passed, convert-passed, release-passed, cancel-passed, purge-passed}
 use Rattle.rules.proofs.EveryCall.{stepped}
 use Rattle.rules.proofs.QueueProperties.{lock-is, chain-is, is-lock}
 use Rattle.rules.proofs.QueueTheorem.{outcome-is, after-is, play, play-valid, from-start}
-use Rattle.rules.proofs.MarkLaws.{hindered-mode, larger-first, larger-second, unnoticed, keep-keep, marks-resource, marks-chain, obstacle-once, keeps-out-way, tell-set, tell-not, Steady, steady-same, steady-then, steady-move, steady-sweep, steady-free, steady-settle, leave-lock, steady-leave, steady-purge, steady-all}
+use Rattle.rules.proofs.MarkLaws.{hindered-mode, larger-first, larger-second, unnoticed, marks-chain, obstacle-once, keeps-out-way, tell-set, tell-not, Steady, steady-same, steady-then, steady-move, steady-sweep, steady-free, steady-settle, leave-lock, steady-leave, steady-purge, steady-all}
 
 -- THE STATEMENT ON STATES. The lock k begins to wait, for m, and t becomes t2
 record Waited (t t2 : Tables) (k m : ℕ) : Type 0 where
@@ -173,18 +174,15 @@ request-marks c m f n t p = go (find n t) (t .free-locks) refl refl (p .room) (p
     val : Valid t
     val = p .valid
 
-    has : (k : ℕ) (ks : List ℕ) → t .free-locks ≡ k ∷ ks → 1 ≤ count k (t .free-locks)
-    has k ks e = rw (e, count-same) (omega arith)
-
     none : (k : ℕ) (ks : List ℕ) → t .free-locks ≡ k ∷ ks → lock t k ≡ no-lock
-    none k ks e = ok-at (used t) (lock t k) 0 (val .core .lock-ok k) (on-chain t (val .core .linked) free-locks k (has k ks e) .1)
+    none k ks e = on-free t (val .core) k (head-in (t .free-locks) k ks e) .1
 
-    waits : (r k : ℕ) (ks : List ℕ) → find n t ≡ suc r → t .free-locks ≡ k ∷ ks → admits t (suc r) m ≡ false →
+    waits : (r k : ℕ) (ks : List ℕ) → find n t ≡ suc r → t .free-locks ≡ k ∷ ks → granted-at-once t (suc r) m ≡ false →
         StateMarks (to-request c m f n) t (accepted-step 2 k (tell-obstacles k (move (suc r) k (queued (suc r) c m) t)))
     waits r k ks e g h =
         let u : used t (suc r) ≡ true = unfold used in rw (found n t r e, p .some) in
         let l = queued (suc r) c m in
-        let w = on-chain t (val .core .linked) free-locks k (has k ks g) .0 in
+        let w = on-free t (val .core) k (head-in (t .free-locks) k ks g) .0 in
         let c1 = enter-waiting t (val .core) (suc r) k c m ks (λ s i. val .settled s) u (val .settled (suc r) .still) g (p .client-low) (p .client-high) (p .mode) h .valid .core in
         let z : l .mark ≡ lock t k .mark = rw (none k ks g) in
         let y : move (suc r) k l t .notices ≡ t .notices = unfold move shift in rw (none k ks g) in
@@ -199,10 +197,10 @@ request-marks c m f n t p = go (find n t) (t .free-locks) refl refl (p .room) (p
     go a [] e g y z = clash true refl z
     go zero (k ∷ ks) e g y z =
         let r = first (t .free-resources) in
-        rw (new-admits c m n t val (p .client-low) (p .client-high) (p .mode) (p .some) (p .short) r e (first-member (t .free-resources) (not-true (null (t .free-resources)) y)), request-on)
+        rw (new-at-once c m n t val (p .client-low) (p .client-high) (p .mode) (p .some) (p .short) r e (first-member (t .free-resources) (not-true (null (t .free-resources)) y)), request-on)
         (granted-marks c m f n t (move-resource r (new-resource n) t) r k (λ j. unfold lock move-resource in refl) (none k ks g))
     go (suc r) (k ∷ ks) e g y z =
-        by-cases (admits t (suc r) m)
+        by-cases (granted-at-once t (suc r) m)
         (λ h. rw (h, request-on) (granted-marks c m f n t t (suc r) k (λ j. refl) (none k ks g)))
         (λ h. rw (h, request-on) (waits r k ks e g h))
 

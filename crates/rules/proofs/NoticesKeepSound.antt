@@ -1,5 +1,5 @@
 -- A lock's notice changes, its completion or its mark, and the state stays sound. Marking does so to one lock after the other.
-use mathlib.Core.Path.{_≡_, refl, _∙_}
+use mathlib.Core.Path.{_≡_, refl, ap, _∙_}
 use mathlib.Core.Logic.{_≢_}
 use mathlib.Core.Bool.{Bool, true, false}
 use mathlib.Core.List.{List, [], _∷_}
@@ -13,13 +13,14 @@ use Rattle.tables.specs.Lists.{within, count}
 use Rattle.tables.specs.State.{Resource, Tables, with-notice, lock, resource, granted, converting, waiting, holds, shift, relist, move, last-mode}
 use Rattle.tables.specs.Grants.{holders, convert-grantable}
 use Rattle.tables.specs.Validity.{used, Place, Granted, Converting, LockOk, as-granted, as-converting, Core, line, idle, Valid}
-use Rattle.tables.proofs.Cases.{by-cases, by-equal}
+use Rattle.tables.proofs.Cases.{by-cases, by-equal, clash}
 use Rattle.tables.proofs.Counts.{count-same, count-step, count-keep}
 use Rattle.tables.proofs.StateCases.{ok-numbered}
-use Rattle.tables.proofs.Valid.{ok-at, holder-place, modes-low, lock-same, lock-other, resource-same, out-of-range, used-move, Fits, core-move}
+use Rattle.tables.proofs.Valid.{ok-at, holder-place, modes-low, lock-same, lock-other, resource-same, resource-other, out-of-range, used-move, Fits, core-move}
 use Rattle.tables.proofs.ChainMembers.{state-within, in-holder}
 use Rattle.rules.specs.Deadlock.{in-the-way, obstacles}
 use Rattle.rules.specs.Calls.{larger, mark-lock, mark-locks, tell-obstacles}
+use Rattle.rules.proofs.WaitChains.{InOrder, order-before, order-after}
 use Rattle.rules.proofs.SweepLaws.{free-kept}
 use Rattle.rules.proofs.ChangesKeepSound.{After, unchanged-after, then-stop, fits-less, grows-move}
 
@@ -71,6 +72,9 @@ holder-stands t k h =
     (λ g. let s = eqb-true (lock t k .state) 1 g in (state-within t k 0 s, rw s))
     (λ g. let s = eqb-true (lock t k .state) 2 (rw g at h) in (state-within t k 1 s, rw s))
 
+holder-waits-not : (l : Lock) → holds l ≡ true → waiting l ≡ false
+holder-waits-not l h = by-cases (granted l) (λ g. rw (eqb-true (l .state) 1 g)) (λ g. rw (eqb-true (l .state) 2 (rw g at h)))
+
 module _ (k e a : ℕ) (t : Tables) (val : Valid t) (h : holds (lock t k) ≡ true) (ok : LockOk (used t) (with-notice e a (lock t k))) where
   abbrev r : ℕ
   r = lock t k .resource
@@ -103,7 +107,7 @@ module _ (k e a : ℕ) (t : Tables) (val : Valid t) (h : holds (lock t k) ≡ tr
 
   pub noted-after : After t (move r k m t) (t .free-locks)
   noted-after =
-      then-stop t (val .core) r k m (λ q i. val .settled q) w (λ z. refl) (λ z. refl) ok fit _ (free-kept r k m t (holder-stands t k h .1) (holder-stands t k h .1))
+      then-stop t (val .core) r k m (λ q i. val .settled q) w (λ z. refl) (λ z. refl) ok fit (λ z. clash (waiting (lock t k)) z (holder-waits-not (lock t k) h)) _ (free-kept r k m t (holder-stands t k h .1) (holder-stands t k h .1))
       (record { still = still (line t r) refl; peopled = rw (used-move r k m t r, noted-resource k e a t) (val .settled r .peopled) })
 
 -- MARKS. A larger of two modes is one
@@ -137,18 +141,46 @@ mark-field f same m j t h i =
     (λ q. rw (q, lock-same (lock t j .resource) j _ t (holder-stands t j h .0)) (same _ _ (lock t j)))
     (λ n. rw (lock-other (lock t j .resource) j _ t i n))
 
-after-trans : (t t1 t2 : Tables) (fs : List ℕ) → After t t1 fs → After t1 t2 (t1 .free-locks) → After t t2 fs
-after-trans t t1 t2 fs a b =
-    record { valid = b .valid; free-is = b .free-is ∙ a .free-is; locks-are = b .locks-are ∙ a .locks-are; resources-are = b .resources-are ∙ a .resources-are }
+-- .. and of every resource all
+pub mark-resource : (m j : ℕ) (t : Tables) (s : ℕ) → resource (mark-lock m j t) s ≡ resource t s
+unfolding mark-lock
+mark-resource m j t s =
+    by-equal s (lock t j .resource)
+    (λ e. rw e (noted-resource j (lock t j .completion) (larger m (lock t j .mark)) t))
+    (λ n. resource-other (lock t j .resource) j _ t s n)
 
-marks-after : (m : ℕ) → m ≤ last-mode → (js : List ℕ) (t : Tables) → Valid t → ((j : ℕ) → 1 ≤ count j js → holds (lock t j) ≡ true) → After t (mark-locks m js t) (t .free-locks)
+pub marks-resource : (m : ℕ) (js : List ℕ) (t : Tables) (s : ℕ) → resource (mark-locks m js t) s ≡ resource t s
+unfolding mark-locks
+marks-resource m [] t s = refl
+marks-resource m (i ∷ is) t s = marks-resource m is (mark-lock m i t) s ∙ mark-resource m i t s
+
+abbrev AllHold : List ℕ → Tables → Type 0
+AllHold js t = (j : ℕ) → 1 ≤ count j js → holds (lock t j) ≡ true
+
+first-holds : (j : ℕ) (js : List ℕ) (t : Tables) → AllHold (j ∷ js) t → holds (lock t j) ≡ true
+first-holds j js t h = h j (rw count-same (omega arith))
+
+rest-hold : (m j : ℕ) (js : List ℕ) (t : Tables) → AllHold (j ∷ js) t → AllHold js (mark-lock m j t)
+rest-hold m j js t h i c =
+    rw (mark-field (λ (l : Lock). holds l) (λ e a l. refl) m j t (first-holds j js t h) i) (h i (omega (arith, count-step i j js)))
+
+marks-state : (m : ℕ) (js : List ℕ) (t : Tables) → AllHold js t → (i : ℕ) → lock (mark-locks m js t) i .state ≡ lock t i .state
+unfolding mark-locks
+marks-state m [] t h i = refl
+marks-state m (j ∷ js) t h i =
+    marks-state m js (mark-lock m j t) (rest-hold m j js t h) i ∙ mark-field (λ (l : Lock). l .state) (λ e a l. refl) m j t (first-holds j js t h) i
+
+after-trans : (t t1 t2 : Tables) (fs : List ℕ) → After t t1 fs → After t1 t2 (t1 .free-locks) → ((s : ℕ) → InOrder t t2 s) → After t t2 fs
+after-trans t t1 t2 fs a b o =
+    record { valid = b .valid; in-order = o; free-is = b .free-is ∙ a .free-is; locks-are = b .locks-are ∙ a .locks-are; resources-are = b .resources-are ∙ a .resources-are }
+
+marks-after : (m : ℕ) → m ≤ last-mode → (js : List ℕ) (t : Tables) → Valid t → AllHold js t → After t (mark-locks m js t) (t .free-locks)
 unfolding mark-locks
 marks-after m le [] t val h = unchanged-after t _ val refl
 marks-after m le (j ∷ js) t val h =
-    let hj = h j (rw count-same (omega arith)) in
-    let a = mark-after m j t le val hj in
-    after-trans t (mark-lock m j t) _ (t .free-locks) a
-    (marks-after m le js (mark-lock m j t) (a .valid) (λ i c. rw (mark-field (λ (l : Lock). holds l) (λ e a l. refl) m j t hj i) (h i (omega (arith, count-step i j js)))))
+    let a = mark-after m j t le val (first-holds j js t h) in
+    let b = marks-after m le js (mark-lock m j t) (a .valid) (rest-hold m j js t h) in
+    after-trans t (mark-lock m j t) _ (t .free-locks) a b (λ s. order-before t (mark-lock m j t) _ s (ap (λ (x : Resource). x .wait) (mark-resource m j t s)) (b .in-order s))
 
 -- who is in a lock's way holds a mode on its resource
 pub obstacle-in : (t : Tables) (k j : ℕ) → 1 ≤ count j (obstacles t k) → (1 ≤ count j (holders t (lock t k .resource))) × (in-the-way t k j ≡ true)
@@ -163,6 +195,8 @@ pub told-after : (k : ℕ) (t t1 : Tables) (fs : List ℕ) → After t t1 fs →
 unfolding tell-obstacles
 told-after k t t1 fs a =
     let c = a .valid .core in
+    let m = lock t1 k .asked in
+    let h : AllHold (obstacles t1 k) t1 = λ j i. in-holder t1 (c .linked) (lock t1 k .resource) j (obstacle-in t1 k j i .0) .0 in
     after-trans t t1 _ fs a
-    (marks-after (lock t1 k .asked) (modes-low (used t1) (lock t1 k) (lock t1 k .state) (ok-numbered (c .lock-ok k)) .1) (obstacles t1 k) t1 (a .valid)
-    (λ j h. in-holder t1 (c .linked) (lock t1 k .resource) j (obstacle-in t1 k j h .0) .0))
+    (marks-after m (modes-low (used t1) (lock t1 k) (lock t1 k .state) (ok-numbered (c .lock-ok k)) .1) (obstacles t1 k) t1 (a .valid) h)
+    (λ s. order-after t t1 _ s (ap (λ (x : Resource). x .wait) (marks-resource m (obstacles t1 k) t1 s)) (marks-state m (obstacles t1 k) t1 h) (a .in-order s))

@@ -140,6 +140,9 @@ module _ (t : Tables) (val : Valid t) where
   pub is-lock : (k : ℕ) → within (length (t .locks)) k ≡ true → IsLock (words t) k
   is-lock k w = let p = within-le (length (t .locks)) k w in record { low = p .0; high = omega (arith, locks-word t) }
 
+  pub is-resource : (r : ℕ) → within (length (t .resources)) r ≡ true → IsResource (words t) r
+  is-resource r w = let p = within-le (length (t .resources)) r w in record { low = p .0; high = omega (arith, resources-word t) }
+
   kept : (r k i m : ℕ) → ((j : ℕ) → j ≢ k → within (length (t .locks)) j ≡ true → j ≢ i) → fits t r k m ≡ false → kept-out (words t) r i m ≡ true
   unfolding kept-out
   kept r k i m away f =
@@ -157,7 +160,7 @@ module _ (t : Tables) (val : Valid t) where
           clash (any bars (from 1 (locks-in (words t))))
           (any-intro bars (from 1 (locks-in (words t))) j (rw (locks-word t, count-from (length (t .locks)) j, w) (omega arith)) barred) z)
 
-  head-word : (r : ℕ) → IsResource (words t) r → (q : Queue) → word-in (words t) (of-resource r (queue-head q)) ≡ first (queue-of q (resource t r))
+  pub head-word : (r : ℕ) → IsResource (words t) r → (q : Queue) → word-in (words t) (of-resource r (queue-head q)) ≡ first (queue-of q (resource t r))
   head-word r i grants = word-read t (of-resource r 1) (queue-present r i 1 (omega arith)) ∙ next-here 0 0 (resource t r .grant) refl
   head-word r i converts = word-read t (of-resource r 2) (queue-present r i 2 (omega arith)) ∙ next-here 0 0 (resource t r .convert) refl
   head-word r i waits = word-read t (of-resource r 3) (queue-present r i 3 (omega arith)) ∙ next-here 0 0 (resource t r .wait) refl

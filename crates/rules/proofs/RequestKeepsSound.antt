@@ -1,47 +1,70 @@
--- A request keeps a state sound.
+-- What a request needs to be granted at once, and that it keeps a state sound and the order of those that wait.
 use mathlib.Core.Path.{_≡_, refl, sym, ap, _∙_}
 use mathlib.Core.Logic.{_≢_}
-use mathlib.Core.Bool.{true, false, _||_, not}
+use mathlib.Core.Bool.{true, false, _||_, not, and-false, or-true}
 use mathlib.Core.List.{List, [], _∷_, _++_, append-assoc}
 use Prim.Native.Nat.{ℕ, zero, suc, _≤_}
 use native.Mathlib.Omega.{arith}
 use lib.ListN.{length, drop}
 use lib.Dec.{eqb, leb}
-use borrow.Author.Tests.{leb-true, leb-false, not-true}
+use borrow.Author.Tests.{ne-eqb, leb-true, leb-false, not-true}
+use Rattle.modes.specs.Modes.{NL}
+use Rattle.modes.proofs.Laws.{null-goes}
 use Rattle.tables.specs.declared.Lock.{Lock}
 use Rattle.tables.specs.Lists.{within, count, remove, first, null, from, same}
-use Rattle.tables.specs.State.{Resource, Tables, no-lock, lock, resource, holds, LockChain, chain, shift, relist, move, move-resource, grants, converts, waits, free-locks, queue, last-client, last-mode, name-width}
-use Rattle.tables.specs.Grants.{fits, admits}
-use Rattle.tables.proofs.Cases.{by-cases, clash, eqb-same, and-right, and-intro}
-use Rattle.tables.proofs.Counts.{count-same, remove-head, count-from, nil-of-counts, same-eq, same-refl, first-passes, first-none}
+use Rattle.tables.specs.State.{Resource, Tables, no-lock, lock, resource, waiting, holds, LockChain, chain, shift, relist, move, move-resource, grants, converts, waits, free-locks, queue, last-client, last-mode, name-width}
+use Rattle.tables.specs.Grants.{fits}
+use Rattle.tables.proofs.Cases.{by-cases, clash, eqb-same}
+use Rattle.tables.proofs.Counts.{count-same, head-in, remove-head, count-from, null-nil, nil-of-counts, same-eq, same-refl, first-passes, first-none}
 use Rattle.tables.specs.Validity.{used, LockOk, as-granted, as-waiting, Core, line, idle, Settled, Valid, Near}
-use Rattle.tables.proofs.Valid.{ok-at, absent, used-within, lock-same, resource-same, locks-length, Fits, core-move}
-use Rattle.tables.proofs.ChainMembers.{and-bit, on-chain, chain-has, chain-once, on-grants, on-converts, on-waits, fits-true, wait-fits}
+use Rattle.tables.proofs.Valid.{ok-at, holder-place, absent, used-within, lock-same, resource-same, locks-length, Fits, core-move}
+use Rattle.tables.proofs.ChainMembers.{and-bit, on-free, chain-has, chain-once, on-grants, on-converts, on-waits, fits-true, true-fits, wait-fits}
 use Rattle.rules.specs.Queues.{find}
-use Rattle.rules.specs.Calls.{new-resource, resource-for, with-resource, holding, queued, request-on, request-change}
-use Rattle.rules.proofs.ResourceChanges.{changed, resources-kept, used-changed, SameChains, core-resource, settled-kept, no-value-length}
+use Rattle.rules.specs.Calls.{new-resource, resource-for, with-resource, holding, queued, granted-at-once, request-on, request-change}
+use Rattle.rules.proofs.ResourceChanges.{changed, resources-kept, field-kept, used-changed, SameChains, core-resource, settled-kept, no-value-length}
+use Rattle.rules.proofs.WaitChains.{order-before}
 use Rattle.rules.proofs.ChangesKeepSound.{After, free-taken, then-stop, full-of, granted-full, fits-alone, Grows, grows-move, head-still, head-new, still-stays}
 use Rattle.rules.proofs.NoticesKeepSound.{told-after}
 
-front-nil : (xs ys : List ℕ) → xs ++ ys ≡ [] → xs ≡ []
-front-nil [] ys e = refl
-front-nil (x ∷ xs) ys e = absurd (omega (arith, ap length e))
+both-nil : (xs ys : List ℕ) → xs ++ ys ≡ [] → (xs ≡ []) × (ys ≡ [])
+both-nil [] ys e = (refl, e)
+both-nil (x ∷ xs) ys e = absurd (omega (arith, ap length e))
+
+-- a request that is granted at once fits; where nobody waits, one that fits is granted at once
+pub at-once-fits : (t : Tables) (r m : ℕ) → granted-at-once t r m ≡ true → fits t r 0 m ≡ true
+unfolding granted-at-once
+at-once-fits t r m h = by-cases (fits t r 0 m) (λ y. y) (λ y. clash true refl (sym h ∙ rw (y, and-false)))
+
+pub alone-at-once : (t : Tables) (r m : ℕ) → line t r ≡ [] → granted-at-once t r m ≡ fits t r 0 m
+unfolding granted-at-once line
+alone-at-once t r m e =
+    let z = both-nil (resource t r .convert) (resource t r .wait) e in
+    simp (z .0, z .1, or-true)
+
+-- of another mode than NL it is granted at once only where nobody waits, and of NL wherever no conversion does
+pub at-once-first : (t : Tables) (r m : ℕ) → granted-at-once t r m ≡ true → m ≢ NL → resource t r .wait ≡ []
+unfolding granted-at-once
+at-once-first t r m h n =
+    null-nil (resource t r .wait)
+    (by-cases (null (resource t r .wait)) (λ y. y) (λ y. clash (granted-at-once t r m) h (simp (y, ne-eqb m NL n, and-false))))
+
+pub null-at-once : (t : Tables) → Core t → (r : ℕ) → resource t r .convert ≡ [] → granted-at-once t r NL ≡ true
+unfolding granted-at-once
+null-at-once t c r e =
+    rw e (true-fits t (c .linked) r 0 NL (λ j n h q. null-goes (lock t j .held) (holder-place (used t) (lock t j) (c .lock-ok j) h .held-mode)))
 
 -- a free lock enters on a resource in use
 module _ (t : Tables) (co : Core t) (r k c m : ℕ) (ks : List ℕ) (rest : (s : ℕ) → s ≢ r → Settled t s) (u : used t r ≡ true) (i : idle t r (line t r) ≡ true)
     (frees : t .free-locks ≡ k ∷ ks) (low : 1 ≤ c) (high : c ≤ last-client) (mode : m ≤ last-mode) where
-  mem : 1 ≤ count k (chain t free-locks)
-  mem = rw (frees, count-same) (omega arith)
-
   w : within (length (t .locks)) k ≡ true
-  w = on-chain t (co .linked) free-locks k mem .0
+  w = on-free t co k (head-in (t .free-locks) k ks frees) .0
 
   none : lock t k ≡ no-lock
-  none = ok-at (used t) (lock t k) 0 (co .lock-ok k) (on-chain t (co .linked) free-locks k mem .1)
+  none = on-free t co k (head-in (t .free-locks) k ks frees) .1
 
   takes : (l : Lock) → eqb (l .state) 0 ≡ false → move r k l t .free-locks ≡ ks
   takes l h =
-      free-taken r k l t (on-chain t (co .linked) free-locks k mem .1) h
+      free-taken r k l t (rw none) h
       ∙ ap (remove k) frees ∙ remove-head k ks (omega (arith, rw (frees, count-same) at (chain-once t (co .linked) free-locks k)))
 
   grow : (l : Lock) → Grows t (move r k l t) r
@@ -54,8 +77,7 @@ module _ (t : Tables) (co : Core t) (r k c m : ℕ) (ks : List ℕ) (rest : (s :
   alone : fits t r 0 m ≡ fits t r k m
   alone = wait-fits t co r k m (rw none)
 
-  pub enter-granted : admits t r m ≡ true → After t (move r k (holding r c m) t) ks
-  unfolding admits
+  pub enter-granted : granted-at-once t r m ≡ true → After t (move r k (holding r c m) t) ks
   enter-granted h =
       let l = holding r c m in
       let ok : LockOk (used t) l = as-granted refl (record {
@@ -64,18 +86,17 @@ module _ (t : Tables) (co : Core t) (r k c m : ℕ) (ks : List ℕ) (rest : (s :
         notice = omega arith;
         not-denied = omega arith;
       }) in
-      let fit : holds l ≡ true → Fits t r k m = λ z. fits-true t (co .linked) r k m (sym alone ∙ and-right (null (resource t r .convert)) _ h) in
+      let fit : holds l ≡ true → Fits t r k m = λ z. fits-true t (co .linked) r k m (sym alone ∙ at-once-fits t r m h) in
       let c1 = core-move r k l t co w near (λ z. refl) ok fit in
-      then-stop t co r k l rest w near (λ z. refl) ok fit ks (takes l refl)
+      then-stop t co r k l rest w near (λ z. refl) ok fit (λ z. clash (waiting (lock t k)) z (rw none)) ks (takes l refl)
       (record {
         still = still-stays t co r k l c1 w (rw none) (grow l) (used-within t r u) refl i;
         peopled = λ z. granted-full t r k l c1 w refl refl;
       })
 
-  pub enter-waiting : admits t r m ≡ false → After t (move r k (queued r c m) t) ks
-  unfolding admits
+  pub enter-waiting : granted-at-once t r m ≡ false → After t (move r k (queued r c m) t) ks
   enter-waiting h =
-      then-stop t co r k l rest w near (λ z. refl) ok fit ks (takes l refl)
+      then-stop t co r k l rest w near (λ z. refl) ok fit (λ z. clash (waiting (lock t k)) z (rw none)) ks (takes l refl)
       (record {
         still = go (line t r) refl;
         peopled = λ z. full-of _ k (omega (arith, chain-has (move r k l t) (c1 .linked) (queue r waits) k (rw (locks-length r k l t) w) (rw (lock-same r k l t w, eqb-same r))));
@@ -102,9 +123,7 @@ module _ (t : Tables) (co : Core t) (r k c m : ℕ) (ks : List ℕ) (rest : (s :
       joins = unfold line relist shift in rw (resource-same r k l t (used-within t r u), none, append-assoc)
 
       go : (qs : List ℕ) → line t r ≡ qs → idle (move r k l t) r (line (move r k l t) r) ≡ true
-      go [] e =
-          let z : resource t r .convert ≡ [] = front-nil _ (resource t r .wait) (unfold line in e) in
-          head-new t co r k l c1 w (rw none) (grow l) [] (joins ∙ rw e) (sym alone ∙ (rw z at h))
+      go [] e = head-new t co r k l c1 w (rw none) (grow l) [] (joins ∙ rw e) (sym alone ∙ sym (alone-at-once t r m e) ∙ h)
       go (x ∷ xs) e = head-still t co r k l c1 w (rw none) (grow l) x xs (xs ++ (k ∷ [])) e (joins ∙ rw e) i
 
 -- a name that is found, and one that is not
@@ -144,7 +163,7 @@ module _ (c m : ℕ) (n : List ℕ) (t : Tables) (val : Valid t) (low : 1 ≤ c)
   unfolding request-on
   on-old r k ks e frees =
       let u : used t (suc r) ≡ true = unfold used in rw (found n t r e, some) in
-      by-cases (admits t (suc r) m)
+      by-cases (granted-at-once t (suc r) m)
       (λ h. rw (h, request-on) (enter-granted t (val .core) (suc r) k c m ks (λ s i. val .settled s) u (val .settled (suc r) .still) frees low high mode h))
       (λ h. rw (h, request-on) (told-after k t _ ks (enter-waiting t (val .core) (suc r) k c m ks (λ s i. val .settled s) u (val .settled (suc r) .still) frees low high mode h)))
 
@@ -176,18 +195,24 @@ module _ (c m : ℕ) (n : List ℕ) (t : Tables) (val : Valid t) (low : 1 ≤ c)
     line0 : line t0 r ≡ []
     line0 = unfold line in rw (changed r x t (b .0))
 
-    pub new-admits : admits t0 r m ≡ true
-    unfolding admits
-    new-admits = and-intro (null (resource t0 r .convert)) (fits t0 r 0 m) (rw (changed r x t (b .0))) (fits-alone t0 r 0 m (rw (changed r x t (b .0))) (rw (changed r x t (b .0))))
+    pub new-at-once : granted-at-once t0 r m ≡ true
+    new-at-once = alone-at-once t0 r m line0 ∙ fits-alone t0 r 0 m (rw (changed r x t (b .0))) (rw (changed r x t (b .0)))
 
     moved-on : {t′ : Tables} {fs : List ℕ} → After t0 t′ fs → After t t′ fs
-    moved-on a = record { valid = a .valid; free-is = a .free-is; locks-are = a .locks-are ∙ (unfold move-resource in refl); resources-are = a .resources-are ∙ resources-kept r x t }
+    moved-on {t′ = t′} a =
+        record {
+          valid = a .valid;
+          in-order = λ s. order-before t t0 t′ s (field-kept r x t (λ (y : Resource). y .wait) (b .0) (same-chains .wait) s) (a .in-order s);
+          free-is = a .free-is;
+          locks-are = a .locks-are ∙ (unfold move-resource in refl);
+          resources-are = a .resources-are ∙ resources-kept r x t;
+        }
 
     on-new : (k : ℕ) (ks : List ℕ) → t .free-locks ≡ k ∷ ks → After t (request-on r k c m (move-resource r (new-resource n) t) .tables) ks
     unfolding request-on
     on-new k ks frees =
-        rw (new-admits, request-on)
-        (moved-on (enter-granted t0 core0 r k c m ks (λ s i. settled-kept r x t (b .0) same-chains s i (val .settled s)) used0 (rw line0 (unfold idle in refl)) (unfold move-resource in frees) low high mode new-admits))
+        rw (new-at-once, request-on)
+        (moved-on (enter-granted t0 core0 r k c m ks (λ s i. settled-kept r x t (b .0) same-chains s i (val .settled s)) used0 (rw line0 (unfold idle in refl)) (unfold move-resource in frees) low high mode new-at-once))
 
   pub request-after : (not (eqb (find n t) 0) || not (null (t .free-resources))) ≡ true → null (t .free-locks) ≡ false →
       After t (request-change c m n t .tables) (drop 1 (t .free-locks))

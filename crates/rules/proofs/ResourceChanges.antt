@@ -18,6 +18,7 @@ use Rattle.tables.proofs.StateCases.{StateOk, ok-numbered}
 use Rattle.tables.proofs.Valid.{used-within, ok-map}
 use Rattle.tables.proofs.ChainMembers.{state-within, chain-has}
 use Rattle.rules.specs.Calls.{stores, spoils, with-value, leave-value}
+use Rattle.rules.proofs.ListOrder.{front-none}
 use Rattle.rules.proofs.SweepLaws.{Swept}
 
 pub empty-chains : (x : Resource) → empty x ≡ true → (x .grant ≡ []) × (x .convert ≡ []) × (x .wait ≡ [])
@@ -176,6 +177,8 @@ free-empty r t c w h =
       core = core-resource r no-resource t c w same free-ok (λ s n z. clash true refl z) (λ z. h);
       still = rw (idle-kept r no-resource t w same r) (unfold line idle in rw (e .1, e .2));
       others = λ s n q. settled-kept r no-resource t w same s n q;
+      fronts = λ s. rw (field-kept r no-resource t (λ (y : Resource). y .wait) w (same .wait) s) (front-none _);
+      unmoved = λ j q. lock-kept r no-resource t j;
       peopled = λ q. clash (empty (resource t r)) h q;
       free-same = unfold move-resource in refl;
       locks-same = unfold move-resource in refl;
@@ -211,6 +214,7 @@ pub record Quiet (t t′ : Tables) : Type 0 where
   pub core : Core t′
   pub settled : (s : ℕ) → Settled t s → Settled t′ s
   pub lock-is : (k : ℕ) → lock t′ k ≡ lock t k
+  pub waits-are : (s : ℕ) → resource t′ s .wait ≡ resource t s .wait
   pub used-is : (s : ℕ) → used t′ s ≡ used t s
   pub free-is : t′ .free-locks ≡ t .free-locks
   pub locks-are : length (t′ .locks) ≡ length (t .locks)
@@ -229,6 +233,7 @@ value-quiet f v r t right u c =
           (λ z. clash (null (resource t r .name)) (rw named at z) (used-name t r u));
       settled = λ s h. record { still = rw (idle-kept r x t w same s) (h .still); peopled = rw (used-kept r x t w same s named, empty-kept r x t w same s) (h .peopled) };
       lock-is = lock-kept r x t;
+      waits-are = field-kept r x t (λ (y : Resource). y .wait) w (same .wait);
       used-is = λ s. used-kept r x t w same s named;
       free-is = refl;
       locks-are = refl;
@@ -238,5 +243,5 @@ value-quiet f v r t right u c =
 pub leave-quiet : (b : Bool) (f : ℕ) (v : List ℕ) (r : ℕ) (t : Tables) → (stores f ≡ true → length v ≡ value-width) → (b ≡ true → used t r ≡ true) → Core t → Quiet t (leave-value b f v r t)
 unfolding leave-value
 leave-quiet false f v r t right u c =
-    record { core = c; settled = λ s h. h; lock-is = λ k. refl; used-is = λ s. refl; free-is = refl; locks-are = refl; resources-are = refl }
+    record { core = c; settled = λ s h. h; lock-is = λ k. refl; waits-are = λ s. refl; used-is = λ s. refl; free-is = refl; locks-are = refl; resources-are = refl }
 leave-quiet true f v r t right u c = value-quiet f v r t right (u refl) c

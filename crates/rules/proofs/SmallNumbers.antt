@@ -11,7 +11,7 @@ use Rattle.tables.specs.declared.LockEntry.{LockEntry}
 use Rattle.tables.specs.Lists.{count, first-that, first, from}
 use Rattle.tables.specs.State.{Tables, lock, resource, converting, grants, converts, waits, LockChain, free-locks, blocked, notices, queue, chain}
 use Rattle.tables.specs.Layout.{read}
-use Rattle.tables.specs.Grants.{holders, admits}
+use Rattle.tables.specs.Grants.{holders}
 use Rattle.tables.specs.Sound.{sound}
 use Rattle.tables.specs.Validity.{used, Core}
 use Rattle.tables.proofs.Cases.{by-cases}
@@ -22,7 +22,7 @@ use Rattle.tables.proofs.Pigeonhole.{length-from}
 use Rattle.tables.proofs.Soundness.{sound-valid}
 use Rattle.rules.specs.Queues.{find}
 use Rattle.rules.specs.Deadlock.{victim}
-use Rattle.rules.specs.Calls.{accepted, refused, Step, unless, refused-or, resource-for, with-resource, request-on, request-change, request-refusal, request, in-place, convert-change, convert-refusal, convert, release-change, release-refusal, release, cancel-change, cancel-refusal, cancel, locks-of, purge-change, purge-refusal, purge, deny-victim, break, poll-notice, poll-change, poll-refusal, poll}
+use Rattle.rules.specs.Calls.{accepted, refused, Step, unless, refused-or, resource-for, with-resource, granted-at-once, request-on, request-change, request-refusal, request, in-place, convert-change, convert-refusal, convert, release-change, release-refusal, release, cancel-change, cancel-refusal, cancel, locks-of, purge-change, purge-refusal, purge, deny-victim, break, poll-notice, poll-change, poll-refusal, poll}
 use Rattle.rules.specs.Entries.{Lent, Call, to-request, to-convert, to-release, to-cancel, to-purge, to-break, to-poll, step-of, written-back, if-sound, entry, call-entry, start-accepts, start-if, start-entry, look-refusal, read-value, read-if, read-entry, lock-entry, listed, list-locks, list-if, list-entry}
 use Rattle.rules.specs.Images.{image-refusal, image-into, image-entry, load-refusal, load-into, load-entry}
 use Rattle.rules.specs.Numbers.{Small, reading-said, listing-said, imaged-said, NumbersSmall}
@@ -98,7 +98,7 @@ module _ (t : Tables) (c : Core t) where
     where
       on : (r : ℕ) (u : Tables) → Small (request-on r (first (t .free-locks)) i m u .said)
       on r u = unfold request-on in
-          by-cases (admits u r m)
+          by-cases (granted-at-once u r m)
           (λ h. rw (h, request-on) (small-accepted 1 (first (t .free-locks)) (omega arith) free-small))
           (λ h. rw (h, request-on) (small-accepted 2 (first (t .free-locks)) (omega arith) free-small))
 

@@ -1,22 +1,23 @@
--- Granting and sweeping keep a state sound, and leave other resources as they were.
-use mathlib.Core.Path.{_≡_, refl, sym, _∙_}
+-- Granting and sweeping keep a state sound, leave other resources as they were, and take from the front of a wait chain.
+use mathlib.Core.Path.{_≡_, refl, sym, ap, _∙_}
 use mathlib.Core.Logic.{_≢_}
 use mathlib.Core.Bool.{true, false, and-true}
 use mathlib.Core.List.{List, [], _∷_, _++_}
 use Prim.Native.Nat.{ℕ, _+_, _≤_}
 use native.Mathlib.Omega.{arith}
-use lib.ListN.{length}
+use lib.ListN.{length, drop}
 use lib.Dec.{eqb}
 use Rattle.tables.specs.declared.Lock.{Lock}
 use Rattle.tables.specs.Lists.{count, remove, null}
-use Rattle.tables.specs.State.{Tables, lock, resource, converting, waiting, shift, shift-front, relist, move, converts, waits, queue}
+use Rattle.tables.specs.State.{Tables, lock, resource, converting, waiting, blocked-lock, shift, shift-front, relist, move, converts, waits, queue}
 use Rattle.tables.specs.Grants.{convert-grantable, wait-grantable, empty}
-use Rattle.tables.proofs.Cases.{by-cases, eqb-same}
+use Rattle.tables.proofs.Cases.{by-cases, by-equal, clash, eqb-same}
 use Rattle.tables.proofs.Counts.{count-append, remove-absent, remove-head, remove-append, shift-off, head-in, head-once}
 use Rattle.tables.specs.Validity.{Core, line, idle, Settled, Near, as-granted}
-use Rattle.tables.proofs.Valid.{used-within, resource-same, locks-length, resources-length, core-move}
-use Rattle.tables.proofs.ChainMembers.{fits-true, blocked-place, settled-other, line-once, not-granted, wait-behind, wait-head}
+use Rattle.tables.proofs.Valid.{used-within, lock-other, resource-same, resource-other, locks-length, resources-length, core-move}
+use Rattle.tables.proofs.ChainMembers.{fits-true, blocked-place, settled-other, line-once, line-blocked, not-granted, wait-behind, wait-head}
 use Rattle.rules.specs.Queues.{granted-lock, grant-lock, grant-while, grant-converts, grant-waits, sweep}
+use Rattle.rules.proofs.ListOrder.{FromFront, front-none, front-then}
 
 module _ (t : Tables) (c : Core t) where
   pub grant-core : (r k : ℕ) → 1 ≤ count k (line t r) → convert-grantable t r k ≡ true → Core (grant-lock r k t)
@@ -59,11 +60,31 @@ module _ (t : Tables) (c : Core t) where
     unfolding line
     grant-line e = rw (grant-converts-left r k (head-in (line t r) k ks e), grant-waits-left r k (head-in (line t r) k ks e), ← remove-append, e) (remove-head k ks (once e))
 
--- what sweeping does
+    -- .. and of the wait chain it was the front, or not on it
+    grant-front : line t r ≡ k ∷ ks → FromFront (resource t r .wait) (resource (grant-lock r k t) r .wait)
+    unfolding line
+    grant-front e = rw (grant-waits-left r k (head-in (line t r) k ks e)) (go (resource t r .convert) (resource t r .wait) e (once e))
+      where
+        go : (cs ws : List ℕ) → cs ++ ws ≡ k ∷ ks → count k ks ≡ 0 → FromFront ws (remove k ws)
+        go [] ws q z = rw (q, remove-head k ks z) (record { taken = k ∷ []; split = refl })
+        go (x ∷ cs) ws q z =
+            let rest : cs ++ ws ≡ ks = ap (λ (ys : List ℕ). drop 1 ys) q in
+            rw (remove-absent k ws (omega (arith, count-append k cs ws, ap (count k) rest))) (front-none ws)
+
+    grant-fronts : line t r ≡ k ∷ ks → (s : ℕ) → FromFront (resource t s .wait) (resource (grant-lock r k t) s .wait)
+    unfolding grant-lock
+    grant-fronts e s =
+        by-equal s r
+        (λ q. rw q (grant-front e))
+        (λ n. rw (resource-other r k (granted-lock (lock t k)) t s n) (front-none _))
+
+-- what sweeping does. Of every wait chain some are taken from the front, and locks that are not blocked stay as they are.
 pub record Swept (r : ℕ) (t t′ : Tables) : Type 0 where
   pub core : Core t′
   pub still : idle t′ r (line t′ r) ≡ true
   pub others : (s : ℕ) → s ≢ r → Settled t s → Settled t′ s
+  pub fronts : (s : ℕ) → FromFront (resource t s .wait) (resource t′ s .wait)
+  pub unmoved : (j : ℕ) → blocked-lock (lock t j) ≡ false → lock t′ j ≡ lock t j
   pub peopled : empty (resource t r) ≡ false → empty (resource t′ r) ≡ false
   pub free-same : t′ .free-locks ≡ t .free-locks
   pub locks-same : length (t′ .locks) ≡ length (t .locks)
@@ -71,12 +92,17 @@ pub record Swept (r : ℕ) (t t′ : Tables) : Type 0 where
 
 -- a step before a sweep that leaves the other resources alone
 pub step-swept : (r k : ℕ) (m : Lock) (t t′ : Tables) → Core t → Near r (lock t k) → (empty (resource t r) ≡ false → empty (resource (move r k m t) r) ≡ false) →
-    move r k m t .free-locks ≡ t .free-locks → Swept r (move r k m t) t′ → Swept r t t′
-step-swept r k m t t′ c near full same s =
+    move r k m t .free-locks ≡ t .free-locks → ((s : ℕ) → FromFront (resource t s .wait) (resource (move r k m t) s .wait)) → blocked-lock (lock t k) ≡ true →
+    Swept r (move r k m t) t′ → Swept r t t′
+step-swept r k m t t′ c near full same front b s =
     record {
       core = s .core;
       still = s .still;
       others = λ q n h. s .others q n (settled-other t c r k m near q n h);
+      fronts = λ q. front-then _ _ _ (front q) (s .fronts q);
+      unmoved = λ j h.
+          let o = lock-other r k m t j (λ e. clash (blocked-lock (lock t k)) b (rw e at h)) in
+          s .unmoved j (rw o h) ∙ o;
       peopled = λ h. s .peopled (full h);
       free-same = s .free-same ∙ same;
       locks-same = s .locks-same ∙ locks-length r k m t;
@@ -99,16 +125,36 @@ grant-full t c r k m = rw (left t c r k m, not-granted t c r k m .0) (rw (full-g
 abbrev pub sweep-line : ℕ → List ℕ → Tables → Tables
 sweep-line r qs t = grant-while convert-grantable r qs t
 
-pub swept : (r : ℕ) (qs : List ℕ) (t : Tables) → Core t → line t r ≡ qs → Swept r t (sweep-line r qs t)
+still-swept : (r : ℕ) (t : Tables) → Core t → idle t r (line t r) ≡ true → Swept r t t
+still-swept r t c h =
+    record {
+      core = c;
+      still = h;
+      others = λ s n q. q;
+      fronts = λ s. front-none _;
+      unmoved = λ j q. refl;
+      peopled = λ q. q;
+      free-same = refl;
+      locks-same = refl;
+      resources-same = refl;
+    }
+
+next-swept : (r k : ℕ) (ks : List ℕ) (t : Tables) → Core t → line t r ≡ k ∷ ks →
+    (convert-grantable t r k ≡ true → Swept r (grant-lock r k t) (sweep-line r ks (grant-lock r k t))) → Swept r t (sweep-line r (k ∷ ks) t)
 unfolding grant-while grant-lock
-swept r [] t c e =
-    record { core = c; still = rw e (unfold idle in refl); others = λ s n h. h; peopled = λ h. h; free-same = refl; locks-same = refl; resources-same = refl }
-swept r (k ∷ ks) t c e =
+next-swept r k ks t c e rest =
     let m = head-in (line t r) k ks e in
     let l : Lock = granted-lock (lock t k) in
     by-cases (convert-grantable t r k)
-    (λ g. rw (g, grant-while) (step-swept r k l t _ c (λ z. blocked-place t c r k m .1) (λ z. grant-full t c r k m) (free-kept r k l t (not-granted t c r k m .1) (unfold granted-lock in refl)) (swept r ks (grant-lock r k t) (grant-core t c r k m g) (grant-line t c r k ks e))))
-    (λ g. rw (g, grant-while) (record { core = c; still = rw e (unfold idle in rw g); others = λ s n h. h; peopled = λ h. h; free-same = refl; locks-same = refl; resources-same = refl }))
+    (λ g. rw (g, grant-while)
+    (step-swept r k l t _ c (λ z. blocked-place t c r k m .1) (λ z. grant-full t c r k m) (free-kept r k l t (not-granted t c r k m .1) (unfold granted-lock in refl))
+    (grant-fronts t c r k ks e) (line-blocked t c r k m) (rest g)))
+    (λ g. rw (g, grant-while) (still-swept r t c (rw e (unfold idle in rw g))))
+
+pub swept : (r : ℕ) (qs : List ℕ) (t : Tables) → Core t → line t r ≡ qs → Swept r t (sweep-line r qs t)
+swept r [] t c e = unfold grant-while in still-swept r t c (rw e (unfold idle in refl))
+swept r (k ∷ ks) t c e =
+    next-swept r k ks t c e (λ g. swept r ks (grant-lock r k t) (grant-core t c r k (head-in (line t r) k ks e) g) (grant-line t c r k ks e))
 
 -- the paper's two loops are that one: on an empty convert chain the tests are the same, and behind a convert head no wait head is granted
 waits-line : (r : ℕ) (ws : List ℕ) (t : Tables) → Core t → resource t r .convert ≡ [] → resource t r .wait ≡ ws →

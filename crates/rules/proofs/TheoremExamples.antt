@@ -5,17 +5,17 @@ use mathlib.Core.List.{List, [], _∷_}
 use Prim.Native.Nat.{ℕ, zero, suc, _≤_}
 use native.Mathlib.Omega.{arith}
 use lib.ListN.{replicate}
-use Rattle.modes.specs.Modes.{matrix, compatible, all-modes, down}
+use Rattle.modes.specs.Modes.{NL, CR, EX, matrix, compatible, all-modes, down}
 use Rattle.tables.specs.Lists.{count, remove, all, any, keep, first-that, next, same}
 use Rattle.tables.specs.State.{no-value, lock, resource, started, shift, shift-front, relist, move, move-resource, grants, converts, waits, free-locks, denied, blocked, notices, queue}
 use Rattle.tables.specs.Layout.{rows, sheet, by-address, words, slot, slots, follow, read-chain, read-lock, slot-in, read-resource, read}
-use Rattle.tables.specs.Grants.{holders, fits, convert-grantable, admits, wait-grantable, grantable-head, no-grantable-head, empty}
+use Rattle.tables.specs.Grants.{holders, fits, convert-grantable, wait-grantable, grantable-head, no-grantable-head, empty}
 use Rattle.tables.specs.Sound.{sizes-right, zeros-right, resource-index, lock-index, indices-right, ends, chain-ends, chains-end, all-zero, free-resource-right, name-unique, used-resource-right, resource-right, stands-right, home-right, client-right, modes-right, on-resource, fields-right, lock-right, linked-right, holders-compatible, state-right, sound}
 use Rattle.rules.specs.Queues.{granted-lock, grant-lock, grant-while, grant-converts, grant-waits, sweep, free-lock, settle, find}
 use Rattle.rules.specs.Deadlock.{in-the-way, obstacles}
-use Rattle.rules.specs.Calls.{accepted, unless, refused-or, stores, spoils, no-queue, request-flags, convert-flags, name-right, value-right, own, strong, with-value, leave-value, larger, mark-lock, mark-locks, tell-obstacles, resource-for, with-resource, request-on, request-change, at-once, request-refusal, request, in-place, convert-change, convert-refusal, convert, cancel-change, cancel-refusal, cancel}
+use Rattle.rules.specs.Calls.{accepted, unless, refused-or, stores, spoils, no-queue, request-flags, convert-flags, name-right, value-right, own, strong, with-value, leave-value, larger, mark-lock, mark-locks, tell-obstacles, resource-for, with-resource, granted-at-once, request-on, request-change, at-once, request-refusal, request, in-place, convert-change, convert-refusal, convert, cancel-change, cancel-refusal, cancel}
 use Rattle.rules.specs.Entries.{Lent, lent, lent-of, Call, to-cancel, written-back, if-sound, entry, call-entry}
-use Rattle.rules.specs.Bench.{requests-a, converts-to, NL, CR, EX}
+use Rattle.rules.specs.Bench.{requests-a, converts-to}
 use Rattle.rules.specs.Theorem.{lent-after-calls, sum-of, requests-accepted, releases-accepted, requests-cancelled, locks-purged, polled-denials, in-use, queue-count, home-count, kept-out, QueuesHold, Demand}
 
 -- One resource and three locks. Lock 1 holds CR, and lock 2 NL. Lock 2 asks for EX, takes that back and asks again: it waits on the convert chain,
@@ -46,7 +46,7 @@ past-1 : {A : Type 0} (r : ℕ) → suc (suc r) ≤ 1 → A
 past-1 r p = absurd (omega arith)
 
 three-hold : QueuesHold (three-left .words) (three-left .slots)
-unfolding queue-count home-count kept-out follow read-chain read-lock slot-in read-resource read lock resource count all any same holders fits convert-grantable admits wait-grantable grantable-head no-grantable-head empty sizes-right zeros-right resource-index lock-index indices-right ends chain-ends chains-end all-zero free-resource-right name-unique used-resource-right resource-right stands-right home-right client-right modes-right on-resource fields-right lock-right linked-right holders-compatible state-right sound matrix compatible
+unfolding queue-count home-count kept-out follow read-chain read-lock slot-in read-resource read lock resource count all any same holders fits convert-grantable wait-grantable grantable-head no-grantable-head empty sizes-right zeros-right resource-index lock-index indices-right ends chain-ends chains-end all-zero free-resource-right name-unique used-resource-right resource-right stands-right home-right client-right modes-right on-resource fields-right lock-right linked-right holders-compatible state-right sound matrix compatible
 three-hold =
     record {
       sound-tables = refl;
@@ -109,5 +109,5 @@ conversion-taken-back = refl
 
 -- DEMAND 3 for these calls: they leave `three-left`, and their answers add up
 pub three-locks-hold : Demand three-locks (lent-of (started 1 3))
-unfolding lent-after-calls sum-of requests-accepted releases-accepted requests-cancelled locks-purged polled-denials in-use call-entry entry if-sound written-back started no-value lock resource shift shift-front relist move move-resource rows sheet by-address words slot slots follow read-chain read-lock slot-in read-resource read count remove all any keep first-that next same holders fits convert-grantable admits wait-grantable grantable-head no-grantable-head empty sizes-right zeros-right resource-index lock-index indices-right ends chain-ends chains-end all-zero free-resource-right name-unique used-resource-right resource-right stands-right home-right client-right modes-right on-resource fields-right lock-right linked-right holders-compatible state-right sound granted-lock grant-lock grant-while grant-converts grant-waits sweep free-lock settle find unless refused-or stores spoils no-queue request-flags convert-flags name-right value-right own strong with-value leave-value in-the-way obstacles larger mark-lock mark-locks tell-obstacles resource-for with-resource request-on request-change at-once request-refusal request in-place convert-change convert-refusal convert cancel-change cancel-refusal cancel matrix compatible all-modes down
+unfolding lent-after-calls sum-of requests-accepted releases-accepted requests-cancelled locks-purged polled-denials in-use call-entry entry if-sound written-back started no-value lock resource shift shift-front relist move move-resource rows sheet by-address words slot slots follow read-chain read-lock slot-in read-resource read count remove all any keep first-that next same holders fits convert-grantable wait-grantable grantable-head no-grantable-head empty sizes-right zeros-right resource-index lock-index indices-right ends chain-ends chains-end all-zero free-resource-right name-unique used-resource-right resource-right stands-right home-right client-right modes-right on-resource fields-right lock-right linked-right holders-compatible state-right sound granted-lock grant-lock grant-while grant-converts grant-waits sweep free-lock settle find unless refused-or stores spoils no-queue request-flags convert-flags name-right value-right own strong with-value leave-value in-the-way obstacles larger mark-lock mark-locks tell-obstacles resource-for with-resource granted-at-once request-on request-change at-once request-refusal request in-place convert-change convert-refusal convert cancel-change cancel-refusal cancel matrix compatible all-modes down
 three-locks-hold = record { queues = three-hold; balance = refl }

@@ -6,6 +6,7 @@ use mathlib.Core.List.{List, [], _∷_}
 use Prim.Native.Nat.{ℕ}
 use lib.ListN.{replicate}
 use lib.Dec.{eqb}
+use Rattle.modes.specs.Modes.{NL, CR, CW, PR, PW, EX}
 use Rattle.tables.specs.Lists.{same}
 use Rattle.tables.specs.State.{no-value, value-width}
 use Rattle.rules.specs.Calls.{Said, accepted, notified, refused}
@@ -46,30 +47,12 @@ unfoldable pub all-right : List (List BenchLine) → Lent → Bool
 all-right [] t = true
 all-right (xs ∷ xss) t = lines-right xs t && all-right xss t
 
--- names and modes
+-- names
 abbrev pub name-a : List ℕ
 name-a = 65 ∷ []
 
 abbrev pub name-b : List ℕ
 name-b = 66 ∷ []
-
-abbrev pub NL : ℕ
-NL = 0
-
-abbrev pub CR : ℕ
-CR = 1
-
-abbrev pub CW : ℕ
-CW = 2
-
-abbrev pub PR : ℕ
-PR = 3
-
-abbrev pub PW : ℕ
-PW = 4
-
-abbrev pub EX : ℕ
-EX = 5
 
 -- the client c requests the mode m; converts its lock k; releases it; has no notice, or that k is granted; ..
 abbrev pub requests-a : ℕ → ℕ → Call
@@ -230,6 +213,19 @@ converting-told =
     ∷ says (requests-a 3 CW) 2 4 ∷ hears-mark 2 2 CW ∷ says (gives-up 2 2) 0 0 ∷ hears-mark 1 3 CW ∷ says (gives-up 1 3) 0 0
     ∷ hears-both 1 1 1 CW ∷ hears-nothing 1 ∷ []
 
+-- while an editor waits no reader is granted past it, and flag 4 is refused; NL passes; who waits is granted in the order in which they came
+abbrev pub behind-the-editor : List BenchLine
+behind-the-editor =
+    says (requests-a 1 PR) 1 1 ∷ says (requests-a 2 EX) 2 2 ∷ refuses (to-request 3 PR 4 name-a) 13 ∷ says (requests-a 3 PR) 2 3
+    ∷ says (requests-a 4 NL) 1 4 ∷ says (to-request 4 NL 4 name-a) 1 5 ∷ says (gives-up 1 1) 0 0 ∷ hears-granted 2 2 ∷ hears-nothing 3
+    ∷ says (gives-up 2 2) 0 0 ∷ hears-granted 3 3 ∷ []
+
+-- behind a conversion NL waits too; one sweep grants both
+abbrev pub null-behind-a-conversion : List BenchLine
+null-behind-a-conversion =
+    says (requests-a 1 PR) 1 1 ∷ says (requests-a 2 PR) 1 2 ∷ says (converts-to 1 1 EX) 2 0 ∷ refuses (to-request 3 NL 4 name-a) 13
+    ∷ says (requests-a 3 NL) 2 3 ∷ says (gives-up 2 2) 0 0 ∷ hears-granted 1 1 ∷ hears-granted 3 3 ∷ []
+
 -- 11 before 12: neither a resource nor a lock is left
 abbrev pub no-record-left : List BenchLine
 no-record-left =
@@ -240,7 +236,7 @@ no-record-left =
 abbrev pub mistakes : List (List BenchLine)
 mistakes =
     cancel-sweeps ∷ releases-sweep ∷ behind-the-cycle ∷ purge-counts-locks ∷ flags-act ∷ reader-leaves-no-value ∷ purge-spoils ∷ notices-in-order
-    ∷ raised-in-place ∷ converting-told ∷ no-record-left ∷ []
+    ∷ raised-in-place ∷ converting-told ∷ behind-the-editor ∷ null-behind-a-conversion ∷ no-record-left ∷ []
 
 -- each sequence starts on fresh tables with R 4, L 8, whatever was in them
 abbrev pub fresh : Lent → Lent

@@ -1,15 +1,15 @@
--- The seven calls on a state: for each its refusals, in document 01's order, and what it answers and changes where none fits. Marks are document 02's
--- (R-1).
+-- The seven calls on a state: for each its refusals, in document 01's order, and what it answers and changes where none fits. Marks (R-1) and the
+-- wait chain in what a new request needs (R-2) are document 02's.
 use mathlib.Core.Bool.{Bool, true, false, _&&_, _||_, not, cond}
 use mathlib.Core.List.{List, [], _∷_, _++_}
 use Prim.Native.Nat.{ℕ, zero, suc, _/_, _%_}
 use lib.ListN.{length}
 use lib.Dec.{eqb, leb, ltb}
-use Rattle.modes.specs.Modes.{down}
+use Rattle.modes.specs.Modes.{NL, down}
 use Rattle.tables.specs.Lists.{within, any, keep, first, first-that, null, from}
 use Rattle.tables.specs.declared.Lock.{Lock}
 use Rattle.tables.specs.State.{Resource, Tables, name-width, value-width, no-value, new-lock, denied-lock, changed-lock, with-notice, lock, resource, granted, converting, blocked-lock, unread, move, move-resource, state-free, state-granted, state-converting, state-waiting, completion-none, completion-denied, completion-conversion-denied, mark-none, last-mode}
-use Rattle.tables.specs.Grants.{holders, fits, admits}
+use Rattle.tables.specs.Grants.{holders, fits}
 use Rattle.tables.specs.Sound.{client-right}
 use Rattle.rules.specs.Queues.{sweep, free-lock, settle, find}
 use Rattle.rules.specs.Deadlock.{obstacles, victim}
@@ -132,11 +132,15 @@ holding r c m = new-lock r c state-granted m 0
 abbrev pub queued : ℕ → ℕ → ℕ → Lock
 queued r c m = new-lock r c state-waiting 0 m
 
--- the lock k is granted (answer 1) if the convert chain is empty and the mode is compatible with every held mode; else it waits (2), and whoever is
--- in its way is told
+-- what a new request needs: "the convert chain is empty and the mode is compatible with every held mode", and since R-2 "the wait chain is empty as
+-- well. NL is excepted, since it holds nobody up". A wait head needs less: `wait-grantable`.
+unfoldable pub granted-at-once : Tables → ℕ → ℕ → Bool
+granted-at-once t r m = null (resource t r .convert) && (eqb m NL || null (resource t r .wait)) && fits t r 0 m
+
+-- the lock k is granted at once (answer 1); else it waits (2), and whoever is in its way is told
 unfoldable pub request-on : ℕ → ℕ → ℕ → ℕ → Tables → Step
 request-on r k c m t =
-    elim (admits t r m) [
+    elim (granted-at-once t r m) [
       | true ↦ accepted-step 1 k (move r k (holding r c m) t)
       | false ↦ accepted-step 2 k (tell-obstacles k (move r k (queued r c m) t))
     ]
@@ -147,7 +151,7 @@ request-change c m n t = request-on (resource-for (find n t) t) (first (t .free-
 -- a request of the mode m would be granted at once, on the resource r of its name; on a new name, r = 0, nobody is in its way
 unfoldable pub at-once : ℕ → ℕ → Tables → Bool
 at-once zero m t = true
-at-once (suc r) m t = admits t (suc r) m
+at-once (suc r) m t = granted-at-once t (suc r) m
 
 unfoldable pub request-refusal : ℕ → ℕ → ℕ → List ℕ → Tables → ℕ
 request-refusal c m f n t =

@@ -7,5 +7,6 @@ pub mod Images
 pub mod Numbers
 pub mod Theorem
 pub mod Marks
+pub mod NoOvertaking
 pub mod Bench
 pub mod Accepted

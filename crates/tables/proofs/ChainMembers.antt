@@ -10,8 +10,8 @@ use lib.Dec.{eqb, leb}
 use borrow.Author.Tests.{eqb-true, eq-eqb, ne-eqb, leb-true, leb-false}
 use Rattle.modes.specs.Modes.{compatible}
 use Rattle.tables.specs.Lists.{within, count, bit, all}
-use Rattle.tables.specs.State.{Lock, Tables, lock, resource, granted, converting, waiting, blocked-lock, holds, grants, converts, waits, LockChain, queue, chain, belongs, move}
-use Rattle.tables.specs.Grants.{holders, fits, convert-grantable, admits, wait-grantable, grantable-head, no-grantable-head}
+use Rattle.tables.specs.State.{Lock, Tables, no-lock, lock, resource, granted, converting, waiting, blocked-lock, holds, grants, converts, waits, LockChain, free-locks, queue, chain, belongs, move}
+use Rattle.tables.specs.Grants.{holders, fits, convert-grantable, wait-grantable, grantable-head, no-grantable-head}
 use Rattle.tables.proofs.Cases.{by-cases, by-equal, clash, eqb-same, and-left, and-right, or-left, or-right}
 use Rattle.tables.proofs.Counts.{count-same, count-append, all-at, all-intro, all-cong, by-append, bit-le, within-le}
 use Rattle.tables.specs.Validity.{used, Place, Linked, Core, line, idle, Settled, Near}
@@ -110,6 +110,12 @@ module _ (t : Tables) (linked : Linked t) where
       (λ n. or-right (eqb j k) _ (h j n (in-holder r j i .0) (in-holder r j i .1))))
 
 module _ (t : Tables) (c : Core t) where
+  -- a lock on the free chain
+  pub on-free : (k : ℕ) → 1 ≤ count k (t .free-locks) → (within (length (t .locks)) k ≡ true) × (lock t k ≡ no-lock)
+  on-free k m =
+      let o = on-chain t (c .linked) free-locks k m in
+      (o .0, ok-at (used t) (lock t k) 0 (c .lock-ok k) (o .1))
+
   -- a blocked lock of r
   pub blocked-place : (r k : ℕ) → 1 ≤ count k (line t r) → Place (used t) (lock t k) × (lock t k .resource ≡ r) × (within (length (t .locks)) k ≡ true)
   unfolding line
@@ -194,7 +200,7 @@ fits-all t linked r k m h =
 
 -- behind a convert head no wait head is grantable
 pub wait-behind : (t : Tables) (r k j : ℕ) (js : List ℕ) → resource t r .convert ≡ j ∷ js → wait-grantable t r k ≡ false
-unfolding wait-grantable admits
+unfolding wait-grantable
 wait-behind t r k j js e = rw e
 
 -- on an empty convert chain the wait head is tested as a convert head would be, and no head is grantable exactly if the line is idle
@@ -203,7 +209,7 @@ module _ (t : Tables) (c : Core t) (r : ℕ) where
   wait-fits k m h = fits-all t (c .linked) r 0 m (unfold lock in refl) ∙ sym (fits-all t (c .linked) r k m h)
 
   pub wait-head : (k : ℕ) → resource t r .convert ≡ [] → 1 ≤ count k (resource t r .wait) → wait-grantable t r k ≡ convert-grantable t r k
-  unfolding wait-grantable admits convert-grantable
+  unfolding wait-grantable convert-grantable
   wait-head k e m = rw e (wait-fits k (lock t k .asked) (rw (eqb-true (lock t k .state) 3 (on-waits t (c .linked) r k m .0))))
 
   heads-idle : no-grantable-head t r ≡ idle t r (line t r)

@@ -15,16 +15,13 @@ holders t r = resource t r .grant ++ resource t r .convert
 unfoldable pub fits : Tables → ℕ → ℕ → ℕ → Bool
 fits t r k m = all (λ j. eqb j k || compatible (lock t j .held) m) (holders t r)
 
--- a convert head is *grantable* if compatible with every other held mode there ..
+-- a convert head is *grantable* "if compatible with every other held mode there" ..
 unfoldable pub convert-grantable : Tables → ℕ → ℕ → Bool
 convert-grantable t r k = fits t r k (lock t k .asked)
 
--- .. and a mode is admitted, a new request's or a wait head's, if the convert chain is empty and it is compatible with every held mode
-unfoldable pub admits : Tables → ℕ → ℕ → Bool
-admits t r m = null (resource t r .convert) && fits t r 0 m
-
+-- .. and a wait head, "if the convert chain is empty and it is compatible with every held mode"
 unfoldable pub wait-grantable : Tables → ℕ → ℕ → Bool
-wait-grantable t r k = admits t r (lock t k .asked)
+wait-grantable t r k = null (resource t r .convert) && fits t r 0 (lock t k .asked)
 
 -- a head is grantable; an empty chain has none
 unfoldable pub grantable-head : (ℕ → Bool) → List ℕ → Bool

@@ -1,6 +1,7 @@
 //! The tables that calls are timed on.
 
 use crate::call::{Areas, Call, Flat, Manager, Tables, lock, refused};
+use std::ops::RangeInclusive;
 use zamgyorud::layout::{self, MOST_LOCKS, MOST_RESOURCES};
 
 /// Numbers of records.
@@ -109,8 +110,11 @@ fn waiter(number: u32) -> u32 {
     101 + number % 100
 }
 
+/// The clients that convert.
+pub const CONVERTERS: RangeInclusive<u32> = 201..=240;
+
 fn converter(number: u32) -> u32 {
-    201 + number % 40
+    CONVERTERS.start() + number % 40
 }
 
 /// One more lock on a name among many: names of four kinds, with holders, converters and waiters in layers.

@@ -86,9 +86,10 @@ fn introduction(page: &mut String, results: &Results) {
          Names have 48 bytes and differ in the last eight only. \"Empty\" tables have no locks but those that the call needs; \"full\" ones leave \
          three locks and two resources free for it; in \"full, one name\" all locks stand on one resource, half of them granted, an eighth \
          converting, the others waiting. What clients are told while tables are filled they have polled. \"Request, marks all\" waits and marks \
-         every lock on its name that holds more than NL, in \"full, one name\" half of all locks. \"Break, no deadlock\" searches from every \
-         blocked lock in vain. The mixed list is 64 calls one after the other on the same tables: requests, conversions, releases, and a few \
-         cancels, polls and reads.\n\n\
+         every lock on its name that holds more than NL, in \"full, one name\" half of all locks. \"Request, behind a wait chain\" is for PR where \
+         PR is held and others wait: in \"full, one name\" three eighths of all locks, once those that convert are purged, elsewhere one. \
+         \"Break, no deadlock\" searches from every blocked lock in vain. The mixed list is 64 calls one after the other on the same tables: \
+         requests, conversions, releases, and a few cancels, polls and reads.\n\n\
          The middle of all ratios is **{:.2}**.\n\n\
          ![Ratios and growth](benchmarks.svg)\n",
         machine(),
@@ -126,9 +127,9 @@ fn required_form(page: &mut String, results: &Results) {
         ".\n\n\
          Document 01 asks that grants are decided by a constant table of 64 by 6 entries. The language has no constant in memory, so the compiler \
          builds the 384 bytes on the stack at each use. That is 20 to 25 ns a decision, where masks take 2: on the smallest tables more than the \
-         library's lead. A request pays it where somebody holds a mode on its name; a conversion that is not down; release, cancel and \
-         purge where the sweep finds a head; break in its clearing, for each line on which a lock of a busy owner holds a mode. Where nobody \
-         holds a mode, the table is not asked. The soundness check asks masks.\n",
+         library's lead. A request pays it where somebody holds a mode on its name, unless it has to queue behind others; a conversion that is \
+         not down; release, cancel and purge where the sweep finds a head; break in its clearing, for each line on which a lock of a busy \
+         owner holds a mode. Where nobody holds a mode, the table is not asked. The soundness check asks masks.\n",
     );
 }
 

@@ -1,7 +1,7 @@
 //! What is timed: calls of each entry with a given outcome, found on the tables by trying.
 
 use crate::call::{self, Areas, Call, Flat, Manager, Tables, refused, result};
-use crate::fill::{accepted, name};
+use crate::fill::{CONVERTERS, accepted, name};
 use flat::layout::state::{CONVERTING, GRANTED, WAITING};
 use flat::layout::{LockRecord, Records, completion, head, lock, resource};
 
@@ -33,6 +33,7 @@ pub struct Row {
 enum Step {
     Request(u32, u32, u32),
     Purge(u32),
+    PurgeConverters,
 }
 
 /// Names that no filling uses.
@@ -68,9 +69,13 @@ fn notices(tables: &Tables) -> usize {
 fn marks_all(before: &Tables, answer: u64, after: &Tables) -> bool {
     let queued = &records(after).locks[call::lock(answer) as usize - 1];
     let holds = |record: &&LockRecord| record[lock::RESOURCE] == queued[lock::RESOURCE] && record[lock::HELD] != NL;
-    let marked = |tables: &Tables| records(tables).locks.iter().filter(|record| record[lock::MARK] != 0).count();
     let holders = records(before).locks.iter().filter(holds).count();
     result(answer) == 2 && holders > 0 && marked(after) == marked(before) + holders
+}
+
+/// How many locks have a mark.
+fn marked(tables: &Tables) -> usize {
+    records(tables).locks.iter().filter(|record| record[lock::MARK] != 0).count()
 }
 
 fn records(tables: &Tables) -> Records<'_> {
@@ -96,6 +101,21 @@ fn some_name(rng: &mut Rng, tables: &Tables) -> Option<Vec<u8>> {
 
 fn request_known(rng: &mut Rng, tables: &Tables) -> Option<Call> {
     Some(Call::Request { client: 250, mode: rng.below(6) as u32, name: some_name(rng, tables)? })
+}
+
+/// PR on the name with the longest wait chain of those where that alone holds it up: no lock converts, and all hold NL or PR.
+fn request_behind(_: &mut Rng, tables: &Tables) -> Option<Call> {
+    let records = records(tables);
+    let mut waiting = vec![0; records.resources.len() + 1];
+    for record in records.locks.iter().filter(|record| record[lock::STATE] == WAITING) {
+        waiting[record[lock::RESOURCE] as usize] += 1;
+    }
+    for record in records.locks.iter().filter(|record| record[lock::STATE] == CONVERTING || ![NL, PR].contains(&record[lock::HELD])) {
+        waiting[record[lock::RESOURCE] as usize] = 0;
+    }
+    let (number, _) = waiting.iter().enumerate().filter(|(_, waiting)| **waiting > 0).max_by_key(|(_, waiting)| **waiting)?;
+    let length = records.resources[number - 1][resource::NAME_LENGTH] as usize;
+    Some(Call::Request { client: 250, mode: PR, name: records.slots[number - 1][..length].to_vec() })
 }
 
 fn convert(rng: &mut Rng, tables: &Tables) -> Option<Call> {
@@ -148,6 +168,12 @@ pub const ROWS: &[Row] = &[
         prepare: &[Step::Request(251, EX, 0)],
         propose: request_known,
         fits: |_, answer, _| result(answer) == 2,
+    },
+    Row {
+        title: "request, behind a wait chain",
+        prepare: &[Step::PurgeConverters, Step::Request(251, PR, 0), Step::Request(252, EX, 0)],
+        propose: request_behind,
+        fits: |before, answer, after| result(answer) == 2 && marked(after) == marked(before),
     },
     Row { title: "request, marks all", prepare: &[Step::Request(251, EX, 0)], propose: request_known, fits: marks_all },
     Row {
@@ -251,11 +277,14 @@ impl Row {
         }
         let mut prepared = filled.clone();
         for step in self.prepare {
-            let call = match *step {
-                Step::Request(client, mode, at) => Call::Request { client, mode, name: name(OWN + at) },
-                Step::Purge(client) => Call::Purge { client },
+            let calls = match *step {
+                Step::Request(client, mode, at) => vec![Call::Request { client, mode, name: name(OWN + at) }],
+                Step::Purge(client) => vec![Call::Purge { client }],
+                Step::PurgeConverters => CONVERTERS.map(|client| Call::Purge { client }).collect(),
             };
-            accepted(&mut prepared, &call);
+            for call in calls {
+                accepted(&mut prepared, &call);
+            }
         }
         let found = self.find(&prepared, count);
         assert!(!found.is_empty(), "no call for `{}`", self.title);

@@ -4,6 +4,7 @@ use crate::call::{Call, Image};
 use crate::manager::{lock, result};
 use crate::marks::note_marks;
 use crate::sizes::{LARGEST, MIDDLE, SMALL, SMALLEST, Sizes};
+use crate::waiters::{behind_waiters, note_waiters};
 use model::layout::{MOST_CLIENT, NAME_BYTES, VALUE_BYTES};
 use model::{Lock, Mode, Resource, Standing, State, Unread};
 use std::collections::{BTreeSet, VecDeque};
@@ -45,10 +46,13 @@ events! {
     NewNameByCase = "request: a new name that differs from one in use in the case of letters alone",
     NewNameLonger = "request: a new name that begins with one in use",
     GrantedBeside = "request: granted beside other holders",
-    GrantedPastWaiters = "request: granted although others wait",
+    NlPastWaiters = "request: NL granted past a wait chain",
+    NlPastWaitersDontQueue = "request: NL with flag 4 granted past a wait chain",
     NlBesideEx = "request: NL granted beside EX",
     WaitsIncompatible = "request: waits for a held mode",
     WaitsForConversion = "request: compatible, waits behind a conversion",
+    WaitsForWaiters = "request: waits because of the wait chain alone",
+    NlWaitsForConversion = "request: NL joins a wait chain behind a conversion",
     DontQueueGranted = "request: flag 4 and granted",
     KnownNameNoResource = "request: accepted on a known name where no resource is free",
     LongestName = "request: name of 64 bytes",
@@ -76,6 +80,7 @@ events! {
     ConvertDownSweepsMany = "convert: down, the sweep grants three or more",
     ConvertDownSweepsBoth = "convert: down, the sweep grants from both queues",
     ConvertUpInPlace = "convert: not down, in place",
+    ConvertUpPastWaiters = "convert: not down, in place past a wait chain",
     ConvertUpSweeps = "convert: not down, in place, the sweep grants",
     ConvertPrCwInPlace = "convert: PR to CW or back in place",
     ConvertPrCwQueued = "convert: PR to CW or back queued",
@@ -111,6 +116,8 @@ events! {
     ConvertMarkedQueued = "convert: a marked lock is queued",
     SweepGrantsMarked = "convert, release, cancel, purge, break: the sweep grants a marked conversion",
     SweepGrantsMarkedInPlace = "convert, release, cancel, purge, break: the sweep grants a marked conversion whose notice stands before others",
+    SweepGrantsBehind = "convert, release, cancel, purge, break: the sweep grants a request that the wait chain alone held up, after the one ahead",
+    SweepStopsBehind = "convert, release, cancel, purge, break: the sweep grants and stops at a request that the wait chain alone held up",
     ReleaseFreesResource = "release: frees the resource",
     ReleaseFirst = "release: first of several granted",
     ReleaseMiddle = "release: between others granted",
@@ -159,6 +166,7 @@ events! {
     BreakTwoResources = "break: a cycle over two resources",
     BreakMoreResources = "break: a cycle over three or more resources",
     BreakConversionsOnly = "break: a cycle of conversions on one resource",
+    BreakBehindWaiters = "break: a cycle through a request that the wait chain alone held up",
     BreakNotFirst = "break: an earlier blocked lock isn't on a cycle",
     BreakBehindCycle = "break: an earlier blocked lock leads to the cycle and isn't on it",
     BreakSweeps = "break: the sweep grants",
@@ -244,6 +252,7 @@ pub fn events(before: &State, call: &Call, answer: u64, refused: Option<u32>, af
     }
     if refused.is_none() {
         note_marks(before, call, answer, after, &mut found);
+        note_waiters(before, call, answer, after, &mut found);
     }
     if sizes_of(before) == LARGEST {
         found.push(Event::LargestTables);
@@ -375,10 +384,9 @@ impl Notes<'_> {
         let ex_held = !self.before.fits(resource, Mode::Cr, 0);
         note(found, self.before.free_resources.is_empty(), Event::KnownNameNoResource);
         note(found, granted, Event::GrantedBeside);
-        note(found, granted && !queues.waiting.is_empty(), Event::GrantedPastWaiters);
         note(found, granted && mode == 0 && ex_held, Event::NlBesideEx);
         note(found, !granted && !fits, Event::WaitsIncompatible);
-        note(found, !granted && fits, Event::WaitsForConversion);
+        note(found, !granted && fits && !queues.converting.is_empty(), Event::WaitsForConversion);
         note(found, !granted && queues.waiting.len() >= 7, Event::DeepWaitQueue);
     }
 
@@ -508,6 +516,7 @@ impl Notes<'_> {
         note(found, resources.len() == 2, Event::BreakTwoResources);
         note(found, resources.len() >= 3, Event::BreakMoreResources);
         note(found, way.len() >= 2 && all_convert && resources.len() == 1, Event::BreakConversionsOnly);
+        note(found, way.iter().any(|lock| behind_waiters(self.before, *lock)), Event::BreakBehindWaiters);
         let mut earlier = self.before.blocked.iter().take_while(|lock| **lock != denied);
         note(found, earlier.any(|lock| !self.way(*lock, denied).is_empty()), Event::BreakBehindCycle);
     }

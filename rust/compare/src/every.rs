@@ -120,6 +120,13 @@ mod tests {
         assert_eq!(explored.states, 6_000);
     }
 
+    /// With three locks a request can wait because of one that waits.
+    #[test]
+    fn states_of_three_locks() {
+        let explored = explore(&Model, &Flat, (1, 3), &[0, 3, 5], 5_000).unwrap_or_else(|(_, difference)| panic!("{difference}"));
+        assert_eq!(explored.states, 5_000);
+    }
+
     /// NL, CW, PR and EX: modes that exclude each other either way, and marks that can be raised twice.
     #[test]
     fn all_states_of_two_locks_and_four_modes() {

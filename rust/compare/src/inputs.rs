@@ -106,6 +106,7 @@ pub fn chosen() -> Vec<Input> {
         ("lines of many lengths", lengths()),
         ("each byte", bytes()),
         ("denied locks polled out of order", DENIED.to_vec()),
+        ("requests behind a wait chain", BEHIND.to_vec()),
         ("more than a pipe holds", lines_of_pipe),
     ];
     plain.into_iter().map(|(what, bytes)| Input::new(what, bytes)).chain(edges()).chain(last_lines()).collect()
@@ -113,6 +114,11 @@ pub fn chosen() -> Vec<Input> {
 
 /// Three clients are denied requests that stand in their own way, and the second is polled first: a mark, then the denial.
 const DENIED: &[u8] = b"q 1 5 0 a\nq 2 5 0 b\nq 3 5 0 c\nq 1 5 0 a\nq 2 5 0 b\nq 3 5 0 c\nd\nd\nd\nd\nn 2\nn 2\nn 1\nn 1\nn 3\nn 3\nn 3\n";
+
+/// EX waits for a PR, and a later PR behind it, or is refused with flag 4; NL goes past both. Each release grants the next one alone. Then
+/// another EX waits for this PR, whose client asks again: a deadlock.
+const BEHIND: &[u8] = b"q 1 3 0 a\nq 2 5 0 a\nq 3 3 4 a\nq 3 3 0 a\nq 4 0 0 a\nq 4 0 4 a\nr 1 1 0\nn 3\nn 2\nr 2 2 0\nn 2\nn 3\n\
+q 5 5 0 a\nq 3 3 0 a\nd\nn 5\nn 3\nn 3\n";
 
 /// A random script: calls that go by what the tables hold, and lines with something wrong, more often in some scripts than in others.
 pub fn random(seed: u64) -> Input {

@@ -299,6 +299,16 @@ impl LineCounts {
         &self.calls
     }
 
+    /// What occurs in a script, of all whose label has a word in it.
+    #[cfg(test)]
+    pub fn occurring(script: &str, word: &str) -> Vec<String> {
+        let mut counts = LineCounts::default();
+        let expected = counts.missing();
+        counts.play(script.as_bytes());
+        let missing = counts.missing();
+        expected.into_iter().filter(|what| what.contains(word) && !missing.contains(what)).collect()
+    }
+
     /// All that never occurred.
     pub fn missing(&self) -> Vec<String> {
         let kinds = self.kinds.missing().map(|kind| format!("a line: {kind}"));
@@ -390,7 +400,7 @@ mod tests {
         let missing = counts.missing();
         let lacks = |what: &str| missing.iter().any(|missing| missing == what);
         assert!(lacks("a line: other: an empty line") && lacks("c: number 2 has ten digits") && lacks("q: 3 numbers"));
-        assert!(lacks("request refused with 13: behind a conversion") && lacks("break: the sweep grants"));
+        assert!(lacks("request refused with 13: behind a conversion alone") && lacks("break: the sweep grants"));
         assert!(!lacks("a line: q: a name") && !lacks("request answering 1"));
     }
 }

@@ -23,6 +23,7 @@ mod scripts;
 mod sizes;
 mod states;
 mod tally;
+mod waiters;
 
 use crate::call::{Call, Entry};
 use crate::counts::Counts;
@@ -311,6 +312,8 @@ mod tests {
         SlotByte,
         /// Unsound tables with a nonzero word 7 are taken for sound.
         Soundness,
+        /// A new request goes past those that wait, as it did before document 02.
+        Overtaking,
         /// A poll doesn't tell the mark.
         UntoldMark,
         /// A poll tells a mark and leaves it in its lock.
@@ -326,7 +329,10 @@ mod tests {
         }
 
         fn request(&self, t: &mut Tables, client: u32, mode: u32, flags: u32, name: &[u8]) -> u64 {
-            Flat.request(t, client, mode, flags, name)
+            match self.0 {
+                Mistake::Overtaking => overtaking(t, client, mode, flags, name),
+                _ => Flat.request(t, client, mode, flags, name),
+            }
         }
 
         fn convert(&self, t: &mut Tables, client: u32, lock: u32, mode: u32, flags: u32, value: &[u8]) -> u64 {
@@ -398,6 +404,20 @@ mod tests {
         }
     }
 
+    /// A request that is granted as if nobody waited.
+    fn overtaking(t: &mut Tables, client: u32, mode: u32, flags: u32, name: &[u8]) -> u64 {
+        let granted = State::from_tables(&t.words, &t.slots).and_then(|mut state| {
+            let resource = state.named(name)?;
+            let waiting = std::mem::take(&mut state.resources.get_mut(&resource)?.waiting);
+            let (answer, number) = state.request(client, mode, flags, name).ok()?;
+            state.resources.get_mut(&resource)?.waiting = waiting;
+            (answer == model::Answer::Granted).then_some((state, number))
+        });
+        let Some((state, number)) = granted else { return Flat.request(t, client, mode, flags, name) };
+        (t.words, t.slots) = state.to_tables();
+        accepted(1, number, 0)
+    }
+
     /// The failure that a mistake leads to, and the calls that are left of it.
     fn found(mistake: Mistake) -> (Failed, Vec<Call>) {
         let faulty = Faulty(mistake);
@@ -422,6 +442,13 @@ mod tests {
         let (failed, short) = found(Mistake::SlotByte);
         assert!(matches!(failed.difference, Difference::Slots { second: 1, .. }));
         assert_eq!(short.last().map(Call::entry), Some(Entry::Release));
+    }
+
+    #[test]
+    fn a_request_that_goes_past_those_that_wait_is_found() {
+        let (_, short) = found(Mistake::Overtaking);
+        // Tables, at most a holder and one that waits for it, and the request.
+        assert!(short.len() <= 4 && short.last().map(Call::entry) == Some(Entry::Request), "{} calls are left", short.len());
     }
 
     #[test]
@@ -472,7 +499,7 @@ mod tests {
         for expected in [
             "poll answering 3",
             "poll: a conversion that was marked and then denied",
-            "request refused with 13: behind a conversion",
+            "request refused with 13: behind the wait chain alone",
             "convert refused with 7 where 8 fits as well",
             "the damage \"a convert head kept waiting by its own mode alone\" of tables",
             &too_large,

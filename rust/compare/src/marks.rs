@@ -202,11 +202,7 @@ mod tests {
 
     /// What is noted of marks in a script of lockplay.
     fn noted(script: &str) -> Vec<String> {
-        let mut counts = LineCounts::default();
-        let expected = counts.missing();
-        counts.play(script.as_bytes());
-        let missing = counts.missing();
-        expected.into_iter().filter(|what| what.contains("mark") && !missing.contains(what)).collect()
+        LineCounts::occurring(script, "mark")
     }
 
     #[test]

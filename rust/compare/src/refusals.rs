@@ -49,7 +49,9 @@ const LOCK: &[&str] = &["lock 0", "a lock above L", "a free lock", "another clie
 const UNREAD: &[&str] = &["completion 1", "completion 2", "completion 3"];
 const NO_RESOURCE: &[&str] = &["without flag 4", "with flag 4"];
 const NO_LOCK: &[&str] = &["on a known name", "on a new name"];
-const BLOCKS: &[&str] = &["for a held mode", "behind a conversion"];
+const REQUEST_BLOCKS: &[&str] =
+    &["for a held mode alone", "behind a conversion alone", "behind the wait chain alone", "for more than one of these reasons"];
+const CONVERSION_BLOCKS: &[&str] = &["for a held mode", "behind a conversion"];
 const AREA: &[&str] = &["a shorter area", "a longer area"];
 const LENGTHS: &[&str] = &["too few words", "too many words", "other slots"];
 
@@ -66,7 +68,7 @@ impl Entry {
                 (6, NAME),
                 (11, NO_RESOURCE),
                 (12, NO_LOCK),
-                (13, BLOCKS),
+                (13, REQUEST_BLOCKS),
             ],
             Entry::Convert => &[
                 (1, TABLES),
@@ -77,7 +79,7 @@ impl Entry {
                 (8, LOCK),
                 (9, UNREAD),
                 (10, &["a converting lock", "a waiting lock"]),
-                (13, BLOCKS),
+                (13, CONVERSION_BLOCKS),
             ],
             Entry::Release => &[
                 (1, TABLES),
@@ -253,7 +255,7 @@ fn no_records(state: &State, mode: u32, flags: u32, name: &[u8]) -> Vec<Option<F
     let no_resource = new && state.free_resources.is_empty();
     let no_lock = state.free_locks.is_empty();
     let dont_queue = flags & 4 != 0;
-    let blocks = known.zip(Mode::from_number(mode)).and_then(|(resource, mode)| blocks(state, resource, mode, 0));
+    let blocks = known.zip(Mode::from_number(mode)).and_then(|(resource, mode)| request_blocks(state, resource, mode));
     vec![
         first(11, NO_RESOURCE, &[no_resource && !dont_queue, no_resource]),
         first(12, NO_LOCK, &[no_lock && !new, no_lock]),
@@ -261,15 +263,20 @@ fn no_records(state: &State, mode: u32, flags: u32, name: &[u8]) -> Vec<Option<F
     ]
 }
 
-/// 13, where a lock of a mode would wait on a resource, with flag 4 or without it. Its own held mode isn't in its way.
-fn blocks(state: &State, resource: u32, mode: Mode, own: u32) -> Option<Fit> {
-    first(13, BLOCKS, &[!state.fits(resource, mode, own), !state.resources[&resource].converting.is_empty()])
+/// 13, where a request of a mode would wait on a resource, with flag 4 or without it.
+fn request_blocks(state: &State, resource: u32, mode: Mode) -> Option<Fit> {
+    let queues = &state.resources[&resource];
+    let reasons = [!state.fits(resource, mode, 0), !queues.converting.is_empty(), mode != Mode::Nl && !queues.waiting.is_empty()];
+    let several = reasons.iter().filter(|so| **so).count() > 1;
+    first(13, REQUEST_BLOCKS, &[reasons.map(|so| so && !several).to_vec(), vec![several]].concat())
 }
 
+/// 13, where a conversion has flag 4 and would wait. Its own held mode isn't in its way.
 fn conversion_blocks(state: &State, client: u32, number: u32, mode: u32, flags: u32) -> Option<Fit> {
     let lock = own(state, client, number).filter(|lock| is_granted(lock) && flags & 4 != 0)?;
     let mode = Mode::from_number(mode).filter(|mode| !lock.held().is_some_and(|held| held.down_to(*mode)))?;
-    blocks(state, lock.resource()?, mode, number)
+    let resource = lock.resource()?;
+    first(13, CONVERSION_BLOCKS, &[!state.fits(resource, mode, number), !state.resources[&resource].converting.is_empty()])
 }
 
 fn area(room: usize, right: usize) -> Option<Fit> {

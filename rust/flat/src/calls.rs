@@ -3,10 +3,10 @@
 use crate::Refused;
 use crate::deadlock;
 use crate::layout::{
-    LockRecord, MOST_CLIENT, MOST_RESOURCES, NAME_BYTES, Records, Slot, VALUE_BYTES, Value, completion, head, lock, noticed, resource,
-    sizes_allowed, slots_for, state, words_for,
+    LockRecord, MOST_CLIENT, MOST_RESOURCES, NAME_BYTES, Records, ResourceRecord, Slot, VALUE_BYTES, Value, completion, head, lock,
+    noticed, resource, sizes_allowed, slots_for, state, words_for,
 };
-use crate::modes::{EX, PW, admits, down};
+use crate::modes::{EX, NL, PW, admits, down};
 use crate::queues::{Queues, find};
 
 const STORE: u32 = 1;
@@ -115,7 +115,7 @@ pub fn request(words: &mut [u32], slots: &mut [u8], client: u32, mode: u32, flag
     demand(known != 0 || records.head[head::FREE_RESOURCE] != 0, 11)?;
     demand(records.head[head::FREE_LOCK] != 0, 12)?;
     let mut queues = Queues::cut(words);
-    let granted = known == 0 || queues.resource(known)[resource::CONVERT] == 0 && admits(mode, queues.held_beside(known, 0));
+    let granted = known == 0 || nobody_ahead(queues.resource(known), mode) && admits(mode, queues.held_beside(known, 0));
     demand(granted || flags & DONT_QUEUE == 0, 13)?;
 
     let number = if known != 0 { known } else { new_resource(&mut queues, slots, name) };
@@ -138,6 +138,12 @@ pub fn request(words: &mut [u32], slots: &mut [u8], client: u32, mode: u32, flag
         queues.mark_holders(number, k, mode);
         Ok((WAITS, k))
     }
+}
+
+/// Whether a new lock queues behind nobody: no conversion, and none that waits. NL goes past the latter.
+#[inline]
+fn nobody_ahead(record: &ResourceRecord, mode: u32) -> bool {
+    record[resource::CONVERT] == 0 && (mode == NL || record[resource::WAIT] == 0)
 }
 
 fn new_resource(queues: &mut Queues, slots: &mut [u8], name: &[u8]) -> u32 {

@@ -1,5 +1,6 @@
 //! Modes as small numbers and sets of them as bits.
 
+pub const NL: u32 = 0;
 pub const PW: u32 = 4;
 pub const EX: u32 = 5;
 pub const MODES: usize = 6;

@@ -112,7 +112,7 @@ impl State {
         let known = self.named(name);
         demand(known.is_some() || !self.free_resources.is_empty(), Refused::NO_RESOURCE)?;
         demand(!self.free_locks.is_empty(), Refused::NO_LOCK)?;
-        let granted = known.is_none_or(|resource| self.resources[&resource].converting.is_empty() && self.fits(resource, mode, 0));
+        let granted = known.is_none_or(|resource| self.nobody_ahead(resource, mode) && self.fits(resource, mode, 0));
         demand(granted || flags & DONT_QUEUE == 0, Refused::BLOCKS)?;
 
         let resource = known.unwrap_or_else(|| self.take_resource(name));
@@ -301,6 +301,12 @@ impl State {
             Standing::Granted { resource, .. } | Standing::Converting { resource, .. } => Ok(&self.resources[&resource]),
             Standing::Waiting { .. } | Standing::Denied => Err(Refused::STATE),
         }
+    }
+
+    /// Whether a new request has nobody to queue behind. NL holds nobody up, so it doesn't queue behind those that wait.
+    fn nobody_ahead(&self, resource: u32, mode: Mode) -> bool {
+        let queues = &self.resources[&resource];
+        queues.converting.is_empty() && (queues.waiting.is_empty() || mode == Mode::Nl)
     }
 
     fn at(&mut self, resource: u32) -> &mut Resource {

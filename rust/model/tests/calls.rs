@@ -1,5 +1,6 @@
 //! What the model's calls do beyond what lockplay shows: values, validity, the orders of chains, and other table sizes; and what document 02
-//! says of marks. The bench sequences of document 01 are scripts of lockplay, in `examples/bench`.
+//! says of marks and of requests that others wait ahead of. The bench sequences of document 01 are scripts of lockplay, in
+//! `examples/bench`.
 
 use model::layout::{VALUE_BYTES, lock, lock_at, slots, words};
 use model::{Answer, Flaw, Polled, Refused, State};
@@ -145,13 +146,56 @@ fn the_denied_lock_joins_the_notices_before_those_its_sweep_grants() {
 #[test]
 fn cancelling_a_head_sweeps() {
     let mut s = state(1, 4);
-    requests(&mut s, &[PR, EX, PR]);
-    assert_eq!(s.blocked, [2], "a later reader overtakes");
-    assert_eq!(s.request(4, CW, 0, b"name"), Ok((Answer::Waits, 4)));
+    requests(&mut s, &[PR, EX, PR, CW]);
+    assert_eq!(s.blocked, [2, 3, 4], "a later reader doesn't overtake");
     assert_eq!(s.cancel(2, 2), Ok(2));
+    assert_eq!(s.blocked, [4]);
+    assert_eq!(poll_all(&mut s), [(0, 1, EX), (1, 3, 0)], "3 waited when 4 came, and had no mode to be in its way with");
     assert_eq!(s.convert(1, 1, CR, 0, b""), Ok(Answer::Granted));
     assert_eq!(s.convert(3, 3, CR, 0, b""), Ok(Answer::Granted));
-    assert_eq!(poll_all(&mut s), [(0, 1, EX), (0, 3, CW), (1, 4, 0)]);
+    assert_eq!(poll_all(&mut s), [(1, 4, 0)]);
+    assert_sound(&s);
+}
+
+#[test]
+fn a_new_request_queues_behind_those_that_wait() {
+    let mut s = state(1, 6);
+    assert_eq!(requests(&mut s, &[PR, EX, PR]), [Answer::Granted, Answer::Waits, Answer::Waits]);
+    assert_eq!(s.notices, [1], "PR is in nobody's way but EX's");
+    assert_eq!(s.request(4, CR, 4, b"name"), Err(Refused::BLOCKS), "flag 4 follows the same rule");
+    assert_eq!(s.convert(1, 1, PW, 4, b""), Ok(Answer::Granted), "a conversion doesn't look at the wait chain");
+    s.convert(1, 1, PR, 0, b"").unwrap();
+    assert_eq!(s.resources[&1].waiting, [2, 3], "nor does a sweep go past its head");
+    s.release(1, 1, 0, b"").unwrap();
+    assert_eq!(poll_all(&mut s), [(1, 2, 0)], "EX came first");
+    s.release(2, 2, 0, b"").unwrap();
+    assert_eq!(poll_all(&mut s), [(1, 3, 0)]);
+    assert_eq!(s.request(4, CR, 4, b"name"), Ok((Answer::Granted, 2)), "nobody waits any more");
+    assert_sound(&s);
+}
+
+#[test]
+fn nl_goes_past_those_that_wait_but_not_past_a_conversion() {
+    let mut s = state(1, 8);
+    requests(&mut s, &[PR, PR, EX]);
+    assert_eq!(s.request(4, NL, 0, b"name"), Ok((Answer::Granted, 4)));
+    assert_eq!(s.request(5, NL, 4, b"name"), Ok((Answer::Granted, 5)));
+    assert_eq!(s.convert(1, 1, EX, 0, b""), Ok(Answer::Waits));
+    assert_eq!(s.request(6, NL, 4, b"name"), Err(Refused::BLOCKS));
+    assert_eq!(s.request(6, NL, 0, b"name"), Ok((Answer::Waits, 6)));
+    assert_eq!(s.cancel(1, 1), Ok(1));
+    assert_eq!(s.resources[&1].waiting, [3, 6], "a sweep goes past no head, not even with NL");
+    assert_sound(&s);
+}
+
+#[test]
+fn a_holder_that_asks_again_behind_one_that_waits_for_it_is_in_a_deadlock() {
+    let mut s = state(1, 4);
+    requests(&mut s, &[PR, EX]);
+    assert_eq!(s.request(1, PR, 0, b"name"), Ok((Answer::Waits, 3)));
+    assert_eq!(s.break_deadlock(), 2, "the first of the two on the blocked chain");
+    assert_eq!(s.poll(2), Ok(Polled { completion: 2, lock: 2, mark: 0 }));
+    assert_eq!(poll_all(&mut s), [(0, 1, EX), (1, 3, 0)]);
     assert_sound(&s);
 }
 

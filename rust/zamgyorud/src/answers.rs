@@ -54,7 +54,7 @@ impl Flags {
     pub const STORE_VALUE: Flags = Flags(1);
     /// Make the value not valid (convert, release).
     pub const INVALIDATE_VALUE: Flags = Flags(2);
-    /// Refuse the call with [`Refusal::Blocks`] if it would have to wait (request, convert).
+    /// Refuse the call with [`Refusal::Blocks`] exactly where it would wait without this flag (request, convert).
     pub const NO_QUEUE: Flags = Flags(4);
 
     /// Flags of any bits; those that a call doesn't allow are refused by it.
@@ -179,7 +179,7 @@ pub enum Refusal {
     NoResource,
     /// 12: no lock record is free.
     NoLock,
-    /// 13: it would have to wait, and is not to be queued.
+    /// 13: it would have to wait, be it only because others do, and is not to be queued.
     Blocks,
     /// 14: image's area or load's tables have the wrong length.
     Lengths,

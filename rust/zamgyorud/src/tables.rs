@@ -154,13 +154,18 @@ impl Tables {
 
     /// A lock of a mode on a name: whether it is granted, and its number.
     ///
+    /// It is granted at once if no conversion and no request waits on the name and its mode is compatible with every mode held there. NL, which is
+    /// compatible with every mode, passes waiting requests. Requests that wait are granted in the order in which they came.
+    ///
     /// ```
     /// # use zamgyorud::{Flags, Mode, Outcome, Refusal, Tables};
     /// # fn main() -> Result<(), Refusal> {
     /// let mut tables = Tables::start(4, 8)?;
-    /// assert_eq!(tables.request(1, Mode::Ex, Flags::NONE, b"vip-7")?, (Outcome::Granted, 1));
-    /// assert_eq!(tables.request(2, Mode::Ex, Flags::NONE, b"vip-7")?, (Outcome::Waiting, 2));
-    /// assert_eq!(tables.request(2, Mode::Ex, Flags::NO_QUEUE, b"vip-7"), Err(Refusal::Blocks));
+    /// assert_eq!(tables.request(1, Mode::Pr, Flags::NONE, b"pool")?, (Outcome::Granted, 1));
+    /// assert_eq!(tables.request(2, Mode::Ex, Flags::NONE, b"pool")?, (Outcome::Waiting, 2));
+    /// // PR goes together with PR, but lock 2 waits already.
+    /// assert_eq!(tables.request(3, Mode::Pr, Flags::NONE, b"pool")?, (Outcome::Waiting, 3));
+    /// assert_eq!(tables.request(4, Mode::Pr, Flags::NO_QUEUE, b"pool"), Err(Refusal::Blocks));
     /// # Ok(())
     /// # }
     /// ```
@@ -169,7 +174,8 @@ impl Tables {
         accepted(answer).map(|answer| (outcome(answer.result()), answer.lock()))
     }
 
-    /// A granted lock to another mode. The value is looked at only with [`Flags::STORE_VALUE`], and must then have 32 bytes.
+    /// A granted lock to another mode; this goes before requests that wait. The value is looked at only with [`Flags::STORE_VALUE`], and must then
+    /// have 32 bytes.
     ///
     /// ```
     /// # use zamgyorud::{Flags, Mode, Outcome, Refusal, Tables};

@@ -104,6 +104,32 @@ fn deadlocks_and_cancels() {
     assert_eq!(t.purge(9), Ok(0));
 }
 
+/// Lock 1 holds PR, and lock 2 waits for EX. PR fits what is held, but waits behind lock 2; NL passes it, and a conversion does.
+#[test]
+fn a_waiting_request_is_not_overtaken() {
+    let mut t = requested(&[Mode::Pr, Mode::Ex]);
+    let before = t.clone();
+    assert_eq!(t.request(3, Mode::Pr, Flags::NO_QUEUE, b"RES-A"), Err(Refusal::Blocks));
+    assert_eq!(t, before);
+    assert_eq!(t.request(3, Mode::Pr, Flags::NONE, b"RES-A"), Ok((Outcome::Waiting, 3)));
+    assert_eq!(t.request(4, Mode::Nl, Flags::NO_QUEUE, b"RES-A"), Ok((Outcome::Granted, 4)));
+    assert_eq!(t.convert(4, 4, Mode::Pr, Flags::NO_QUEUE, b""), Ok(Outcome::Granted));
+    let drawn = "\
+RES-A (value valid)
+  GRANTED     lock 1, client 1, PR, marked EX
+              lock 4, client 4, PR
+  CONVERTING  -
+  WAITING     lock 2, client 2, EX
+              lock 3, client 3, PR
+";
+    assert_eq!(t.to_string(), drawn);
+    assert_eq!((t.purge(1), t.purge(4)), (Ok(1), Ok(1)));
+    assert_eq!((t.poll(2), t.poll(3)), (Ok(ended(2, Completion::Granted)), Ok(None)));
+    assert_eq!(t.release(2, 2, Flags::NONE, b""), Ok(()));
+    assert_eq!(t.poll(3), Ok(ended(3, Completion::Granted)));
+    assert_eq!(t.request(5, Mode::Pr, Flags::NO_QUEUE, b"RES-A"), Ok((Outcome::Granted, 2)));
+}
+
 /// Lock 1 holds PW, lock 2 CR. PR has to wait for lock 1 alone, and so has CW, whose number is smaller; EX has to wait for both.
 #[test]
 fn marks_are_set_raised_and_polled() {

@@ -1,4 +1,4 @@
-use Rattle.call_refusals.proofs.RequestRoom.{room-longer, room-long, room-none, room-locks, room-queues, room-resourced, room-admits, room-blocks}
+use Rattle.call_refusals.proofs.RequestRoom.{room-longer, room-long, room-none, room-locks, room-queues, room-resourced, room-at-once, room-blocks}
 use borrow.Author.Needs.{needs}
 use Rattle.call_refusals.proofs.room_refusal.Statement.{statement}
 use Rattle.call_refusals.proofs.room_refusal.Tie as tie
@@ -14,5 +14,5 @@ room-refusal-spec =
     (λ c κs. search needs)
     (λ c. search room-queues)
     (λ c κs. search room-resourced)
-    (λ c. search room-admits)
+    (λ c. search room-at-once)
     (λ c. search room-blocks))

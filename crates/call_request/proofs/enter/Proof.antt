@@ -13,7 +13,7 @@ returns-2 c =
     let e = c .before .before in
     let d = e .before .before .before .before in
     let b = d .before .before .before in
-    enter-waits _ _ _ _ _ _ _ _ (d .move-lock2 .ensures .0) _ (b .before .admitted .ensures) (b .if1 .left) (d .before .queued .ensures) _ (e .tell-obstacles .ensures)
+    enter-waits _ _ _ _ _ _ _ _ (d .move-lock2 .ensures .0) _ (b .before .at-once .ensures) (b .if1 .left) (d .before .queued .ensures) _ (e .tell-obstacles .ensures)
 
 pub enter-spec : {M : Type 1} → statement M
 enter-spec =

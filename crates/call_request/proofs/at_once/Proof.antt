@@ -1,10 +1,10 @@
 use Rattle.call_request.proofs.NewLock.{asks-laws}
 use borrow.Author.Needs.{needs}
-use Rattle.call_request.proofs.admitted.Statement.{statement}
-use Rattle.call_request.proofs.admitted.Tie as tie
+use Rattle.call_request.proofs.at_once.Statement.{statement}
+use Rattle.call_request.proofs.at_once.Tie as tie
 
-pub admitted-spec : {M : Type 1} → statement M
-admitted-spec =
+pub at-once-spec : {M : Type 1} → statement M
+at-once-spec =
     tie.close
     (tie.spec
     (λ c κs. search needs)
