@@ -19,9 +19,9 @@
  *
  * So modes can't be compared by their numbers: PR has a larger one than CW, and the two exclude each other.
  *
- * Order. A new request is granted at once if no conversion and no request waits on its name and its mode is compatible with every mode held there.
- * NL, which is compatible with every mode, passes waiting requests: it has to wait only where a conversion does. Requests that wait on one name are
- * granted in the order in which they came, so readers that keep coming can't keep a writer waiting. Conversions go before all of them.
+ * Order. A new request is granted at once only if no conversion and no request waits on its name and its mode is compatible with every mode held
+ * there. NL, which is compatible with every mode, passes waiting requests: it has to wait only where a conversion does. Requests that wait on one
+ * name are granted in the order in which they came, so readers that keep coming can't keep a writer waiting. Conversions go before all of them.
  *
  * Waiting. A request or conversion that has to wait says so and returns. Convert, release, cancel, purge and break can grant it later, whoever
  * makes them, and break can deny it because of a deadlock. Poll tells how the wait has ended: its completion. A completion is polled before its
@@ -265,8 +265,8 @@ static inline struct zamgyorud_answer zamgyorud_tables_request(const struct zamg
     return zamgyorud_request(tables->words, tables->words_len, tables->slots, tables->slots_len, client, mode, flags, name, name_len);
 }
 
-/* Changes the mode of a granted lock, or has it wait for that and keep its mode meanwhile. It goes before requests that wait. Flags: 1, 2, 4. The
- * value is looked at with flag 1 only. Result: granted or waiting. */
+/* Changes the mode of a granted lock, or has it wait for that and keep its mode meanwhile. Conversions go before requests that wait. Flags: 1, 2, 4.
+ * The value is looked at with flag 1 only. Result: granted or waiting. */
 struct zamgyorud_answer zamgyorud_convert(uint32_t *words, size_t words_len, uint8_t *slots, size_t slots_len, uint32_t client, uint32_t lock,
                                           uint32_t mode, uint32_t flags, const uint8_t *value, size_t value_len);
 

@@ -52,14 +52,14 @@ all-modes-at test h (suc (suc (suc (suc zero)))) l = search parts
 all-modes-at test h (suc (suc (suc (suc (suc zero))))) l = search parts
 all-modes-at test h (suc (suc (suc (suc (suc (suc n)))))) l = absurd (omega arith)
 
+pub all-modes-intro : (test : ℕ → Bool) → ((x : ℕ) → x ≤ 5 → test x ≡ true) → all-modes test ≡ true
+unfolding all-modes
+all-modes-intro test h = rw (h 0 (omega arith), h 1 (omega arith), h 2 (omega arith), h 3 (omega arith), h 4 (omega arith), h 5 (omega arith))
+
 -- nobody is in the way of NL
 pub null-goes : (a : ℕ) → a ≤ 5 → compatible a NL ≡ true
 unfolding all-modes compatible matrix
 null-goes a h = all-modes-at (λ x. compatible x NL) refl a h
-
-pub all-modes-intro : (test : ℕ → Bool) → ((x : ℕ) → x ≤ 5 → test x ≡ true) → all-modes test ≡ true
-unfolding all-modes
-all-modes-intro test h = rw (h 0 (omega arith), h 1 (omega arith), h 2 (omega arith), h 3 (omega arith), h 4 (omega arith), h 5 (omega arith))
 
 -- a down conversion gives way to every mode that the old one let in
 pub down-use : (a b : ℕ) → down a b ≡ true → (x : ℕ) → x ≤ 5 → compatible a x ≡ true → compatible b x ≡ true

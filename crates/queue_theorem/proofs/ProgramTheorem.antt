@@ -6,7 +6,7 @@ use Prim.Native.Nat.{ℕ, _+_}
 use Rattle.tables.specs.State.{granted}
 use Rattle.tables.specs.Layout.{read-lock}
 use Rattle.rules.specs.declared.Said.{Said}
-use Rattle.rules.specs.Entries.{Lent, Outcome, outcome, Call, call-entry, start-entry, Keeps}
+use Rattle.rules.specs.Entries.{Lent, Outcome, outcome, Call, to-request, call-entry, start-entry, Keeps}
 use Rattle.rules.specs.Theorem.{lent-after-calls, sum-of, requests-accepted, releases-accepted, requests-cancelled, locks-purged, polled-denials, Demand}
 use Rattle.rules.specs.Marks.{MarksRight, MarksAfter}
 use Rattle.rules.specs.NoOvertaking.{Waits, KeepsOrder, WaitsThrough, NoOvertaking}
@@ -72,6 +72,11 @@ turns-in-order : (t : Lent) → NoOvertaking t → TurnsInOrder t
 turns-in-order t h =
     record {
       each-turn = λ v kept. subst (λ (o : Outcome). KeepsOrder (v .call) t o) (sym kept) (h .each-call (v .call));
+      flag-4 = λ client m n u v eu ev ku kv.
+          let a : said u .answer ≡ call-entry (to-request client m 0 n) t .said .answer = ap (λ (o : Outcome). o .said .answer) ku ∙ ap (λ (c : Call). call-entry c t .said .answer) eu in
+          let b : said v .refusal ≡ call-entry (to-request client m 4 n) t .said .refusal = ap (λ (o : Outcome). o .said .refusal) kv ∙ ap (λ (c : Call). call-entry c t .said .refusal) ev in
+          let d = h .flag-4 client m n in
+          (λ z. b ∙ d .declined (sym a ∙ z), λ z. a ∙ d .no-other (sym b ∙ z));
       in-turn = λ q vs v run kept r j k.
           let e = left-is t q (run .0) in
           let left : v .left ≡ call-entry (v .call) (lent-after-calls (calls vs) (q .left)) .lent-after =

@@ -91,9 +91,13 @@ abbrev pub WaitsThroughRun : ℕ → ℕ → List Turn → Lent → Type 0
 WaitsThroughRun r k [] t = Waits (t .words) r k
 WaitsThroughRun r k (u ∷ us) t = Waits (t .words) r k × WaitsThroughRun r k us (u .left)
 
--- every further turn keeps the order, and of two requests that wait through a run the later is not granted while the earlier still waits
+-- every further turn keeps the order; a request with flag 4 is refused with 13 exactly where without it it would answer 2; and of two requests that wait
+-- through a run the later is not granted while the earlier still waits
 pub record TurnsInOrder (t : Lent) : Type 0 where
   pub each-turn : (v : Turn) → Keeps (v .call) t (said v) (v .left) → KeepsOrder (v .call) t (outcome (said v) (v .left))
+  pub flag-4 : (client m : ℕ) (n : List ℕ) (u v : Turn) → u .call ≡ to-request client m 0 n → v .call ≡ to-request client m 4 n →
+      Keeps (u .call) t (said u) (u .left) → Keeps (v .call) t (said v) (v .left) →
+      (said u .answer ≡ 2 → said v .refusal ≡ 13) × (said v .refusal ≡ 13 → said u .answer ≡ 2)
   pub in-turn : (q : Turn) (vs : List Turn) (v : Turn) → Run t (q ∷ vs) → Keeps (v .call) (lent-after-run (q .left) vs) (said v) (v .left) →
       (r j k : ℕ) → Waits (t .words) r j → (Waits (t .words) r k → ⊥) → WaitsThroughRun r j vs (q .left) → WaitsThroughRun r k vs (q .left) →
       Waits (v .left .words) r j → granted (read-lock (v .left .words) k) ≡ false

@@ -20,13 +20,13 @@ use Rattle.tables.proofs.ChainMembers.{state-within, on-chain, chain-has, on-wa
 use Rattle.rules.specs.Deadlock.{before}
 use Rattle.rules.specs.Calls.{Step, request}
 use Rattle.rules.specs.Entries.{Lent, lent-of, written, Call, step-of, to-request}
-use Rattle.rules.specs.Theorem.{lent-after-calls, conversion-waits}
+use Rattle.rules.specs.Theorem.{lent-after-calls, IsLock, conversion-waits}
 use Rattle.rules.specs.NoOvertaking.{Waits, wait-chain, Earlier, KeepsOrder, Declines, WaitsThrough, NoOvertaking, NoOvertakingTheorem}
 use Rattle.rules.proofs.WaitChains.{still-behind, order-kept, comes-behind}
 use Rattle.rules.proofs.EveryCall.{Kept, stepped}
 use Rattle.rules.proofs.QueueProperties.{lock-is, chain-is, is-lock, is-resource, head-word}
 use Rattle.rules.proofs.QueueTheorem.{play, outcome-is, after-is, play-valid, from-start}
-use Rattle.rules.proofs.RequestAnswers.{Entered, entered, nobody-waited, conversion-there, flag-declines, flag-only}
+use Rattle.rules.proofs.RequestAnswers.{Entered, entered, waits-then, nobody-waited, conversion-there, flag-declines, flag-only}
 
 -- THE WORDS of a valid state and its wait chains
 module _ (t : Tables) (val : Valid t) (r : ℕ) where
@@ -114,16 +114,25 @@ module _ (client m f : ℕ) (n : List ℕ) (t : Tables) (val : Valid t) where
   stands : s .said .answer ≢ 0 → Entered m n t s
   stands = entered client m f n t val
 
+  after : Kept (to-request client m f n) t s
+  after = stepped (to-request client m f n) t val
+
+  made : s .said .answer ≢ 0 → IsLock (words (s .tables)) (s .said .number)
+  made h = is-lock (s .tables) (after .valid) (s .said .number) (rw (after .locks-are) (stands h .is-lock))
+
   stands-there : (h : s .said .answer ≢ 0) → read-lock (words (s .tables)) (s .said .number) .resource ≡ stands h .r
-  stands-there h =
-      let kept = stepped (to-request client m f n) t val in
-      rw (lock-is (s .tables) (kept .valid) (s .said .number) (is-lock (s .tables) (kept .valid) (s .said .number) (rw (kept .locks-are) (stands h .is-lock)))) (stands h .on-it)
+  stands-there h = rw (lock-is (s .tables) (after .valid) (s .said .number) (made h)) (stands h .on-it)
 
   request-first : m ≢ NL → s .said .answer ≡ 1 → (k : ℕ) → Waits (words t) (read-lock (words (s .tables)) (s .said .number) .resource) k → ⊥
   request-first z h k =
       let y : s .said .answer ≢ 0 = omega arith in
       rw (stands-there y)
       (λ w. omega (arith, waits-in t val (stands y .r) k w .1, ap (count k) (nobody-waited m n t s (stands y) z h), count-nil k))
+
+  request-waits : s .said .answer ≡ 2 → Waits (words (s .tables)) (read-lock (words (s .tables)) (s .said .number) .resource) (s .said .number)
+  request-waits h =
+      let y : s .said .answer ≢ 0 = omega arith in
+      record { is-lock = made y; is-waiting = rw (lock-is (s .tables) (after .valid) (s .said .number) (made y)) (waits-then m n t s (stands y) h); on-it = refl }
 
   request-null : m ≡ NL → s .said .answer ≡ 2 → conversion-waits (words t) (read-lock (words (s .tables)) (s .said .number) .resource) ≡ true
   request-null e h =
@@ -136,6 +145,9 @@ keeps-order c t val =
       none-past = λ client m f n e z.
           subst (λ (x : Call). step-of x t .said .answer ≡ 1 → (k : ℕ) → Waits (words t) (read-lock (words (step-of x t .tables)) (step-of x t .said .number) .resource) k → ⊥) (sym e)
           (request-first client m f n t val z);
+      two-waits = λ client m f n e.
+          subst (λ (x : Call). step-of x t .said .answer ≡ 2 → Waits (words (step-of x t .tables)) (read-lock (words (step-of x t .tables)) (step-of x t .said .number) .resource) (step-of x t .said .number)) (sym e)
+          (request-waits client m f n t val);
       null-passes = λ client f n e.
           subst (λ (x : Call). step-of x t .said .answer ≡ 2 → conversion-waits (words t) (read-lock (words (step-of x t .tables)) (step-of x t .said .number) .resource) ≡ true) (sym e)
           (request-null client NL f n t val refl);

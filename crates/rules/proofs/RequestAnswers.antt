@@ -11,7 +11,7 @@ use borrow.Author.Tests.{not-true}
 use Rattle.modes.specs.Modes.{NL}
 use Rattle.tables.specs.declared.Lock.{Lock}
 use Rattle.tables.specs.Lists.{within, first, null}
-use Rattle.tables.specs.State.{Tables, lock, resource, move, move-resource, last-mode}
+use Rattle.tables.specs.State.{Tables, lock, resource, waiting, move, move-resource, last-mode}
 use Rattle.tables.specs.Sound.{client-right}
 use Rattle.tables.specs.Validity.{used, line, Valid}
 use Rattle.tables.proofs.Cases.{by-cases, clash, eqb-same}
@@ -27,13 +27,15 @@ use Rattle.rules.proofs.MarkLaws.{tell-not}
 use Rattle.rules.proofs.AcceptedCalls.{request-passed}
 use Rattle.rules.proofs.EveryCall.{request-accepted}
 
--- WHERE IT STANDS. The step s of an accepted request: its lock stands on the resource r, and is granted exactly if the rule grants it there at once
+-- WHERE IT STANDS. The step s of an accepted request: its lock stands on the resource r, and the answer is 1 exactly if the rule grants it there at
+-- once; else it waits
 pub record Entered (m : ℕ) (n : List ℕ) (t : Tables) (s : Step) : Type 0 where
   pub r : ℕ
   pub is-resource : within (length (t .resources)) r ≡ true
   pub is-lock : within (length (t .locks)) (s .said .number) ≡ true
   pub on-it : lock (s .tables) (s .said .number) .resource ≡ r
   pub answers : s .said .answer ≡ cond (granted-at-once t r m) 1 2
+  pub queued-up : granted-at-once t r m ≡ false → waiting (lock (s .tables) (s .said .number)) ≡ true
   pub asked : at-once (find n t) m t ≡ granted-at-once t r m
 
 module _ (c m f : ℕ) (n : List ℕ) (t : Tables) (p : Requestable c m f n t) where
@@ -64,6 +66,7 @@ module _ (c m f : ℕ) (n : List ℕ) (t : Tables) (p : Requestable c m f n t) w
           is-lock = w;
           on-it = ap (λ (l : Lock). l .resource) (lock-same r k (holding r c m) (move-resource r (new-resource n) t) (unfold move-resource in w));
           answers = rw unheld;
+          queued-up = λ h. clash (granted-at-once t r m) unheld h;
           asked = rw e (unfold at-once in sym unheld);
         }
 
@@ -78,17 +81,19 @@ module _ (c m f : ℕ) (n : List ℕ) (t : Tables) (p : Requestable c m f n t) w
     found-asked : at-once (find n t) m t ≡ granted-at-once t (suc r) m
     found-asked = rw e (unfold at-once in refl)
 
-    entered-old : (a : ℕ) (t2 : Tables) → lock t2 k .resource ≡ suc r → a ≡ cond (granted-at-once t (suc r) m) 1 2 → Entered m n t (accepted-step a k t2)
-    entered-old a t2 q h =
-        record { r = suc r; is-resource = used-within t (suc r) in-use; is-lock = w; on-it = q; answers = h; asked = found-asked }
+    entered-old : (a : ℕ) (t2 : Tables) → lock t2 k .resource ≡ suc r → a ≡ cond (granted-at-once t (suc r) m) 1 2 →
+        (granted-at-once t (suc r) m ≡ false → waiting (lock t2 k) ≡ true) → Entered m n t (accepted-step a k t2)
+    entered-old a t2 q h u =
+        record { r = suc r; is-resource = used-within t (suc r) in-use; is-lock = w; on-it = q; answers = h; queued-up = u; asked = found-asked }
 
     entered-granted : granted-at-once t (suc r) m ≡ true → Entered m n t (accepted-step 1 k (move (suc r) k (holding (suc r) c m) t))
-    entered-granted h = entered-old 1 _ (ap (λ (l : Lock). l .resource) (lock-same (suc r) k (holding (suc r) c m) t w)) (rw h)
+    entered-granted h = entered-old 1 _ (ap (λ (l : Lock). l .resource) (lock-same (suc r) k (holding (suc r) c m) t w)) (rw h) (λ z. clash (granted-at-once t (suc r) m) h z)
 
     entered-waiting : granted-at-once t (suc r) m ≡ false → Entered m n t (accepted-step 2 k (tell-obstacles k (move (suc r) k (queued (suc r) c m) t)))
     entered-waiting h =
         let c1 = enter-waiting t (val .core) (suc r) k c m ks (λ s i. val .settled s) in-use (val .settled (suc r) .still) frees (p .client-low) (p .client-high) (p .mode) h .valid .core in
-        entered-old 2 _ (ap (λ (l : Lock). l .resource) (tell-not _ c1 k k (rw (eqb-same k)) ∙ lock-same (suc r) k (queued (suc r) c m) t w)) (rw h)
+        let e2 = tell-not _ c1 k k (rw (eqb-same k)) ∙ lock-same (suc r) k (queued (suc r) c m) t w in
+        entered-old 2 _ (ap (λ (l : Lock). l .resource) e2) (rw h) (λ z. ap (λ (l : Lock). waiting l) e2)
 
   pub change-entered : Entered m n t (request-change c m n t)
   unfolding request-change resource-for with-resource request-on
@@ -114,7 +119,7 @@ entered c m f n t val = go (request-refusal c m f n t) refl
     go zero e h = change-entered c m f n t (request-passed t val c m f n e)
     go (suc x) e h = absurd (h refl)
 
--- answer 1, of another mode than NL: nobody waited there. Answer 2 of NL: a conversion does
+-- answer 2: it waits. Answer 1, of another mode than NL: nobody waited there. Answer 2 of NL: a conversion does
 module _ (m : ℕ) (n : List ℕ) (t : Tables) (s : Step) (d : Entered m n t s) where
   answer-one : s .said .answer ≡ 1 → granted-at-once t (d .r) m ≡ true
   answer-one h =
@@ -127,6 +132,9 @@ module _ (m : ℕ) (n : List ℕ) (t : Tables) (s : Step) (d : Entered m n t s) 
       by-cases (granted-at-once t (d .r) m)
       (λ g. absurd (let z : _≡_ {A = ℕ} 1 2 = rw g at (sym (d .answers) ∙ h) in omega arith))
       (λ g. g)
+
+  pub waits-then : s .said .answer ≡ 2 → waiting (lock (s .tables) (s .said .number)) ≡ true
+  waits-then h = d .queued-up (answer-two h)
 
   pub nobody-waited : m ≢ NL → s .said .answer ≡ 1 → resource t (d .r) .wait ≡ []
   nobody-waited n h = at-once-first t (d .r) m (answer-one h) n

@@ -19,7 +19,7 @@ use Rattle.rules.specs.Deadlock.{before}
 use Rattle.rules.proofs.DeadlockVictim.{count-before}
 use Rattle.rules.proofs.ListOrder.{before-out, before-in, before-keep, before-drop, keep-all, remove-keep, FromFront}
 
--- From t to t′ the wait chain of s loses those that do not stay, who are not granted; then some are taken from its front, and some join at its end.
+-- From t to t′ the wait chain of s loses some, who are not granted; then some are taken from its front, and some join at its end.
 pub record InOrder (t t′ : Tables) (s : ℕ) : Type 0 where
   pub stays : ℕ → Bool
   pub taken : List ℕ

@@ -1,4 +1,4 @@
--- What R-2 promises (document 02): no overtaking. While a request waits, no later one is granted before it.
+-- What R-2 promises (document 02): no overtaking. While a request waits, no later one on its resource is granted, except that NL may be granted at once.
 use mathlib.Core.Path.{_≡_}
 use mathlib.Core.Logic.{_≢_}
 use mathlib.Core.Bool.{true, false}
@@ -28,15 +28,21 @@ pub record Earlier (ws : List ℕ) (r j k : ℕ) : Type 0 where
   pub second-waits : Waits ws r k
   pub stands-before : 1 ≤ count j (before k (wait-chain ws r))
 
--- the resource of the lock that an accepted request makes
+-- the lock that an accepted request makes, by the number that it answers, and its resource
+abbrev pub its-lock : Outcome → ℕ
+its-lock o = o .said .number
+
 abbrev pub its-resource : Outcome → ℕ
-its-resource o = lock-after o (o .said .number) .resource
+its-resource o = lock-after o (its-lock o) .resource
 
 -- ONE CALL c on the tables t, and its outcome o
 pub record KeepsOrder (c : Call) (t : Lent) (o : Outcome) : Type 0 where
   -- (1) "a new request is granted at once only if the wait chain is empty as well": where one of another mode than NL answers 1, nobody waited
   pub none-past : (client m f : ℕ) (n : List ℕ) → c ≡ to-request client m f n → m ≢ NL → o .said .answer ≡ 1 →
       (k : ℕ) → Waits (t .words) (its-resource o) k → ⊥
+  -- one that answers 2 waits, so no call grants its own request past those that wait
+  pub two-waits : (client m f : ℕ) (n : List ℕ) → c ≡ to-request client m f n → o .said .answer ≡ 2 →
+      Waits (words-after o) (its-resource o) (its-lock o)
   -- NL "needs only an empty convert chain": one waits only where a conversion does
   pub null-passes : (client f : ℕ) (n : List ℕ) → c ≡ to-request client NL f n → o .said .answer ≡ 2 →
       conversion-waits (t .words) (its-resource o) ≡ true
@@ -53,8 +59,8 @@ pub record Declines (client m : ℕ) (n : List ℕ) (t : Lent) : Type 0 where
   pub declined : call-entry (to-request client m 0 n) t .said .answer ≡ 2 → call-entry (to-request client m 4 n) t .said .refusal ≡ 13
   pub no-other : call-entry (to-request client m 4 n) t .said .refusal ≡ 13 → call-entry (to-request client m 0 n) t .said .answer ≡ 2
 
--- A LIST OF CALLS. The lock k waits on r before its first call and after each of them. So it stayed in the queue: a lock number that is used again was free
--- between.
+-- A LIST OF CALLS. The lock k waits on r before its first call and after each of them. So it stayed in the queue: before a lock's number is used again,
+-- some call leaves it free.
 abbrev pub WaitsThrough : ℕ → ℕ → List Call → Lent → Type 0
 WaitsThrough r k [] t = Waits (t .words) r k
 WaitsThrough r k (c ∷ cs) t = Waits (t .words) r k × WaitsThrough r k cs (call-entry c t .lent-after)

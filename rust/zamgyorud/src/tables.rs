@@ -154,8 +154,9 @@ impl Tables {
 
     /// A lock of a mode on a name: whether it is granted, and its number.
     ///
-    /// It is granted at once if no conversion and no request waits on the name and its mode is compatible with every mode held there. NL, which is
-    /// compatible with every mode, passes waiting requests. Requests that wait are granted in the order in which they came.
+    /// It is granted at once only if no conversion and no request waits on the name and its mode is compatible with every mode held there. NL, which
+    /// is compatible with every mode, passes waiting requests: it waits only where a conversion does. Requests that wait are granted in the order in
+    /// which they came.
     ///
     /// ```
     /// # use zamgyorud::{Flags, Mode, Outcome, Refusal, Tables};
