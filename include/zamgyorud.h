@@ -27,15 +27,21 @@
  * makes them, and break can deny it because of a deadlock. Poll tells how the wait has ended: its completion. A completion is polled before its
  * lock is used again: until then convert, release and cancel of this lock are refused with ZAMGYORUD_REFUSAL_UNREAD.
  *
+ * Counting. Each request or conversion that says that it waits is open until it is heard of, once: by a poll of its completion, by its cancel, or in
+ * one of the two counts of a purge of its client, as a lock that was blocked (its wait hadn't ended) or as one with a completion unread. So a client
+ * that counts up at each such answer, and down at each poll with a completion and at each accepted cancel, knows how many of its calls are still open.
+ * That a wait ever ends, nobody promises.
+ *
  * Marks. Poll also tells a client that one of its locks is in somebody's way. When a request or conversion has to wait, each other lock on that name
  * that holds a mode incompatible with the asked one gets a mark: the asked mode, or the mark that it has, if that has the larger number. A lock that
  * gets its mode later is not marked for this wait. A mark stops no call, and lasts until it is polled or its lock is freed. So a client that keeps a
  * lock for long polls now and then, and at a mark it releases the lock or converts it down as soon as it can. Whoever asked may wait no longer, and
  * others may wait too: list tells who does.
  *
- * Answers. Each call but sound and holder gives a struct zamgyorud_answer, and four functions take it apart, on every answer of every call:
- * zamgyorud_refusal, zamgyorud_result, zamgyorud_lock, zamgyorud_mark. Holder gives a struct of its own, with functions of its own. So an answer can't
- * be taken for a number, nor one of the two for the other: it doesn't compile.
+ * Answers. Each call but sound and holder gives a struct zamgyorud_answer. zamgyorud_refusal and zamgyorud_result are for the answers of every call,
+ * zamgyorud_lock and zamgyorud_mark for those of every call but purge. zamgyorud_purged_blocked and zamgyorud_purged_unread are for those of purge
+ * alone, whose two further counts stand where other answers have the lock and the mark. Of a refused call all but the refusal are 0. Holder gives a
+ * struct of its own, with functions of its own. So an answer can't be taken for a number, nor one of the two for the other: it doesn't compile.
  *
  * Two forms. zamgyorud_tables_request(&tables, ..) and its like take a struct zamgyorud_tables. zamgyorud_request(words, words_len, slots, slots_len,
  * ..) and its like are the functions of the library. A program that uses the first form, and zamgyorud_tables_in to make the struct, stays as it is
@@ -67,9 +73,9 @@ extern "C" {
 #endif
 
 /* The version of this header and of the library that comes with it. */
-#define ZAMGYORUD_VERSION "0.4.0"
+#define ZAMGYORUD_VERSION "0.5.0"
 #define ZAMGYORUD_VERSION_MAJOR 0
-#define ZAMGYORUD_VERSION_MINOR 4
+#define ZAMGYORUD_VERSION_MINOR 5
 #define ZAMGYORUD_VERSION_PATCH 0
 
 /* The most that R, L and a client's number can be; the most bytes of a name; the bytes of a value. */
@@ -153,7 +159,8 @@ struct zamgyorud_entry {
 };
 
 /* An answer. With the highest bit set it is a refusal, whose number is below. Otherwise bits 0 to 15 are the result, bits 16 to 31 the lock, and bits
- * 32 to 47 the mark. A struct of one uint64_t is returned in the same register as a uint64_t, on x86-64 and on AArch64. */
+ * 32 to 47 the mark; of purge they are its three counts. A struct of one uint64_t is returned in the same register as a uint64_t, on x86-64 and on
+ * AArch64. */
 struct zamgyorud_answer {
     uint64_t bits;
 };
@@ -168,13 +175,27 @@ static inline uint32_t zamgyorud_result(struct zamgyorud_answer answer) {
     return answer.bits >> 63 != 0 ? 0 : (uint32_t)(answer.bits & UINT16_MAX);
 }
 
-/* The lock that request gives, break has denied or poll tells of; 0 for all other calls, and if it was refused. */
+/* The lock that request gives, break has denied or poll tells of; 0 for all other calls but purge, of whose answer this is the second count and no
+ * lock, and if it was refused. */
 static inline uint32_t zamgyorud_lock(struct zamgyorud_answer answer) {
     return answer.bits >> 63 != 0 ? 0 : (uint32_t)(answer.bits >> 16 & UINT16_MAX);
 }
 
-/* The mark that poll tells of, a mode from 1 to 5; 0 if the lock has none, for all other calls, and if it was refused. */
+/* The mark that poll tells of, a mode from 1 to 5; 0 if the lock has none, for all other calls but purge, of whose answer this is the third count
+ * and no mark, and if it was refused. */
 static inline uint32_t zamgyorud_mark(struct zamgyorud_answer answer) {
+    return answer.bits >> 63 != 0 ? 0 : (uint32_t)(answer.bits >> 32 & UINT16_MAX);
+}
+
+/* How many of the locks that purge freed were blocked, that is, converting or waiting; 0 if it was refused. Of any other call's answer this means
+ * nothing. */
+static inline uint32_t zamgyorud_purged_blocked(struct zamgyorud_answer answer) {
+    return answer.bits >> 63 != 0 ? 0 : (uint32_t)(answer.bits >> 16 & UINT16_MAX);
+}
+
+/* How many of the locks that purge freed had a completion unread; 0 if it was refused. A mark alone doesn't count, and none of these locks was
+ * blocked. Of any other call's answer this means nothing. */
+static inline uint32_t zamgyorud_purged_unread(struct zamgyorud_answer answer) {
     return answer.bits >> 63 != 0 ? 0 : (uint32_t)(answer.bits >> 32 & UINT16_MAX);
 }
 
@@ -292,7 +313,8 @@ static inline struct zamgyorud_answer zamgyorud_tables_cancel(const struct zamgy
     return zamgyorud_cancel(tables->words, tables->words_len, tables->slots, tables->slots_len, client, lock);
 }
 
-/* Frees all locks of a client that is gone. The value of a name on which it held PW or EX becomes not valid. Result: how many locks. */
+/* Frees all locks of a client that is gone. The value of a name on which it held PW or EX becomes not valid. Result: how many locks. How many of them
+ * were blocked, zamgyorud_purged_blocked tells; and how many had a completion unread, zamgyorud_purged_unread. */
 struct zamgyorud_answer zamgyorud_purge(uint32_t *words, size_t words_len, uint8_t *slots, size_t slots_len, uint32_t client);
 
 static inline struct zamgyorud_answer zamgyorud_tables_purge(const struct zamgyorud_tables *tables, uint32_t client) {

@@ -2,6 +2,7 @@
  * Prints 'capi: N checks passed', or each check that failed, and then the exit status is 1.
  */
 #include <inttypes.h>
+#include <stdbool.h>
 #include <stdio.h>
 #include <string.h>
 
@@ -18,6 +19,9 @@
 #define WORD_BYTES 4
 #define HEADER_NOTICE 6
 #define LOCK_NOTICE 2
+#define LOCK_CLIENT 4
+#define LOCK_STATE 5
+#define LOCK_COMPLETION 8
 #define LOCK_MARK 9
 
 /* One more than document 01 allows. */
@@ -30,12 +34,14 @@
 #define IMAGE ZAMGYORUD_IMAGE_LEN(R, L)
 #define MEMORY ZAMGYORUD_MEMORY_LEN(R, L)
 
-/* A number; bytes; an accepted answer, with all its bits; one of poll; a refused one; holder's two answers. */
+/* A number; bytes; an accepted answer, with all its bits; one of poll; one of purge; a refused one; holder's two answers. */
 #define IS(actual, expected) check(__LINE__, #actual, (actual), (expected))
 #define SAME(a, b, bytes) check(__LINE__, #a " as " #b, memcmp((a), (b), (bytes)) == 0, 1)
 #define GIVES(answer, result, lock) accepted(__LINE__, #answer, (answer), (result), (lock), 0)
 #define TELLS(client, completion, lock, mark) \
     accepted(__LINE__, "poll of client " #client, zamgyorud_tables_poll(&tables, (client)), (completion), (lock), (mark))
+#define PURGES(client, count, blocked, unread) \
+    purged(__LINE__, "purge of client " #client, zamgyorud_tables_purge(&tables, (client)), (count), (blocked), (unread))
 #define REFUSES(answer, refusal) refused(__LINE__, #answer, (answer), (refusal))
 #define HOLDS(answer, refusal, client) holds(__LINE__, #answer, (answer), (refusal), (client))
 
@@ -61,6 +67,15 @@ static void accepted(int line, const char *what, struct zamgyorud_answer answer,
     check(line, what, zamgyorud_mark(answer), mark);
 }
 
+static void purged(int line, const char *what, struct zamgyorud_answer answer, uint32_t count, uint32_t blocked, uint32_t unread)
+{
+    check(line, what, answer.bits, (uint64_t)unread << 32 | (uint64_t)blocked << 16 | count);
+    check(line, what, zamgyorud_refusal(answer), 0);
+    check(line, what, zamgyorud_result(answer), count);
+    check(line, what, zamgyorud_purged_blocked(answer), blocked);
+    check(line, what, zamgyorud_purged_unread(answer), unread);
+}
+
 static void refused(int line, const char *what, struct zamgyorud_answer answer, uint32_t refusal)
 {
     check(line, what, answer.bits, UINT64_C(1) << 63 | refusal);
@@ -68,6 +83,8 @@ static void refused(int line, const char *what, struct zamgyorud_answer answer, 
     check(line, what, zamgyorud_result(answer), 0);
     check(line, what, zamgyorud_lock(answer), 0);
     check(line, what, zamgyorud_mark(answer), 0);
+    check(line, what, zamgyorud_purged_blocked(answer), 0);
+    check(line, what, zamgyorud_purged_unread(answer), 0);
 }
 
 static void holds(int line, const char *what, struct zamgyorud_held held, uint32_t refusal, uint32_t client)
@@ -131,10 +148,14 @@ static void test_answers(void)
     IS(zamgyorud_result(full), 0x1111);
     IS(zamgyorud_lock(full), 0x2222);
     IS(zamgyorud_mark(full), 0x3333);
+    IS(zamgyorud_purged_blocked(full), 0x2222);
+    IS(zamgyorud_purged_unread(full), 0x3333);
     IS(zamgyorud_refusal(refusal), UINT32_MAX);
     IS(zamgyorud_result(refusal), 0);
     IS(zamgyorud_lock(refusal), 0);
     IS(zamgyorud_mark(refusal), 0);
+    IS(zamgyorud_purged_blocked(refusal), 0);
+    IS(zamgyorud_purged_unread(refusal), 0);
 }
 
 /* Lengths, and tables in memory. Constants and functions say the same; where there are no tables, the functions say 0. */
@@ -206,7 +227,7 @@ static void test_takeover(void)
     keep();
     REFUSES(request(2, ZAMGYORUD_MODE_EX, ZAMGYORUD_FLAG_NO_QUEUE, "vip-7"), ZAMGYORUD_REFUSAL_BLOCKS);
     unchanged();
-    GIVES(zamgyorud_tables_purge(&tables, 1), 1, 0);
+    PURGES(1, 1, 0, 0);
     TELLS(2, ZAMGYORUD_COMPLETION_GRANTED, 2, 0);
     TELLS(2, ZAMGYORUD_COMPLETION_NONE, 0, 0);
     TELLS(1, 0, 0, 0); /* the purge took its mark too */
@@ -509,7 +530,7 @@ static void test_conversions_first(void)
     GIVES(release(1, 1, 0), 0, 0);
     TELLS(2, ZAMGYORUD_COMPLETION_GRANTED, 2, 0);
     TELLS(3, 0, 0, 0);
-    GIVES(zamgyorud_tables_purge(&tables, 2), 1, 0);
+    PURGES(2, 1, 0, 0);
     TELLS(3, ZAMGYORUD_COMPLETION_GRANTED, 3, 0);
 }
 
@@ -592,6 +613,244 @@ static void test_deadlock_behind_a_request(void)
     TELLS(1, ZAMGYORUD_COMPLETION_GRANTED, 3, 0);
 }
 
+/* What a purge counts of a request: waiting, granted and unread, granted and read. Locks of others don't count, nor those that its sweep grants. */
+static void test_purged_requests(void)
+{
+    start_afresh();
+    GIVES(request(1, ZAMGYORUD_MODE_EX, 0, "A"), 1, 1);
+    for (uint32_t client = 2; client <= 4; client++)
+        GIVES(request(client, ZAMGYORUD_MODE_EX, 0, "A"), 2, client);
+    keep();
+    PURGES(5, 0, 0, 0); /* it has no lock; others wait */
+    unchanged();
+    PURGES(4, 1, 1, 0);
+    IS(*lock_word(1, LOCK_MARK), ZAMGYORUD_MODE_EX);
+    PURGES(1, 1, 0, 0); /* a mark alone */
+    keep();
+    PURGES(1, 0, 0, 0); /* it has no lock any more; another has a completion unread */
+    unchanged();
+    PURGES(2, 1, 0, 1);
+    TELLS(3, ZAMGYORUD_COMPLETION_GRANTED, 3, 0);
+    PURGES(3, 1, 0, 0);
+
+    /* denied; the lock in its way has a mark alone */
+    start_afresh();
+    GIVES(request(1, ZAMGYORUD_MODE_EX, 0, "A"), 1, 1);
+    GIVES(request(1, ZAMGYORUD_MODE_EX, 0, "A"), 2, 2);
+    GIVES(zamgyorud_tables_break(&tables), 2, 2);
+    PURGES(1, 2, 0, 1);
+
+    /* waiting for a lock of its own: nothing is swept before all locks are freed, so it is never granted */
+    start_afresh();
+    GIVES(request(1, ZAMGYORUD_MODE_EX, 0, "A"), 1, 1);
+    GIVES(request(1, ZAMGYORUD_MODE_EX, 0, "A"), 2, 2);
+    PURGES(1, 2, 1, 0);
+    TELLS(1, 0, 0, 0);
+}
+
+/* What a purge counts of a conversion: converting, granted and unread, denied and unread, and the last two with a mark beside. */
+static void test_purged_conversions(void)
+{
+    for (unsigned denied = 0; denied <= 1; denied++) {
+        start_afresh();
+        GIVES(request(1, ZAMGYORUD_MODE_PR, 0, "A"), 1, 1);
+        GIVES(request(2, ZAMGYORUD_MODE_PR, 0, "A"), 1, 2);
+        GIVES(convert(1, 1, ZAMGYORUD_MODE_EX), 2, 0);
+        GIVES(convert(2, 2, ZAMGYORUD_MODE_EX), 2, 0);
+        IS(*lock_word(1, LOCK_MARK), ZAMGYORUD_MODE_EX);
+        IS(*lock_word(2, LOCK_MARK), ZAMGYORUD_MODE_EX);
+        if (denied) {
+            GIVES(zamgyorud_tables_break(&tables), 1, 1);
+            PURGES(1, 1, 0, 1); /* lock 1 is denied */
+            TELLS(2, ZAMGYORUD_COMPLETION_GRANTED, 2, ZAMGYORUD_MODE_EX);
+            PURGES(2, 1, 0, 0);
+        } else {
+            PURGES(2, 1, 1, 0); /* converting, with a mark: counted once */
+            PURGES(1, 1, 0, 1); /* so lock 1 is granted */
+        }
+    }
+
+    /* converting, without a mark; and cancelled, which is heard of already */
+    start_afresh();
+    GIVES(request(1, ZAMGYORUD_MODE_PR, 0, "A"), 1, 1);
+    GIVES(request(2, ZAMGYORUD_MODE_PR, 0, "A"), 1, 2);
+    GIVES(convert(1, 1, ZAMGYORUD_MODE_EX), 2, 0);
+    PURGES(1, 1, 1, 0);
+    GIVES(request(1, ZAMGYORUD_MODE_PR, 0, "A"), 1, 1);
+    GIVES(convert(1, 1, ZAMGYORUD_MODE_EX), 2, 0);
+    GIVES(zamgyorud_tables_cancel(&tables, 1, 1), ZAMGYORUD_CANCELLED_CONVERSION, 0);
+    PURGES(1, 1, 0, 0);
+}
+
+/* All kinds together. Client 1 has on B a mark alone and a request denied, on D a conversion denied and a mark alone, on C a request granted, on A a
+ * conversion that waits for client 2's lock, and a request behind it. */
+static void test_purged_together(void)
+{
+    start_afresh();
+    GIVES(request(1, ZAMGYORUD_MODE_EX, 0, "B"), 1, 1);
+    GIVES(request(1, ZAMGYORUD_MODE_EX, 0, "B"), 2, 2);
+    GIVES(zamgyorud_tables_break(&tables), 2, 2);
+    GIVES(request(1, ZAMGYORUD_MODE_PR, 0, "D"), 1, 3);
+    GIVES(request(1, ZAMGYORUD_MODE_PR, 0, "D"), 1, 4);
+    GIVES(convert(1, 3, ZAMGYORUD_MODE_EX), 2, 0);
+    GIVES(zamgyorud_tables_break(&tables), 3, 3);
+    GIVES(request(2, ZAMGYORUD_MODE_EX, 0, "C"), 1, 5);
+    GIVES(request(1, ZAMGYORUD_MODE_EX, 0, "C"), 2, 6);
+    GIVES(release(2, 5, 0), 0, 0);
+    GIVES(request(2, ZAMGYORUD_MODE_PR, 0, "A"), 1, 5);
+    GIVES(request(1, ZAMGYORUD_MODE_PR, 0, "A"), 1, 7);
+    GIVES(convert(1, 7, ZAMGYORUD_MODE_EX), 2, 0);
+    GIVES(request(1, ZAMGYORUD_MODE_NL, 0, "A"), 2, 8);
+    keep();
+    REFUSES(zamgyorud_tables_purge(&tables, 0), ZAMGYORUD_REFUSAL_CLIENT);
+    REFUSES(zamgyorud_tables_purge(&tables, TOO_HIGH_CLIENT), 3);
+    REFUSES(zamgyorud_purge(tables.words, WORDS - 1, tables.slots, SLOTS, 1), 1);
+    unchanged();
+    PURGES(1, 7, 2, 3);
+    PURGES(1, 0, 0, 0);
+    TELLS(1, 0, 0, 0);
+    TELLS(2, 0, 5, ZAMGYORUD_MODE_EX);
+    PURGES(2, 1, 0, 0);
+}
+
+/* The sum of document 02, R-3: the first of these numbers is the sum of the others. They are kept for each client, of its own calls and locks, and
+ * under 0 for all together. Beside them: how many calls were refused because their client can't be. */
+enum { ANSWERS_2, NOW_BLOCKED, NOW_UNREAD, POLLS, CANCELS, PURGED_BLOCKED, PURGED_UNREAD, NUMBERS };
+
+#define CLIENTS 3
+#define CALLS 4000
+
+static uint32_t numbers[CLIENTS + 1][NUMBERS];
+static unsigned refusals;
+
+static void add(uint32_t client, int number, uint32_t more)
+{
+    numbers[client][number] += more;
+    numbers[0][number] += more;
+}
+
+/* A number below most. They are the same in every run. */
+static uint32_t chosen(uint32_t most)
+{
+    static uint32_t state = 1;
+
+    state = state * UINT32_C(1664525) + UINT32_C(1013904223);
+    return (state >> 16) % most;
+}
+
+enum call { REQUEST, CONVERT, RELEASE, CANCEL, PURGE, BREAK, POLL };
+
+static struct zamgyorud_answer make(enum call call, uint32_t client, uint32_t lock)
+{
+    static const char *const names[] = {"A", "B", "C"};
+    const char *const name = names[chosen(3)];
+    const uint32_t mode = chosen(6), flags = chosen(8) == 0 ? ZAMGYORUD_FLAG_NO_QUEUE : 0;
+
+    switch (call) {
+    case REQUEST:
+        return request(client, mode, flags, name);
+    case CONVERT:
+        return zamgyorud_tables_convert(&tables, client, lock, mode, flags, NULL, 0);
+    case RELEASE:
+        return release(client, lock, 0);
+    case CANCEL:
+        return zamgyorud_tables_cancel(&tables, client, lock);
+    case PURGE:
+        return zamgyorud_tables_purge(&tables, client);
+    case BREAK:
+        return zamgyorud_tables_break(&tables);
+    default:
+        return zamgyorud_tables_poll(&tables, client);
+    }
+}
+
+static bool counted(uint32_t client)
+{
+    return client >= 1 && client <= CLIENTS;
+}
+
+/* Makes a call that is chosen, and adds what it answers. The client is mostly the lock's, and now and then one that can't be. Many other calls are
+ * refused too: the lock is another's, or free, or not in a state for it. */
+static void make_a_call(void)
+{
+    static const enum call often[] = {REQUEST, REQUEST, REQUEST, REQUEST, REQUEST, CONVERT, CONVERT, CONVERT, CONVERT, CONVERT,
+                                      CONVERT, RELEASE, RELEASE, CANCEL,  CANCEL,  PURGE,   BREAK,   POLL,    POLL,    POLL};
+    const enum call call = often[chosen(sizeof often / sizeof often[0])];
+    const uint32_t lock = 1 + chosen(L), owner = *lock_word(lock, LOCK_CLIENT);
+    const uint32_t usual = counted(owner) && chosen(4) != 0 ? owner : 1 + chosen(CLIENTS);
+    const uint32_t client = chosen(30) != 0 ? usual : chosen(2) != 0 ? TOO_HIGH_CLIENT : 0;
+    struct zamgyorud_answer answer;
+
+    keep();
+    answer = make(call, client, lock);
+    if (call == BREAK)
+        return;
+    if (!counted(client)) {
+        REFUSES(answer, ZAMGYORUD_REFUSAL_CLIENT);
+        unchanged();
+        refusals++;
+        return;
+    }
+    if (call == REQUEST || call == CONVERT)
+        add(client, ANSWERS_2, zamgyorud_result(answer) == ZAMGYORUD_RESULT_WAITING);
+    if (call == CANCEL)
+        add(client, CANCELS, zamgyorud_refusal(answer) == 0);
+    if (call == PURGE) {
+        add(client, PURGED_BLOCKED, zamgyorud_purged_blocked(answer));
+        add(client, PURGED_UNREAD, zamgyorud_purged_unread(answer));
+    }
+    if (call == POLL)
+        add(client, POLLS, zamgyorud_result(answer) != ZAMGYORUD_COMPLETION_NONE);
+}
+
+/* Counts the locks that are blocked now, and the completions that are unread now. Whose they are, the library wrote: that is checked before it is
+ * counted by. */
+static void count_locks(void)
+{
+    for (uint32_t client = 0; client <= CLIENTS; client++)
+        numbers[client][NOW_BLOCKED] = numbers[client][NOW_UNREAD] = 0;
+    for (uint32_t lock = 1; lock <= L; lock++) {
+        const uint32_t state = *lock_word(lock, LOCK_STATE), client = *lock_word(lock, LOCK_CLIENT);
+
+        if (state == 0)
+            continue;
+        IS(counted(client), 1);
+        if (counted(client)) {
+            add(client, NOW_BLOCKED, state == ZAMGYORUD_STATE_CONVERTING || state == ZAMGYORUD_STATE_WAITING);
+            add(client, NOW_UNREAD, *lock_word(lock, LOCK_COMPLETION) != ZAMGYORUD_COMPLETION_NONE);
+        }
+    }
+}
+
+/* After each of many calls the sum holds, for each client and for all. The walk ends where it doesn't. */
+static void test_heard_once(void)
+{
+    const unsigned failed_before = failed;
+    char what[80];
+
+    start_afresh();
+    for (unsigned call = 1; call <= CALLS && failed == failed_before; call++) {
+        make_a_call();
+        count_locks();
+        for (uint32_t client = 0; client <= CLIENTS; client++) {
+            uint32_t sum = 0;
+
+            for (int number = ANSWERS_2 + 1; number < NUMBERS; number++)
+                sum += numbers[client][number];
+            snprintf(what, sizeof what, "what is heard of the waits of client %" PRIu32 " (0: all) after call %u", client, call);
+            check(__LINE__, what, sum, numbers[client][ANSWERS_2]);
+        }
+    }
+
+    /* each of them occurred, if the walk went to its end; the locks of the last moment are chance */
+    if (failed != failed_before)
+        return;
+    for (uint32_t client = 1; client <= CLIENTS; client++)
+        for (int number = POLLS; number < NUMBERS; number++)
+            IS(numbers[client][number] > 0, 1);
+    IS(refusals > 0, 1);
+}
+
 /* Tables that aren't sound: each call but start and load is refused with 1, and nothing changes. */
 static void test_unsound(void)
 {
@@ -658,6 +917,10 @@ int main(void)
     test_behind_a_request();
     test_behind_a_conversion();
     test_deadlock_behind_a_request();
+    test_purged_requests();
+    test_purged_conversions();
+    test_purged_together();
+    test_heard_once();
     test_unsound();
     test_nothing_lent();
     if (failed != 0) {

@@ -26,6 +26,8 @@ tried() { # COMPILER STANDARD LANGUAGE
     for line in \
         'return (int)zamgyorud_refusal(zamgyorud_poll(NULL, 0, NULL, 0, 1));' \
         'return (int)zamgyorud_mark(zamgyorud_poll(NULL, 0, NULL, 0, 1));' \
+        'return (int)zamgyorud_purged_blocked(zamgyorud_purge(NULL, 0, NULL, 0, 1));' \
+        'return (int)zamgyorud_purged_unread(zamgyorud_purge(NULL, 0, NULL, 0, 1));' \
         'return (int)zamgyorud_holder_client(zamgyorud_holder(NULL, 0, NULL, 0));' \
         'uint32_t sound = zamgyorud_sound(NULL, 0, NULL, 0); return (int)sound;'; do
         compiles "$line" "$@" || fail "in $2: $line"
@@ -37,6 +39,8 @@ tried() { # COMPILER STANDARD LANGUAGE
         'return (int)zamgyorud_holder_refusal(257);' \
         'return (int)zamgyorud_lock(1);' \
         'return (int)zamgyorud_mark(zamgyorud_holder(NULL, 0, NULL, 0));' \
+        'return (int)zamgyorud_purged_blocked(1);' \
+        'return (int)zamgyorud_purged_unread(zamgyorud_holder(NULL, 0, NULL, 0));' \
         'uint64_t answer = zamgyorud_poll(NULL, 0, NULL, 0, 1); return (int)answer;' \
         'uint32_t client = zamgyorud_holder(NULL, 0, NULL, 0); return (int)client;' \
         'if (zamgyorud_purge(NULL, 0, NULL, 0, 1)) return 1;'; do

@@ -4,7 +4,7 @@ use Prim.Native.Nat.{ℕ, zero, suc}
 use native.Mathlib.Omega.{arith}
 use borrow.Author.Needs.{needs}
 use Rattle.rules.specs.declared.Said.{Said}
-use Rattle.rules.specs.Calls.{accepted, notified}
+use Rattle.rules.specs.Calls.{accepted, accepted-with}
 use Rattle.rules.specs.Entries.{Lent, Outcome, outcome, Call, call-entry, Keeps}
 use Rattle.rules.specs.Numbers.{Small}
 use Rattle.rules.proofs.SmallNumbers.{numbers-small}
@@ -31,7 +31,7 @@ says-denied : (k : ℕ) (x : Said) → Says (accepted k k) x → Says (denial k)
 says-denied zero x n = record { is = λ h. absurd (h refl) }
 says-denied (suc k) x n = n
 
-says-marked : (k m : ℕ) (x : Said) → Says (notified 0 k m) x → Says (mark-alone k m) x
+says-marked : (k m : ℕ) (x : Said) → Says (accepted-with 0 k m) x → Says (mark-alone k m) x
 says-marked zero m x n = record { is = λ h. absurd (h refl) }
 says-marked (suc k) m x n = n
 
@@ -64,7 +64,7 @@ module _ (x : Said) where
   pub in-polled : {r s : Polled} → r ≡ s → Says (polled s) x → Says (polled r) x
   in-polled e n = subst (λ (z : Polled). Says (polled z) x) (sym e) n
 
-  pub in-marked : {r : Polled} (k m : ℕ) → r ≡ Marked k m → Says (notified 0 k m) x → Says (polled r) x
+  pub in-marked : {r : Polled} (k m : ℕ) → r ≡ Marked k m → Says (accepted-with 0 k m) x → Says (polled r) x
   in-marked k m e n = in-polled e (says-marked k m x n)
 
   pub in-listed : {r s : Listed} → r ≡ s → Says (list-said s) x → Says (list-said r) x

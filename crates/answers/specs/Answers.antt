@@ -1,8 +1,8 @@
--- What a call says, in the papers' numbers, for each case of each answer: document 01's, and document 02's for marks (R-1).
+-- What a call says, in the papers' numbers, for each case of each answer: document 01's, and document 02's for marks (R-1) and for purge's counts (R-3).
 use Prim.Native.Nat.{ℕ, zero, suc, _^_}
 use Rattle.tables.specs.State.{completion-none, completion-granted, completion-denied, completion-conversion-denied, mark-none}
 use Rattle.rules.specs.declared.Said.{Said}
-use Rattle.rules.specs.Calls.{accepted, notified, refused}
+use Rattle.rules.specs.Calls.{accepted, accepted-with, refused}
 use Rattle.answers.specs.declared.Done.{Done}
 use Rattle.answers.specs.declared.Requested.{Requested}
 use Rattle.answers.specs.declared.Converted.{Converted}
@@ -59,9 +59,9 @@ cancelled cancelled-cases.Conversion = accepted 1 0
 cancelled cancelled-cases.Request = accepted 2 0
 cancelled (cancelled-cases.Refused n) = refused-with n
 
--- "Answers the count."
+-- "Answers the count", and "two more counts: locks purged while blocked, and with a completion unread"
 abbrev pub purged : Purged → Said
-purged (purged-cases.Freed n) = accepted n 0
+purged (purged-cases.Freed n b u) = accepted-with n b u
 purged (purged-cases.Refused n) = refused-with n
 
 -- "is denied and its number answered; 0 if there is none". Locks are numbered from 1; the denied one is also given as the lock.
@@ -77,15 +77,15 @@ broken (broken-cases.Refused n) = refused-with n
 -- a mark alone: no completion, and the lock, which tells it from no notice. Locks are numbered from 1.
 abbrev pub mark-alone : ℕ → ℕ → Said
 mark-alone zero m = never
-mark-alone (suc k) m = notified completion-none (suc k) m
+mark-alone (suc k) m = accepted-with completion-none (suc k) m
 
 -- "completion and lock; 0 and 0 if there is none", and "the mark too", which no denied request has
 abbrev pub polled : Polled → Said
-polled (polled-cases.Granted k m) = notified completion-granted k m
-polled (polled-cases.RequestDenied k) = notified completion-denied k mark-none
-polled (polled-cases.ConversionDenied k m) = notified completion-conversion-denied k m
+polled (polled-cases.Granted k m) = accepted-with completion-granted k m
+polled (polled-cases.RequestDenied k) = accepted-with completion-denied k mark-none
+polled (polled-cases.ConversionDenied k m) = accepted-with completion-conversion-denied k m
 polled (polled-cases.Marked k m) = mark-alone k m
-polled polled-cases.NoNotice = notified completion-none 0 mark-none
+polled polled-cases.NoNotice = accepted-with completion-none 0 mark-none
 polled (polled-cases.Refused n) = refused-with n
 
 -- "and the true count"

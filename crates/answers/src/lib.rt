@@ -1,29 +1,24 @@
 // What the calls answer, and what each answer says: the papers' numbers, as specs/Answers.antt gives them.
 use rules::Said;
-ghost use Rattle.rules.specs.Calls.{accepted, notified};
+ghost use Rattle.rules.specs.Calls.{«accepted-with», accepted};
 ghost use Rattle.answers.specs.Answers.{«refused-with», done, released, requested, converted, cancelled, purged, broken, polled, «list-said»};
 ghost use Rattle.answers.specs.Contracts.{Says};
 
-fn accepted(answer: u32, number: u32) -> Said
-    ensures { λ s. ⌜ Says (accepted answer number) s ⌝ }
+fn accepted_with(answer: u32, number: u32, extra: u32) -> Said
+    ensures { λ s. ⌜ Says (accepted-with answer number extra) s ⌝ }
 {
     Said {
         refusal: 0,
         answer,
         number,
-        extra: 0,
+        extra,
     }
 }
 
-fn notified(completion: u32, number: u32, mark: u32) -> Said
-    ensures { λ s. ⌜ Says (notified completion number mark) s ⌝ }
+fn accepted(answer: u32, number: u32) -> Said
+    ensures { λ s. ⌜ Says (accepted answer number) s ⌝ }
 {
-    Said {
-        refusal: 0,
-        answer: completion,
-        number,
-        extra: mark,
-    }
+    accepted_with(answer, number, 0)
 }
 
 fn refused(refusal: u32) -> Said
@@ -128,9 +123,9 @@ impl Cancelled {
     }
 }
 
-// A purge: how many locks it freed.
+// A purge: how many locks it freed, how many of them were blocked, and how many had a completion unread.
 pub enum Purged {
-    Freed(u32),
+    Freed(u32, u32, u32),
     Refused(u32),
 }
 
@@ -139,7 +134,7 @@ impl Purged {
         ensures { λ s. ⌜ Says (purged self) s ⌝ }
     {
         match self {
-            Purged::Freed(n) => accepted(n, 0),
+            Purged::Freed(n, blocked, unread) => accepted_with(n, blocked, unread),
             Purged::Refused(n) => refused(n),
         }
     }
@@ -180,11 +175,11 @@ impl Polled {
         ensures { λ s. ⌜ Says (polled self) s ⌝ }
     {
         match self {
-            Polled::Granted(k, mark) => notified(1, k, mark),
-            Polled::RequestDenied(k) => notified(2, k, 0),
-            Polled::ConversionDenied(k, mark) => notified(3, k, mark),
-            Polled::Marked(k, mark) => notified(0, k, mark),
-            Polled::NoNotice => notified(0, 0, 0),
+            Polled::Granted(k, mark) => accepted_with(1, k, mark),
+            Polled::RequestDenied(k) => accepted_with(2, k, 0),
+            Polled::ConversionDenied(k, mark) => accepted_with(3, k, mark),
+            Polled::Marked(k, mark) => accepted_with(0, k, mark),
+            Polled::NoNotice => accepted_with(0, 0, 0),
             Polled::Refused(n) => refused(n),
         }
     }

@@ -23,7 +23,7 @@ use Rattle.table_fields.specs.Sizes.{Sized}
 use Rattle.table_fields.proofs.StateWords.{core-sized, lock-high, lock-is, lock-low}
 use Rattle.rules.specs.Queues.{free-lock}
 use Rattle.rules.specs.declared.Said.{Said}
-use Rattle.rules.specs.Calls.{notified, Step, accepted-step, notice-read, take-notice, poll-notice, poll-change}
+use Rattle.rules.specs.Calls.{accepted-with, Step, accepted-step, notice-read, take-notice, poll-notice, poll-change}
 use Rattle.rules.specs.Entries.{lent, outcome, written}
 use Rattle.rules.proofs.NoticesKeepSound.{noted-ok}
 use Rattle.rules.proofs.CallsKeepSound.{noticed-denied, noticed-holds}
@@ -75,7 +75,7 @@ module _ (k : ℕ) (t : Tables) (p : Noticed k t) where
     mark-else g d = omega (arith, n, g, d, completion-high)
 
 abbrev answered : ℕ → ℕ → ℕ → Tables → Step
-answered e k m t = record { said = notified e k m; tables = t }
+answered e k m t = record { said = accepted-with e k m; tables = t }
 
 poll-some : (n k : ℕ) (t : Tables) → within n k ≡ true → poll-notice k t ≡ answered (lock t k .completion) k (lock t k .mark) (take-notice k t)
 unfolding poll-notice
@@ -83,7 +83,7 @@ poll-some n zero t w = clash false w refl
 poll-some n (suc k) t w = refl
 
 -- a mark alone says its lock, which has a number from 1 on
-alone-is : (n k m : ℕ) → within n k ≡ true → mark-alone k m ≡ notified 0 k m
+alone-is : (n k m : ℕ) → within n k ≡ true → mark-alone k m ≡ accepted-with 0 k m
 alone-is n zero m w = clash false w refl
 alone-is n (suc k) m w = refl
 
@@ -130,7 +130,7 @@ module _ (k : ℕ) (a : List ℕ) where
     take-freed e b frees = record {
       then = λ t p is.
           let d : lock t k .completion ≡ 2 = sym (notice-is t p is) ∙ e in
-          step-left (poll-notice k t) (notified 2 k 0) (free-lock k t) b (slots t) (poll-done k t p 2 0 (free-lock k t) d (denied-unmarked k t p d) (take-denied k t d))
+          step-left (poll-notice k t) (accepted-with 2 k 0) (free-lock k t) b (slots t) (poll-done k t p 2 0 (free-lock k t) d (denied-unmarked k t p d) (take-denied k t d))
           (frees .then t (locked k t p) is) (sym (slots-free k t));
     }
 
@@ -151,11 +151,11 @@ module _ (k : ℕ) (a : List ℕ) where
           }
 
       module _ (b : List ℕ) (moved : Moved k m a b) where
-        read-at : (e : ℕ) (t : Tables) → Noticed k t → a ≡ words t → lock t k .completion ≡ e → outcome (notified e k (l .mark)) (lent b (slots t)) ≡ written (poll-notice k t)
+        read-at : (e : ℕ) (t : Tables) → Noticed k t → a ≡ words t → lock t k .completion ≡ e → outcome (accepted-with e k (l .mark)) (lent b (slots t)) ≡ written (poll-notice k t)
         read-at e t p is ce =
             let o = other-at t p is in
             let r = lock t k .resource in
-            step-left (poll-notice k t) (notified e k (l .mark)) (move r k (notice-read (lock t k)) t) b (slots t)
+            step-left (poll-notice k t) (accepted-with e k (l .mark)) (move r k (notice-read (lock t k)) t) b (slots t)
             (poll-done k t p e (l .mark) _ ce (mark-is t p is) (take-read k t o))
             (subst (λ (q : Lock). Moved k q a b) (m-is t p is) moved .then r t (movable k t p o) is)
             (sym (slots-move r k (notice-read (lock t k)) t))

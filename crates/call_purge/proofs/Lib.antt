@@ -1,4 +1,5 @@
 pub mod NumbersLeft
+pub mod LockCounts
 pub mod OneLock
 pub mod ClientLocks
 pub mod MarkedResources

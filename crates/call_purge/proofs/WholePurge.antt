@@ -22,7 +22,7 @@ use Rattle.tables.proofs.StateCases.{StateOk, ok-numbered}
 use Rattle.tables.proofs.Valid.{absent-lock}
 use Rattle.tables.proofs.ChainMembers.{chain-has, in-holder, on-waits}
 use Rattle.rules.specs.Entries.{lent}
-use Rattle.rules.specs.Calls.{accepted, locks-of, purge-lock, purge-locks, stands-on, settle-all, purge-change}
+use Rattle.rules.specs.Calls.{accepted-with, locks-of, purge-lock, purge-locks, stands-on, settle-all, purge-change}
 use Rattle.rules.specs.Accepted.{Purgeable}
 use Rattle.table_fields.specs.Sizes.{resource-places}
 use Rattle.table_chains.specs.Contracts.{Changes}
@@ -30,7 +30,7 @@ use Rattle.queues.specs.Contracts.{SomeTables}
 use Rattle.answers.specs.declared.Purged.the-variants as purged-cases
 use Rattle.answers.specs.Answers.{purged}
 use Rattle.answers.specs.Contracts.{Makes}
-use Rattle.call_purge.specs.PurgedLocks.{purge-all, mark-locks, mark-all, count-all, Frees}
+use Rattle.call_purge.specs.PurgedLocks.{Counts, purge-all, mark-locks, mark-all, count-locks, count-all, Frees}
 use Rattle.table_chains.specs.Marks.{marked}
 use Rattle.call_purge.specs.SettledResources.{settle-marked}
 use Rattle.call_purge.proofs.OneLock.{lock-freed}
@@ -123,22 +123,22 @@ module _ (c : ℕ) (t : Tables) (co : Core t) where
       (keep-cong (marked m) (stands-on c t) (from 1 n) (λ s i. marks-tell m e s (bit-one (within n s) (rw (count-from n s) at i)))))
 
 -- purge_change
-module _ (c : ℕ) (a sa b sb : List ℕ) (m : List Bool) (x : ℕ) (f : Frees Core (purge-all c) (mark-all c (replicate resource-places false)) (count-all c) a sa b sb m x) where
+module _ (c : ℕ) (a sa b sb : List ℕ) (m : List Bool) (x : Counts) (f : Frees Core (purge-all c) (mark-all c (replicate resource-places false)) (count-all c) a sa b sb m x) where
   pub change-settles : SomeTables (Purgeable c) a sa → SomeTables Core b sb
   change-settles s =
       let co = s .good .valid .core in
       let q = f .then (s .state) co (s .is) (s .slots-are) in
       record { state = purge-all c (s .state); good = all-kept c (s .state) co .core; is = q .0; slots-are = q .1 }
 
-  pub change-made : (d sd : List ℕ) → Changes Core (settle-marked m) b sb d sd → Makes (Purgeable c) (purge-change c) a sa d sd (purged (purged-cases.Freed x))
-  unfolding count-all
+  pub change-made : (d sd : List ℕ) → Changes Core (settle-marked m) b sb d sd → Makes (Purgeable c) (purge-change c) a sa d sd (purged (purged-cases.Freed (x .freed) (x .blocked) (x .unread)))
+  unfolding count-all count-locks
   change-made d sd g = record {
     then = λ t p is iss.
         let co = p .valid .core in
         let q = f .then t co is iss in
         let w = g .then (purge-all c t) (all-kept c t co .core) (q .0) (q .1) in
         let e = settles c t co m (q .2) in
-        unfold purge-change in λ i. record { said = accepted ((q .3) i) 0; lent-after = lent ((w .0 ∙ ap words e) i) ((w .1 ∙ ap slots e) i) };
+        unfold purge-change in λ i. record { said = let y = (q .3) i in accepted-with (y .freed) (y .blocked) (y .unread); lent-after = lent ((w .0 ∙ ap words e) i) ((w .1 ∙ ap slots e) i) };
   }
 
 pub ruleset change-laws = (needs, change-settles, change-made)

@@ -8,7 +8,6 @@ use lib.Dec.{eqb, leb}
 use lib.ListN.{getD, length}
 use borrow.Author.Needs.{needs}
 use borrow.Author.Tests.{not-true, not-false, eq-eqb, ne-eqb}
-use Rattle.tables.specs.Lists.{bit}
 use Rattle.tables.specs.State.{most-resources, most-locks}
 use Rattle.tables.specs.Layout.{header-width, resource-width, size, resources-in, locks-in}
 use Rattle.tables.specs.Sound.{sizes-right}
@@ -21,13 +20,6 @@ pub short-words : (ws ss : List ℕ) → length ws < header-width → false ≡ 
 unfolding sizes-right
 short-words ws ss h =
     sym (rw (ne-eqb (length ws) (size (resources-in ws) (locks-in ws)) (λ e. omega arith), and-false (leb 1 (resources-in ws) && leb (resources-in ws) most-resources && leb 1 (locks-in ws) && leb (locks-in ws) most-locks)))
-
--- COUNTS
-pub bit-one : {b : Bool} → b ≡ true → 1 ≡ bit b
-bit-one e = rw e
-
-pub bit-none : {b : Bool} → b ≡ false → 0 ≡ bit b
-bit-none e = rw e
 
 -- RESOURCES
 pub row-read : (ws : List ℕ) (r : ℕ) {x : ℕ} → x ≡ header-width + resource-width * (r - 1) → record {
@@ -65,4 +57,4 @@ module _ (ws ss : List ℕ) (r : ℕ) {x : ResourceRow} {f : Bool} (e : x ≡ ro
   unfolding resource-fine
   resource-go t w = rw (← e, ← g, not-false f t) w
 
-pub ruleset records = (needs, short-words, bit-one, bit-none, row-read, row-nonzero, row-free, row-used, resource-stop, resource-go)
+pub ruleset records = (needs, short-words, row-read, row-nonzero, row-free, row-used, resource-stop, resource-go)

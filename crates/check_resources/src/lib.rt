@@ -24,7 +24,6 @@ use table_names::SLOT_BYTES;
 ghost use mathlib.Core.Path.{_≡_};
 ghost use Prim.Native.Nat.{_≤_};
 ghost use lib.Dec.{eqb};
-ghost use Rattle.tables.specs.Lists.{bit};
 ghost use Rattle.tables.specs.Layout.{«of-header», «resources-in», «word-in»};
 ghost use Rattle.tables.specs.Sound.{«sizes-right»};
 ghost use Rattle.table_fields.specs.Sizes.{Sized};
@@ -55,16 +54,6 @@ pub fn header_fine(words: &[u32]) -> bool
     ensures { λ x. ⌜ x ≡ eqb (word-in (now (words .entry)) (of-header 7)) 0 ⌝ }
 {
     words[HEADER_ZERO] == 0
-}
-
-// What a test adds to a count.
-pub fn bit(b: bool) -> u32
-    ensures { λ x. ⌜ (x ≡ bit b) × (x ≤ 1) ⌝ }
-{
-    if b {
-        return 1;
-    }
-    0
 }
 
 // The words of resource r.

@@ -36,7 +36,7 @@ module _ (line : List ℕ) (command : Command) where
     unfolding played
     performed-cancel e q = rw e q
 
-    pub performed-purge : {c : ℕ} → command ≡ Purge c → p ≡ plays letter-p 1 (to-purge c) t → p ≡ played (meaning line command) t
+    pub performed-purge : {c : ℕ} → command ≡ Purge c → p ≡ plays letter-p 3 (to-purge c) t → p ≡ played (meaning line command) t
     unfolding played
     performed-purge e q = rw e q
 

@@ -25,14 +25,14 @@ plays letter fields c t =
     let o = call-entry c t in
     record { answer = answered letter fields (o .said); tables = o .lent-after }
 
--- `q` "prints answer, lock"; `n` "prints completion, lock", then the mark, as "`lockplay` prints a field that an answer gains, here or later, after
--- the others"; any other letter prints the answer alone
+-- `q` "prints answer, lock"; `n` "prints completion, lock", then the mark, and `p` its count, then the two that it gained, as "`lockplay` prints a field
+-- that an answer gains, here or later, after the others"; any other letter prints the answer alone
 unfoldable pub played : Meaning → Lent → Played
 played (request c m f n) t = plays letter-q 2 (to-request c m f n) t
 played (convert c k m f) t = plays letter-c 1 (to-convert c k m f []) t
 played (release c k f) t = plays letter-r 1 (to-release c k f []) t
 played (cancel c k) t = plays letter-x 1 (to-cancel c k) t
-played (purge c) t = plays letter-p 1 (to-purge c) t
+played (purge c) t = plays letter-p 3 (to-purge c) t
 played break t = plays letter-d 1 to-break t
 played (poll c) t = plays letter-n 3 (to-poll c) t
 played malformed t = record { answer = Unknown; tables = t }

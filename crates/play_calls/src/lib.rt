@@ -70,10 +70,10 @@ fn cancel_line(words: &mut [u32], slots: &[u8], client: u32, lock: u32) -> LineA
 }
 
 fn purge_line(words: &mut [u32], slots: &mut [u8], client: u32) -> LineAnswer
-    ensures { λ r. ⌜ played-with r (now (words .exit)) (now (slots .exit)) ≡ plays letter-p 1 (to-purge client) (lent (now (words .entry)) (now (slots .entry))) ⌝ }
+    ensures { λ r. ⌜ played-with r (now (words .exit)) (now (slots .exit)) ≡ plays letter-p 3 (to-purge client) (lent (now (words .entry)) (now (slots .entry))) ⌝ }
 {
     let r = entry_recovery::purge(words, slots, client);
-    answered(b'p', 1, r.said())
+    answered(b'p', 3, r.said())
 }
 
 fn break_line(words: &mut [u32], slots: &[u8]) -> LineAnswer

@@ -7,13 +7,15 @@ use Rattle.tables.specs.State.{granted}
 use Rattle.tables.specs.Layout.{read-lock}
 use Rattle.rules.specs.declared.Said.{Said}
 use Rattle.rules.specs.Entries.{Lent, Outcome, outcome, Call, to-request, call-entry, start-entry, Keeps}
-use Rattle.rules.specs.Theorem.{lent-after-calls, sum-of, requests-accepted, releases-accepted, requests-cancelled, locks-purged, polled-denials, Demand}
+use Rattle.rules.specs.Theorem.{lent-after-calls, sum-of, SumsHold, Demand}
 use Rattle.rules.specs.Marks.{MarksRight, MarksAfter}
 use Rattle.rules.specs.NoOvertaking.{Waits, KeepsOrder, WaitsThrough, NoOvertaking}
+use Rattle.rules.specs.Heard.{HeardRight, HeardAfter}
 use Rattle.rules.proofs.QueueTheorem.{queue-theorem}
 use Rattle.rules.proofs.MarksTheorem.{marks-theorem}
 use Rattle.rules.proofs.NoOvertaking.{no-overtaking}
-use Rattle.queue_theorem.specs.Runs.{Turn, said, Run, lent-after-run, calls, sum-of-run, RunHolds, ProgramTheorem, ProgramMarks, WaitsThroughRun, TurnsInOrder, ProgramNoOvertaking}
+use Rattle.rules.proofs.HeardTheorem.{heard-theorem}
+use Rattle.queue_theorem.specs.Runs.{Turn, said, Run, lent-after-run, calls, sum-of-run, RunHolds, ProgramTheorem, ProgramMarks, ProgramHeard, WaitsThroughRun, TurnsInOrder, ProgramNoOvertaking}
 
 -- what a turn left is what the definition of its call leaves
 left-is : (t : Lent) (u : Turn) → Keeps (u .call) t (said u) (u .left) → u .left ≡ call-entry (u .call) t .lent-after
@@ -33,13 +35,14 @@ sum-is term t (u ∷ us) r =
     (ap (λ (o : Outcome). term (u .call) (o .said)) (r .0))
     (sum-is term (u .left) us (r .1) ∙ ap (sum-of term (calls us)) (left-is t u (r .0)))
 
+-- the sums hold whatever is summed: the one way of summing is the other
 holds : (t : Lent) (us : List Turn) → Run t us → Demand (calls us) t → RunHolds t us
 holds t us r d =
     record {
       queues = rw (last-is t us r) (d .queues);
-      balance =
-          rw (sum-is requests-accepted t us r, sum-is releases-accepted t us r, sum-is requests-cancelled t us r, sum-is locks-purged t us r, sum-is polled-denials t us r, last-is t us r)
-          (d .balance);
+      sums =
+          rw (last-is t us r)
+          (subst (λ (sum : (Call → Said → ℕ) → ℕ). SumsHold sum (lent-after-calls (calls us) t .words)) (λ i term. sym (sum-is term t us r) i) (d .sums));
     }
 
 -- what start left, and that it accepted, as its definition has it
@@ -60,6 +63,12 @@ program-marks t r l x u started accepted us run v kept =
     subst (λ (o : Outcome). MarksRight (v .call) (lent-after-run u us) o) (sym kept)
     (subst (λ (a : Lent). MarksRight (v .call) a (call-entry (v .call) a)) (sym (last-is u us run))
     (subst (MarksAfter (calls us) (v .call)) (left-by-start t u r l _ started accepted) (marks-theorem t r l (start-accepts t u r l _ started accepted) (calls us) (v .call))))
+
+pub program-heard : ProgramHeard
+program-heard t r l x u started accepted us run v kept =
+    subst (λ (o : Outcome). HeardRight (v .call) (lent-after-run u us) o) (sym kept)
+    (subst (λ (a : Lent). HeardRight (v .call) a (call-entry (v .call) a)) (sym (last-is u us run))
+    (subst (HeardAfter (calls us) (v .call)) (left-by-start t u r l _ started accepted) (heard-theorem t r l (start-accepts t u r l _ started accepted) (calls us) (v .call))))
 
 -- who waits through a run waits through its calls
 waits-through : (r k : ℕ) (t : Lent) (us : List Turn) → Run t us → WaitsThroughRun r k us t → WaitsThrough r k (calls us) t

@@ -8,9 +8,10 @@ use Rattle.tables.specs.State.{granted}
 use Rattle.tables.specs.Layout.{read-lock}
 use Rattle.rules.specs.declared.Said.{Said}
 use Rattle.rules.specs.Entries.{Lent, outcome, Call, to-request, to-convert, to-release, to-cancel, to-purge, to-break, to-poll, Keeps, start-entry}
-use Rattle.rules.specs.Theorem.{QueuesHold, in-use, requests-accepted, releases-accepted, requests-cancelled, locks-purged, polled-denials}
+use Rattle.rules.specs.Theorem.{QueuesHold, SumsHold}
 use Rattle.rules.specs.Marks.{MarksRight}
 use Rattle.rules.specs.NoOvertaking.{Waits, KeepsOrder}
+use Rattle.rules.specs.Heard.{HeardRight}
 use Rattle.answers.specs.declared.Done.{Done}
 use Rattle.answers.specs.declared.Requested.{Requested}
 use Rattle.answers.specs.declared.Converted.{Converted}
@@ -67,11 +68,10 @@ unfoldable pub sum-of-run : (Call → Said → ℕ) → List Turn → ℕ
 sum-of-run term [] = 0
 sum-of-run term (u ∷ us) = term (u .call) (said u) + sum-of-run term us
 
--- demand 3 of a run: the queues hold in the tables that it left, and its own answers add up
+-- demand 3 and R-3's sum, of a run: the queues hold in the tables that it left, and its own answers add up
 pub record RunHolds (t : Lent) (us : List Turn) : Type 0 where
   pub queues : QueuesHold (lent-after-run t us .words) (lent-after-run t us .slots)
-  pub balance : sum-of-run requests-accepted us
-      ≡ in-use (lent-after-run t us .words) + sum-of-run releases-accepted us + sum-of-run requests-cancelled us + sum-of-run locks-purged us + sum-of-run polled-denials us
+  pub sums : SumsHold (λ term. sum-of-run term us) (lent-after-run t us .words)
 
 -- THE QUEUE THEOREM ABOUT THE PROGRAM. `start` was lent t, of any content, accepted and left u; then any list of calls. Proved as `program-theorem`.
 abbrev pub ProgramTheorem : Type 0
@@ -85,6 +85,13 @@ ProgramMarks =
     (t : Lent) (r l : ℕ) (x : Done) (u : Lent) → outcome (answers.done x) u ≡ start-entry t r l → answers.done x .refusal ≡ 0
     → (us : List Turn) → Run u us → (v : Turn) → Keeps (v .call) (lent-after-run u us) (said v) (v .left)
     → MarksRight (v .call) (lent-after-run u us) (outcome (said v) (v .left))
+
+-- EACH LOCK IS HEARD OF ONCE BY THE PROGRAM (R-3): after every run, every further turn opens and closes locks as R-3 promises. Proved as `program-heard`.
+abbrev pub ProgramHeard : Type 0
+ProgramHeard =
+    (t : Lent) (r l : ℕ) (x : Done) (u : Lent) → outcome (answers.done x) u ≡ start-entry t r l → answers.done x .refusal ≡ 0
+    → (us : List Turn) → Run u us → (v : Turn) → Keeps (v .call) (lent-after-run u us) (said v) (v .left)
+    → HeardRight (v .call) (lent-after-run u us) (outcome (said v) (v .left))
 
 -- NO OVERTAKING BY THE PROGRAM (R-2). The lock k waits on r before a run and after each of its turns
 abbrev pub WaitsThroughRun : ℕ → ℕ → List Turn → Lent → Type 0

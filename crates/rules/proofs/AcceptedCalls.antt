@@ -11,7 +11,7 @@ use Rattle.tables.specs.State.{Tables, lock, unread, name-width, value-width, l
 use Rattle.tables.proofs.Cases.{clash, parts}
 use Rattle.tables.proofs.Fields.{client-is}
 use Rattle.tables.specs.Validity.{Valid}
-use Rattle.rules.specs.Calls.{unless, stores, name-right, value-right, request-refusal, convert-refusal, release-refusal, cancel-refusal, purge-refusal, no-queue}
+use Rattle.rules.specs.Calls.{unless, stores, name-right, value-right, own, request-refusal, convert-refusal, release-refusal, cancel-refusal, purge-refusal, no-queue}
 use Rattle.rules.specs.Accepted.{Requestable, Releasable, Convertible, Cancellable, Purgeable}
 
 -- a test that a refusal of 0 has passed, and what is left after it
@@ -77,15 +77,34 @@ module _ (t : Tables) (val : Valid t) where
   unfolding release-refusal
   release-passed c k f v h =
       let h5 = next-test _ 4 _ (next-test _ 2 _ h) in
+      let h8 = next-test _ 7 _ (next-test _ 6 _ h5) in
       record {
         valid = val;
-        is-granted = passed _ 9 _ (next-test _ 8 _ (next-test _ 7 _ (next-test _ 6 _ h5)));
+        is-granted = passed _ 9 _ (next-test _ 8 _ h8);
         right = right-value f v (passed _ 6 _ h5);
       }
 
   pub cancel-passed : (c k : ℕ) → cancel-refusal c k t ≡ 0 → Cancellable k t
   unfolding cancel-refusal
   cancel-passed c k h = record { valid = val; is-blocked = passed _ 9 _ (next-test _ 8 _ (next-test _ 7 _ (next-test _ 2 _ h))) }
+
+  -- of a release: the lock's completion is read
+  pub release-read : (c k f : ℕ) (v : List ℕ) → release-refusal c k f v t ≡ 0 → unread (lock t k) ≡ false
+  unfolding release-refusal
+  release-read c k f v h = not-true (unread (lock t k)) (passed _ 8 _ (next-test _ 7 _ (next-test _ 6 _ (next-test _ 4 _ (next-test _ 2 _ h)))))
+
+  -- of a conversion and a cancel: the lock is the client's
+  owned : (c k : ℕ) → own c k t ≡ true → lock t k .client ≡ c
+  unfolding own
+  owned c k h = eqb-true (lock t k .client) c (search parts)
+
+  pub convert-owned : (c k m f : ℕ) (v : List ℕ) → convert-refusal c k m f v t ≡ 0 → lock t k .client ≡ c
+  unfolding convert-refusal
+  convert-owned c k m f v h = owned c k (passed _ 7 _ (next-test _ 6 _ (next-test _ 4 _ (next-test _ 3 _ (next-test _ 2 _ h)))))
+
+  pub cancel-owned : (c k : ℕ) → cancel-refusal c k t ≡ 0 → lock t k .client ≡ c
+  unfolding cancel-refusal
+  cancel-owned c k h = owned c k (passed _ 7 _ (next-test _ 2 _ h))
 
   pub purge-passed : (c : ℕ) → purge-refusal c ≡ 0 → Purgeable c t
   unfolding purge-refusal

@@ -16,7 +16,7 @@ use Rattle.tables.proofs.Written.{valid-readable, valid-sound}
 use Rattle.rules.specs.Walks.{reaches}
 use Rattle.rules.specs.Queues.{granted-lock, grant-lock, grant-while, grant-converts, grant-waits, sweep, free-lock, settle, find}
 use Rattle.rules.specs.Deadlock.{before, ahead, in-the-way, obstacles, leads, deadlocked, victim}
-use Rattle.rules.specs.Calls.{unless, refused-or, stores, spoils, no-queue, request-flags, convert-flags, release-flags, name-right, value-right, own, strong, with-value, leave-value, larger, mark-lock, mark-locks, tell-obstacles, resource-for, with-resource, granted-at-once, request-on, request-change, at-once, request-refusal, request, in-place, convert-change, convert-refusal, convert, release-change, release-refusal, release, cancel-change, cancel-refusal, cancel, locks-of, purge-lock, purge-locks, stands-on, settle-all, purge-change, purge-refusal, purge, deny, deny-victim, break, take-notice, poll-notice, poll-change, poll-refusal, poll}
+use Rattle.rules.specs.Calls.{unless, refused-or, stores, spoils, no-queue, request-flags, convert-flags, release-flags, name-right, value-right, own, strong, with-value, leave-value, larger, mark-lock, mark-locks, tell-obstacles, resource-for, with-resource, granted-at-once, request-on, request-change, at-once, request-refusal, request, in-place, convert-change, convert-refusal, convert, release-change, release-refusal, release, cancel-change, cancel-refusal, cancel, locks-of, purge-lock, purge-locks, stands-on, settle-all, how-many, purge-change, purge-refusal, purge, deny, deny-victim, break, take-notice, poll-notice, poll-change, poll-refusal, poll}
 use Rattle.rules.specs.Entries.{Lent, lent-of, Outcome, step-of, look-refusal, read-value, read-if, read-entry}
 use Rattle.rules.specs.Bench.{BenchLine, calls, reads, said-right, reading-right, line-right, after-line, lines-right, all-right, bench, mistakes, Answered, BenchHolds, MistakesHold}
 use Rattle.rules.proofs.EveryCall.{stepped}
@@ -40,11 +40,11 @@ state-all [] t = true
 state-all (xs ∷ xss) t = state-lines xs t && state-all xss t
 
 computed : state-all bench (started 4 8) ≡ true
-unfolding state-all state-lines said-right reading-right read-value look-refusal started no-value lock resource shift shift-front relist move move-resource remove all any keep first-that same holders fits convert-grantable wait-grantable empty client-right reaches granted-lock grant-lock grant-while grant-converts grant-waits sweep free-lock settle find before ahead in-the-way obstacles leads deadlocked victim unless refused-or stores spoils no-queue request-flags convert-flags release-flags name-right value-right own strong with-value leave-value larger mark-lock mark-locks tell-obstacles resource-for with-resource granted-at-once request-on request-change at-once request-refusal request in-place convert-change convert-refusal convert release-change release-refusal release cancel-change cancel-refusal cancel locks-of purge-lock purge-locks stands-on settle-all purge-change purge-refusal purge deny deny-victim break take-notice poll-notice poll-change poll-refusal poll matrix compatible all-modes down
+unfolding state-all state-lines said-right reading-right read-value look-refusal started no-value lock resource shift shift-front relist move move-resource remove all any keep first-that same holders fits convert-grantable wait-grantable empty client-right reaches granted-lock grant-lock grant-while grant-converts grant-waits sweep free-lock settle find before ahead in-the-way obstacles leads deadlocked victim unless refused-or stores spoils no-queue request-flags convert-flags release-flags name-right value-right own strong with-value leave-value larger mark-lock mark-locks tell-obstacles resource-for with-resource granted-at-once request-on request-change at-once request-refusal request in-place convert-change convert-refusal convert release-change release-refusal release cancel-change cancel-refusal cancel locks-of purge-lock purge-locks stands-on settle-all how-many purge-change purge-refusal purge deny deny-victim break take-notice poll-notice poll-change poll-refusal poll matrix compatible all-modes down
 computed = refl
 
 mistakes-computed : state-all mistakes (started 4 8) ≡ true
-unfolding state-all state-lines said-right reading-right read-value look-refusal started no-value lock resource shift shift-front relist move move-resource remove all any keep first-that same holders fits convert-grantable wait-grantable empty client-right reaches granted-lock grant-lock grant-while grant-converts grant-waits sweep free-lock settle find before ahead in-the-way obstacles leads deadlocked victim unless refused-or stores spoils no-queue request-flags convert-flags release-flags name-right value-right own strong with-value leave-value larger mark-lock mark-locks tell-obstacles resource-for with-resource granted-at-once request-on request-change at-once request-refusal request in-place convert-change convert-refusal convert release-change release-refusal release cancel-change cancel-refusal cancel locks-of purge-lock purge-locks stands-on settle-all purge-change purge-refusal purge deny deny-victim break take-notice poll-notice poll-change poll-refusal poll matrix compatible all-modes down
+unfolding state-all state-lines said-right reading-right read-value look-refusal started no-value lock resource shift shift-front relist move move-resource remove all any keep first-that same holders fits convert-grantable wait-grantable empty client-right reaches granted-lock grant-lock grant-while grant-converts grant-waits sweep free-lock settle find before ahead in-the-way obstacles leads deadlocked victim unless refused-or stores spoils no-queue request-flags convert-flags release-flags name-right value-right own strong with-value leave-value larger mark-lock mark-locks tell-obstacles resource-for with-resource granted-at-once request-on request-change at-once request-refusal request in-place convert-change convert-refusal convert release-change release-refusal release cancel-change cancel-refusal cancel locks-of purge-lock purge-locks stands-on settle-all how-many purge-change purge-refusal purge deny deny-victim break take-notice poll-notice poll-change poll-refusal poll matrix compatible all-modes down
 mistakes-computed = refl
 
 -- a read of the written form of a valid state gives what the state has

@@ -1,16 +1,15 @@
--- A lock changes, and its resource is settled, swept or left: the state stays sound, waiting locks keep their order, and what that does to the free locks.
-use mathlib.Core.Path.{_≡_, refl, _∙_}
+-- A lock changes, and its resource is settled, swept or left: the state stays sound, waiting locks keep their order, and the other locks their weight.
+use mathlib.Core.Path.{_≡_, refl, ap, _∙_}
 use mathlib.Core.Logic.{_≢_}
 use mathlib.Core.Bool.{true, false}
 use mathlib.Core.List.{List, [], _∷_}
 use Prim.Native.Nat.{ℕ, _+_, _≤_}
 use native.Mathlib.Omega.{arith}
 use lib.ListN.{length}
-use lib.Dec.{eqb}
 use borrow.Author.Tests.{not-true}
 use Rattle.tables.specs.declared.Lock.{Lock}
-use Rattle.tables.specs.Lists.{within, count, remove, all}
-use Rattle.tables.specs.State.{Resource, Tables, no-lock, no-resource, lock, resource, granted, converting, waiting, blocked-lock, holds, shift, shift-front, relist, move, move-resource, grants, queue}
+use Rattle.tables.specs.Lists.{within, count, all}
+use Rattle.tables.specs.State.{Resource, Tables, no-lock, no-resource, lock, resource, granted, converting, waiting, blocked-lock, holds, shift, relist, move, move-resource, grants, queue}
 use Rattle.tables.specs.Grants.{holders, fits, convert-grantable, empty}
 use Rattle.tables.proofs.Cases.{by-cases, by-equal, clash, eqb-same, nor-left, nor-right}
 use Rattle.tables.proofs.Counts.{count-nil, head-in}
@@ -20,6 +19,7 @@ use Rattle.tables.proofs.ChainMembers.{chain-has, fits-true, true-fits, settled
 use Rattle.rules.specs.Queues.{sweep, free-lock, settle}
 use Rattle.rules.proofs.ListOrder.{FromFront, front-none}
 use Rattle.rules.proofs.WaitChains.{InOrder, nobody-leaves, moved-order, order-before}
+use Rattle.rules.proofs.LockWeights.{Steady, Weighs, weighs-same, instead, move-instead}
 use Rattle.rules.proofs.SweepLaws.{Swept, sweep-swept}
 use Rattle.rules.proofs.ResourceChanges.{empty-chains, used-changed, free-empty, Quiet}
 
@@ -30,7 +30,7 @@ pub record Settles (r : ℕ) (t t′ : Tables) : Type 0 where
   pub others : (s : ℕ) → s ≢ r → Settled t s → Settled t′ s
   pub fronts : (s : ℕ) → FromFront (resource t s .wait) (resource t′ s .wait)
   pub unmoved : (j : ℕ) → blocked-lock (lock t j) ≡ false → lock t′ j ≡ lock t j
-  pub free-same : t′ .free-locks ≡ t .free-locks
+  pub weighs : Weighs (lock t) t′
   pub locks-same : length (t′ .locks) ≡ length (t .locks)
   pub resources-same : length (t′ .resources) ≡ length (t .resources)
 
@@ -42,7 +42,7 @@ swept-settles r t t′ s h =
       others = s .others;
       fronts = s .fronts;
       unmoved = s .unmoved;
-      free-same = s .free-same;
+      weighs = s .weighs;
       locks-same = s .locks-same;
       resources-same = s .resources-same;
     }
@@ -57,31 +57,27 @@ settle-settles r t c w =
     (λ h. rw (h, settle) (swept-settles r t _ (free-empty r t c w h) (λ v. clash (used (move-resource r no-resource t) r) v (used-changed r no-resource t w))))
     (λ h. rw (h, settle) (sweep-settles r t c h))
 
--- what a call leaves
-pub record After (t t′ : Tables) (fs : List ℕ) : Type 0 where
+-- what a call leaves; g: what each lock became, but for grants by a sweep and for marks
+pub record After (t t′ : Tables) (g : ℕ → Lock) : Type 0 where
   pub valid : Valid t′
   pub in-order : (s : ℕ) → InOrder t t′ s
-  pub free-is : t′ .free-locks ≡ fs
+  pub weighs : Weighs g t′
   pub locks-are : length (t′ .locks) ≡ length (t .locks)
   pub resources-are : length (t′ .resources) ≡ length (t .resources)
 
-pub unchanged-after : (t : Tables) (fs : List ℕ) → Valid t → t .free-locks ≡ fs → After t t fs
-unchanged-after t fs val e = record { valid = val; in-order = λ s. nobody-leaves t t t s refl (front-none _); free-is = e; locks-are = refl; resources-are = refl }
+pub unchanged-after : (t : Tables) → Valid t → After t t (lock t)
+unchanged-after t val = record { valid = val; in-order = λ s. nobody-leaves t t t s refl (front-none _); weighs = weighs-same t; locks-are = refl; resources-are = refl }
 
--- what a move does to the free locks
-pub free-gained : (r k : ℕ) (m : Lock) (t : Tables) → eqb (lock t k .state) 0 ≡ false → eqb (m .state) 0 ≡ true → move r k m t .free-locks ≡ k ∷ t .free-locks
-unfolding move shift-front
-free-gained r k m t p q = rw (p, q)
-
-pub free-taken : (r k : ℕ) (m : Lock) (t : Tables) → eqb (lock t k .state) 0 ≡ true → eqb (m .state) 0 ≡ false → move r k m t .free-locks ≡ remove k (t .free-locks)
-unfolding move shift-front
-free-taken r k m t p q = rw (p, q)
+-- the same weights by other records
+pub after-same : {t t′ : Tables} (g h : ℕ → Lock) → ((f : Lock → ℕ) → Steady f → (j : ℕ) → f (g j) ≡ f (h j)) → After t t′ g → After t t′ h
+after-same g h e a =
+    record { valid = a .valid; in-order = a .in-order; weighs = λ f s j. a .weighs f s j ∙ e f s j; locks-are = a .locks-are; resources-are = a .resources-are }
 
 -- a lock of a sound state changes, and its resource is settled, swept or left. One that waited is then neither granted nor blocked.
 module _ (t : Tables) (c : Core t) (r k : ℕ) (m : Lock) (rest : (s : ℕ) → s ≢ r → Settled t s)
     (w : within (length (t .locks)) k ≡ true) (near-old : Near r (lock t k)) (near-new : Near r m)
     (ok : LockOk (used t) m) (fit : holds m ≡ true → Fits t (m .resource) k (m .held))
-    (drops : waiting (lock t k) ≡ true → (granted m ≡ false) × (blocked-lock m ≡ false)) (fs : List ℕ) (frees : move r k m t .free-locks ≡ fs) where
+    (drops : waiting (lock t k) ≡ true → (granted m ≡ false) × (blocked-lock m ≡ false)) where
   pub moved : Core (move r k m t)
   moved = core-move r k m t c w near-old near-new ok fit
 
@@ -91,57 +87,57 @@ module _ (t : Tables) (c : Core t) (r k : ℕ) (m : Lock) (rest : (s : ℕ) → 
       let e : lock t′ k ≡ m = s .unmoved k (rw (lock-same r k m t w) (d .1)) ∙ lock-same r k m t w in
       rw e (d .0, nor-right (converting m) (waiting m) (d .1))
 
-  after : (t′ : Tables) → Settles r (move r k m t) t′ → After t t′ fs
+  after : (t′ : Tables) → Settles r (move r k m t) t′ → After t t′ (instead k m t)
   after t′ s =
       record {
         valid = record { core = s .core; settled = λ q. by-equal q r (λ e. rw e (s .here)) (λ n. s .others q n (settled-other t c r k m near-old q n (rest q n))) };
         in-order = λ q. moved-order r k m t t′ c w near-old near-new ok (dropped t′ s) q (s .fronts q);
-        free-is = s .free-same ∙ frees;
+        weighs = λ f y j. s .weighs f y j ∙ ap f (move-instead r k m t w j);
         locks-are = s .locks-same ∙ locks-length r k m t;
         resources-are = s .resources-same ∙ resources-length r k m t;
       }
 
-  pub then-settle : within (length (t .resources)) r ≡ true → After t (settle r (move r k m t)) fs
+  pub then-settle : within (length (t .resources)) r ≡ true → After t (settle r (move r k m t)) (instead k m t)
   then-settle v = after _ (settle-settles r (move r k m t) moved (rw (resources-length r k m t) v))
 
-  pub then-sweep : empty (resource (move r k m t) r) ≡ false → After t (sweep r (move r k m t)) fs
+  pub then-sweep : empty (resource (move r k m t) r) ≡ false → After t (sweep r (move r k m t)) (instead k m t)
   then-sweep h = after _ (sweep-settles r (move r k m t) moved h)
 
-  pub then-stop : Settled (move r k m t) r → After t (move r k m t) fs
-  then-stop h = after _ (record { core = moved; here = h; others = λ s n q. q; fronts = λ s. front-none _; unmoved = λ j q. refl; free-same = refl; locks-same = refl; resources-same = refl })
+  pub then-stop : Settled (move r k m t) r → After t (move r k m t) (instead k m t)
+  then-stop h = after _ (record { core = moved; here = h; others = λ s n q. q; fronts = λ s. front-none _; unmoved = λ j q. refl; weighs = weighs-same (move r k m t); locks-same = refl; resources-same = refl })
 
 -- after a change that no lock sees
-pub quiet-after : (t t0 t′ : Tables) (fs gs : List ℕ) → Quiet t t0 → fs ≡ gs → After t0 t′ fs → After t t′ gs
-quiet-after t t0 t′ fs gs q e a =
+pub quiet-after : (t t0 t′ : Tables) (k : ℕ) (m : Lock) → Quiet t t0 → After t0 t′ (instead k m t0) → After t t′ (instead k m t)
+quiet-after t t0 t′ k m q a =
     record {
       valid = a .valid;
       in-order = λ s. order-before t t0 t′ s (q .waits-are s) (a .in-order s);
-      free-is = a .free-is ∙ e;
+      weighs = λ f s j. a .weighs f s j ∙ rw (q .lock-is j);
       locks-are = a .locks-are ∙ q .locks-are;
       resources-are = a .resources-are ∙ q .resources-are;
     }
 
 -- a lock is freed
 module _ (t : Tables) (c : Core t) (r k : ℕ) (e : lock t k .resource ≡ r) (rest : (s : ℕ) → s ≢ r → Settled t s)
-    (stands : eqb (lock t k .state) 0 ≡ false) (w : within (length (t .locks)) k ≡ true) where
+    (w : within (length (t .locks)) k ≡ true) where
   is-move : free-lock k t ≡ move r k no-lock t
   unfolding free-lock
   is-move = rw e
 
-  pub freed-settle : within (length (t .resources)) r ≡ true → After t (settle r (free-lock k t)) (k ∷ t .free-locks)
+  pub freed-settle : within (length (t .resources)) r ≡ true → After t (settle r (free-lock k t)) (instead k no-lock t)
   freed-settle v =
       rw is-move
-      (then-settle t c r k no-lock rest w (λ z. e) (λ z. absurd (z refl)) (as-free refl) (λ z. clash false z refl) (λ z. (refl, refl)) _ (free-gained r k no-lock t stands refl) v)
+      (then-settle t c r k no-lock rest w (λ z. e) (λ z. absurd (z refl)) (as-free refl) (λ z. clash false z refl) (λ z. (refl, refl)) v)
 
-  pub freed-sweep : empty (resource (move r k no-lock t) r) ≡ false → After t (sweep r (free-lock k t)) (k ∷ t .free-locks)
+  pub freed-sweep : empty (resource (move r k no-lock t) r) ≡ false → After t (sweep r (free-lock k t)) (instead k no-lock t)
   freed-sweep v =
       rw is-move
-      (then-sweep t c r k no-lock rest w (λ z. e) (λ z. absurd (z refl)) (as-free refl) (λ z. clash false z refl) (λ z. (refl, refl)) _ (free-gained r k no-lock t stands refl) v)
+      (then-sweep t c r k no-lock rest w (λ z. e) (λ z. absurd (z refl)) (as-free refl) (λ z. clash false z refl) (λ z. (refl, refl)) v)
 
-  pub freed-stop : Settled (move r k no-lock t) r → After t (free-lock k t) (k ∷ t .free-locks)
+  pub freed-stop : Settled (move r k no-lock t) r → After t (free-lock k t) (instead k no-lock t)
   freed-stop v =
       rw is-move
-      (then-stop t c r k no-lock rest w (λ z. e) (λ z. absurd (z refl)) (as-free refl) (λ z. clash false z refl) (λ z. (refl, refl)) _ (free-gained r k no-lock t stands refl) v)
+      (then-stop t c r k no-lock rest w (λ z. e) (λ z. absurd (z refl)) (as-free refl) (λ z. clash false z refl) (λ z. (refl, refl)) v)
 
 -- somebody stands on the resource, or nobody holds a mode there
 pub full-of : (x : Resource) (j : ℕ) → 1 ≤ count j (x .grant) + count j (x .convert) + count j (x .wait) → empty x ≡ false

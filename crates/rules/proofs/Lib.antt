@@ -2,6 +2,7 @@ pub mod WalkSearch
 pub mod DeadlockVictim
 pub mod ListOrder
 pub mod WaitChains
+pub mod LockWeights
 pub mod SweepLaws
 pub mod ResourceChanges
 pub mod ChangesKeepSound
@@ -11,6 +12,8 @@ pub mod RequestKeepsSound
 pub mod PurgeKeepsSound
 pub mod ChainLengths
 pub mod AcceptedCalls
+pub mod CallSums
+pub mod OpenLocks
 pub mod EveryCall
 pub mod SmallNumbers
 pub mod QueueProperties
@@ -19,5 +22,7 @@ pub mod MarkLaws
 pub mod MarksTheorem
 pub mod RequestAnswers
 pub mod NoOvertaking
+pub mod PollAndPurge
+pub mod HeardTheorem
 pub mod BenchTable
 pub mod TheoremExamples

@@ -25,8 +25,8 @@ use Rattle.rules.specs.Deadlock.{in-the-way, obstacles, victim}
 use Rattle.rules.specs.Calls.{Step, refused, accepted-step, refused-or, strong, leave-value, larger, tell-obstacles, new-resource, resource-for, with-resource, holding, queued, granted-at-once, request-on, request-change, request-refusal, request, held-at, asking, in-place, convert-change, convert-refusal, convert, release-change, release-refusal, release, restored, cancel-change, cancel-refusal, cancel, locks-of, purge-locks, purge-change, purge-refusal, purge, deny, deny-victim, break, notice-read, take-notice, poll-notice, poll-change, poll-refusal, poll}
 use Rattle.rules.specs.Entries.{lent-of, Call, kind, same-kind, a-request, a-convert, a-poll, call-entry, step-of, to-request, to-convert, to-release, to-cancel, to-purge, to-break, to-poll}
 use Rattle.rules.specs.Accepted.{Requestable, Releasable, Convertible, Cancellable, Purgeable}
-use Rattle.rules.specs.Theorem.{IsLock, IsResource, keeps-out}
-use Rattle.rules.specs.Marks.{begins-to-wait, asking-lock, asked-mode, answers-lock, MarksRight, MarksAfter, MarksTheorem}
+use Rattle.rules.specs.Theorem.{begins-to-wait, IsLock, IsResource, keeps-out}
+use Rattle.rules.specs.Marks.{asking-lock, asked-mode, answers-lock, MarksRight, MarksAfter, MarksTheorem}
 use Rattle.rules.proofs.ListOrder.{keep-keep}
 use Rattle.rules.proofs.NoticesKeepSound.{shift-same, holder-stands, marks-resource, obstacle-in}
 use Rattle.rules.proofs.CallsKeepSound.{in-place-after, queue-after, release-after, cancel-after, break-after}

@@ -7,13 +7,13 @@ use Prim.Native.Nat.{ℕ, _≤_}
 use native.Mathlib.Omega.{arith}
 use lib.ListN.{length}
 use lib.Dec.{eqb, leb}
-use borrow.Author.Tests.{eqb-true, not-true}
+use borrow.Author.Tests.{eqb-true, ne-eqb, not-true}
 use Rattle.tables.specs.declared.Lock.{Lock}
 use Rattle.tables.specs.Lists.{within, count}
 use Rattle.tables.specs.State.{Resource, Tables, with-notice, lock, resource, granted, converting, waiting, holds, shift, relist, move, last-mode}
 use Rattle.tables.specs.Grants.{holders, convert-grantable}
 use Rattle.tables.specs.Validity.{used, Place, Granted, Converting, LockOk, as-granted, as-converting, Core, line, idle, Valid}
-use Rattle.tables.proofs.Cases.{by-cases, by-equal, clash}
+use Rattle.tables.proofs.Cases.{by-cases, by-equal, clash, eqb-same}
 use Rattle.tables.proofs.Counts.{count-same, count-step, count-keep}
 use Rattle.tables.proofs.StateCases.{ok-numbered}
 use Rattle.tables.proofs.Valid.{ok-at, holder-place, modes-low, lock-same, lock-other, resource-same, resource-other, out-of-range, used-move, Fits, core-move}
@@ -21,8 +21,8 @@ use Rattle.tables.proofs.ChainMembers.{state-within, in-holder}
 use Rattle.rules.specs.Deadlock.{in-the-way, obstacles}
 use Rattle.rules.specs.Calls.{larger, mark-lock, mark-locks, tell-obstacles}
 use Rattle.rules.proofs.WaitChains.{InOrder, order-before, order-after}
-use Rattle.rules.proofs.SweepLaws.{free-kept}
-use Rattle.rules.proofs.ChangesKeepSound.{After, unchanged-after, then-stop, fits-less, grows-move}
+use Rattle.rules.proofs.LockWeights.{weighs-then, instead}
+use Rattle.rules.proofs.ChangesKeepSound.{After, unchanged-after, after-same, then-stop, fits-less, grows-move}
 
 -- it stays on the chains of its resource
 pub shift-same : (b : Bool) (k : ℕ) (xs : List ℕ) → shift b b k xs ≡ xs
@@ -105,9 +105,9 @@ module _ (k e a : ℕ) (t : Tables) (val : Valid t) (h : holds (lock t k) ≡ tr
       let f : convert-grantable t r x ≡ false = not-true _ (rw q at (val .settled r .still)) in
       rw (same-line ∙ q) (rw (same-asked x, fits-less t (move r k m t) (val .core) core1 r x (lock t x .asked) (grows-move t r k m w (λ o n. (o, refl, refl))) f))
 
-  pub noted-after : After t (move r k m t) (t .free-locks)
+  pub noted-after : After t (move r k m t) (instead k m t)
   noted-after =
-      then-stop t (val .core) r k m (λ q i. val .settled q) w (λ z. refl) (λ z. refl) ok fit (λ z. clash (waiting (lock t k)) z (holder-waits-not (lock t k) h)) _ (free-kept r k m t (holder-stands t k h .1) (holder-stands t k h .1))
+      then-stop t (val .core) r k m (λ q i. val .settled q) w (λ z. refl) (λ z. refl) ok fit (λ z. clash (waiting (lock t k)) z (holder-waits-not (lock t k) h))
       (record { still = still (line t r) refl; peopled = rw (used-move r k m t r, noted-resource k e a t) (val .settled r .peopled) })
 
 -- MARKS. A larger of two modes is one
@@ -128,9 +128,14 @@ unfolding mark-lock
 mark-core m j t le c h =
     core-move (lock t j .resource) j _ t c (holder-stands t j h .0) (λ z. refl) (λ z. refl) (marked-ok m j t le c h) (λ z i n q e. c .agree i j n q h e)
 
-mark-after : (m j : ℕ) (t : Tables) → m ≤ last-mode → Valid t → holds (lock t j) ≡ true → After t (mark-lock m j t) (t .free-locks)
+mark-after : (m j : ℕ) (t : Tables) → m ≤ last-mode → Valid t → holds (lock t j) ≡ true → After t (mark-lock m j t) (lock t)
 unfolding mark-lock
-mark-after m j t le val h = noted-after j (lock t j .completion) (larger m (lock t j .mark)) t val h (marked-ok m j t le (val .core) h)
+mark-after m j t le val h =
+    let l = lock t j in
+    let a = larger m (l .mark) in
+    after-same (instead j (with-notice (l .completion) a l) t) (lock t)
+    (λ f s i. by-equal i j (λ e. rw (e, eqb-same j) (s .marks a l)) (λ n. rw (ne-eqb i j n)))
+    (noted-after j (l .completion) a t val h (marked-ok m j t le (val .core) h))
 
 -- of every lock all but completion and mark stay
 pub mark-field : {A : Type 0} (f : Lock → A) → ((e a : ℕ) (l : Lock) → f (with-notice e a l) ≡ f l) → (m j : ℕ) (t : Tables) → holds (lock t j) ≡ true →
@@ -170,17 +175,17 @@ marks-state m [] t h i = refl
 marks-state m (j ∷ js) t h i =
     marks-state m js (mark-lock m j t) (rest-hold m j js t h) i ∙ mark-field (λ (l : Lock). l .state) (λ e a l. refl) m j t (first-holds j js t h) i
 
-after-trans : (t t1 t2 : Tables) (fs : List ℕ) → After t t1 fs → After t1 t2 (t1 .free-locks) → ((s : ℕ) → InOrder t t2 s) → After t t2 fs
-after-trans t t1 t2 fs a b o =
-    record { valid = b .valid; in-order = o; free-is = b .free-is ∙ a .free-is; locks-are = b .locks-are ∙ a .locks-are; resources-are = b .resources-are ∙ a .resources-are }
+after-trans : (t t1 t2 : Tables) (g : ℕ → Lock) → After t t1 g → After t1 t2 (lock t1) → ((s : ℕ) → InOrder t t2 s) → After t t2 g
+after-trans t t1 t2 g a b o =
+    record { valid = b .valid; in-order = o; weighs = weighs-then g t1 t2 (a .weighs) (b .weighs); locks-are = b .locks-are ∙ a .locks-are; resources-are = b .resources-are ∙ a .resources-are }
 
-marks-after : (m : ℕ) → m ≤ last-mode → (js : List ℕ) (t : Tables) → Valid t → AllHold js t → After t (mark-locks m js t) (t .free-locks)
+marks-after : (m : ℕ) → m ≤ last-mode → (js : List ℕ) (t : Tables) → Valid t → AllHold js t → After t (mark-locks m js t) (lock t)
 unfolding mark-locks
-marks-after m le [] t val h = unchanged-after t _ val refl
+marks-after m le [] t val h = unchanged-after t val
 marks-after m le (j ∷ js) t val h =
     let a = mark-after m j t le val (first-holds j js t h) in
     let b = marks-after m le js (mark-lock m j t) (a .valid) (rest-hold m j js t h) in
-    after-trans t (mark-lock m j t) _ (t .free-locks) a b (λ s. order-before t (mark-lock m j t) _ s (ap (λ (x : Resource). x .wait) (mark-resource m j t s)) (b .in-order s))
+    after-trans t (mark-lock m j t) _ (lock t) a b (λ s. order-before t (mark-lock m j t) _ s (ap (λ (x : Resource). x .wait) (mark-resource m j t s)) (b .in-order s))
 
 -- who is in a lock's way holds a mode on its resource
 pub obstacle-in : (t : Tables) (k j : ℕ) → 1 ≤ count j (obstacles t k) → (1 ≤ count j (holders t (lock t k .resource))) × (in-the-way t k j ≡ true)
@@ -191,12 +196,12 @@ obstacle-in t k j h =
     (λ b. (omega (arith, h, rw b at e), b))
     (λ b. absurd (omega (arith, h, rw b at e)))
 
-pub told-after : (k : ℕ) (t t1 : Tables) (fs : List ℕ) → After t t1 fs → After t (tell-obstacles k t1) fs
+pub told-after : (k : ℕ) (t t1 : Tables) (g : ℕ → Lock) → After t t1 g → After t (tell-obstacles k t1) g
 unfolding tell-obstacles
-told-after k t t1 fs a =
+told-after k t t1 g a =
     let c = a .valid .core in
     let m = lock t1 k .asked in
     let h : AllHold (obstacles t1 k) t1 = λ j i. in-holder t1 (c .linked) (lock t1 k .resource) j (obstacle-in t1 k j i .0) .0 in
-    after-trans t t1 _ fs a
+    after-trans t t1 _ g a
     (marks-after m (modes-low (used t1) (lock t1 k) (lock t1 k .state) (ok-numbered (c .lock-ok k)) .1) (obstacles t1 k) t1 (a .valid) h)
     (λ s. order-after t t1 _ s (ap (λ (x : Resource). x .wait) (marks-resource m (obstacles t1 k) t1 s)) (marks-state m (obstacles t1 k) t1 h) (a .in-order s))

@@ -1,7 +1,7 @@
--- A purge keeps a state sound, and the order of those that wait.
+-- A purge keeps a state sound, and the order of those that wait; and which locks it frees.
 use mathlib.Core.Path.{_≡_, refl, sym, ap, _∙_}
 use mathlib.Core.Logic.{_≢_}
-use mathlib.Core.Bool.{Bool, true, false, not}
+use mathlib.Core.Bool.{Bool, true, false, not, cond}
 use mathlib.Core.List.{List, [], _∷_, _++_}
 use Prim.Native.Nat.{ℕ, zero, suc, _+_, _≤_}
 use native.Mathlib.Omega.{arith}
@@ -13,7 +13,7 @@ use Rattle.tables.specs.Lists.{within, count, remove, all, keep, from}
 use Rattle.tables.specs.State.{Tables, no-lock, lock, resource, blocked-lock, belongs, move, grants, converts, waits, queue}
 use Rattle.tables.specs.Grants.{holders}
 use Rattle.tables.proofs.Cases.{by-cases, by-equal, clash, eqb-same}
-use Rattle.tables.proofs.Counts.{count-same, count-other, count-append, count-nil, count-step, head-once, shift-off, all-intro, any-intro, kept-in, kept-once, kept-out}
+use Rattle.tables.proofs.Counts.{count-same, count-other, count-append, count-nil, count-step, head-once, shift-off, all-intro, any-intro, count-kept, kept-in, kept-once, kept-out}
 use Rattle.tables.specs.Validity.{used, as-free, Core, line, idle, Settled, Valid}
 use Rattle.tables.proofs.StateCases.{StateOk, ok-numbered}
 use Rattle.tables.proofs.Valid.{ok-at, absent, absent-lock, lock-same, lock-other, locks-length, resources-length, chain-move, core-move}
@@ -22,18 +22,9 @@ use Rattle.rules.specs.Queues.{free-lock, settle}
 use Rattle.rules.specs.Calls.{stores, strong, leave-value, locks-of, purge-lock, purge-locks, stands-on, settle-all, purge-change}
 use Rattle.rules.proofs.ListOrder.{keep-all, remove-keep, keep-keep, FromFront, front-none, front-then}
 use Rattle.rules.proofs.WaitChains.{leaving}
+use Rattle.rules.proofs.LockWeights.{Weighs, weighs-same, weighs-then}
 use Rattle.rules.proofs.ResourceChanges.{leave-quiet}
-use Rattle.rules.proofs.ChangesKeepSound.{settle-settles, After, free-gained, nothing-at-zero}
-
--- numbers pushed on a chain one by one
-unfoldable pub pushed : List ℕ → List ℕ → List ℕ
-pushed [] fs = fs
-pushed (k ∷ ks) fs = pushed ks (k ∷ fs)
-
-pub length-pushed : (ks fs : List ℕ) → length (pushed ks fs) ≡ length ks + length fs
-unfolding pushed
-length-pushed [] fs = omega arith
-length-pushed (k ∷ ks) fs = omega (arith, length-pushed ks (k ∷ fs))
+use Rattle.rules.proofs.ChangesKeepSound.{settle-settles, After, nothing-at-zero}
 
 pub strong-used : (u : ℕ → Bool) (l : Lock) (s : ℕ) → StateOk u l s → strong (l .held) ≡ true → u (l .resource) ≡ true
 unfolding strong
@@ -55,7 +46,6 @@ pub record Purges (t t′ : Tables) (k : ℕ) : Type 0 where
   pub lock-is : (j : ℕ) → j ≢ k → lock t′ j ≡ lock t j
   pub lock-gone : lock t′ k ≡ no-lock
   pub waits-left : (s : ℕ) → resource t′ s .wait ≡ remove k (resource t s .wait)
-  pub free-is : t′ .free-locks ≡ k ∷ t .free-locks
   pub locks-are : length (t′ .locks) ≡ length (t .locks)
   pub resources-are : length (t′ .resources) ≡ length (t .resources)
 
@@ -81,7 +71,6 @@ purged k t c s w =
           chain-move r k no-lock t0 (q .core .lock-ok k) (as-free refl) (λ z. e) (λ z. absurd (z refl)) (queue s waits)
           ∙ shift-off (belongs (queue s waits) (lock t0 k)) k (resource t0 s .wait) (rw w0 at (q .core .linked (queue s waits) k))
           ∙ ap (remove k) (q .waits-are s);
-      free-is = free-gained r k no-lock t0 (rw (q .lock-is k) s) refl ∙ ap (λ (l : List ℕ). k ∷ l) (q .free-is);
       locks-are = locks-length r k no-lock t0 ∙ q .locks-are;
       resources-are = resources-length r k no-lock t0 ∙ q .resources-are;
     })
@@ -105,7 +94,6 @@ pub record Purged (P : ℕ → Bool) (ks : List ℕ) (t t′ : Tables) : Type 0 
   pub gone : (j : ℕ) → 1 ≤ count j ks → lock t′ j ≡ no-lock
   pub unpurged : (j : ℕ) → count j ks ≡ 0 → lock t′ j ≡ lock t j
   pub waits-left : (s : ℕ) → resource t′ s .wait ≡ keep (spared ks) (resource t s .wait)
-  pub free-is : t′ .free-locks ≡ pushed ks (t .free-locks)
   pub locks-are : length (t′ .locks) ≡ length (t .locks)
   pub resources-are : length (t′ .resources) ≡ length (t .resources)
 
@@ -117,7 +105,7 @@ abbrev Listed : (ℕ → Bool) → List ℕ → Tables → Type 0
 Listed P ks t = (j : ℕ) → 1 ≤ count j ks → (eqb (lock t j .state) 0 ≡ false) × (lock t j .resource ≢ 0 → P (lock t j .resource) ≡ true)
 
 all-purged : (P : ℕ → Bool) (ks : List ℕ) (t : Tables) → Core t → ((j : ℕ) → count j ks ≤ 1) → Listed P ks t → Purged P ks t (purge-locks ks t)
-unfolding purge-locks pushed
+unfolding purge-locks
 all-purged P [] t c once listed =
     record {
       core = c;
@@ -125,7 +113,6 @@ all-purged P [] t c once listed =
       gone = λ j m. absurd (omega (arith, rw (count-nil j) at m));
       unpurged = λ j z. refl;
       waits-left = λ s. unfold spared all in sym (keep-all (resource t s .wait));
-      free-is = refl;
       locks-are = refl;
       resources-are = refl;
     }
@@ -145,7 +132,6 @@ all-purged P (k ∷ ks) t c once listed =
           let n : j ≢ k = λ e. omega (arith, rw (e, count-same) at z) in
           ih .unpurged j (sym (count-other j k ks n) ∙ z) ∙ p .lock-is j n;
       waits-left = λ s. ih .waits-left s ∙ ap (keep (spared ks)) (p .waits-left s ∙ remove-keep k (resource t s .wait)) ∙ spare-both k ks (resource t s .wait);
-      free-is = ih .free-is ∙ ap (pushed ks) (p .free-is);
       locks-are = ih .locks-are ∙ p .locks-are;
       resources-are = ih .resources-are ∙ p .resources-are;
     }
@@ -158,7 +144,7 @@ record SettledAll (t t′ : Tables) : Type 0 where
   valid : Valid t′
   fronts : (s : ℕ) → FromFront (resource t s .wait) (resource t′ s .wait)
   unmoved : (j : ℕ) → blocked-lock (lock t j) ≡ false → lock t′ j ≡ lock t j
-  free-is : t′ .free-locks ≡ t .free-locks
+  weighs : Weighs (lock t) t′
   locks-are : length (t′ .locks) ≡ length (t .locks)
   resources-are : length (t′ .resources) ≡ length (t .resources)
 
@@ -170,7 +156,7 @@ settled-all [] t c w h =
       valid = record { core = c; settled = λ s. h s (count-nil s) };
       fronts = λ s. front-none _;
       unmoved = λ j z. refl;
-      free-is = refl;
+      weighs = weighs-same t;
       locks-are = refl;
       resources-are = refl;
     }
@@ -183,7 +169,7 @@ settled-all (r ∷ rs) t c w h =
       valid = a .valid;
       fronts = λ q. front-then _ _ _ (s .fronts q) (a .fronts q);
       unmoved = λ j z. a .unmoved j (rw (s .unmoved j z) z) ∙ s .unmoved j z;
-      free-is = a .free-is ∙ s .free-same;
+      weighs = weighs-then (lock t) (settle r t) _ (s .weighs) (a .weighs);
       locks-are = a .locks-are ∙ s .locks-same;
       resources-are = a .resources-are ∙ s .resources-same;
     }
@@ -211,8 +197,11 @@ stands c t co k w h n = go (lock t k .state) refl (ok-numbered (co .lock-ok k))
     go (suc (suc (suc (suc zero)))) s ok = absurd (n (ok .nowhere))
     go (suc (suc (suc (suc (suc i))))) s ok = absurd ok
 
--- PURGE
-pub purge-after : (c : ℕ) (t : Tables) → 1 ≤ c → Valid t → After t (purge-change c t .tables) (pushed (locks-of c t) (t .free-locks))
+-- PURGE. The client's locks are free
+abbrev pub without : ℕ → Tables → ℕ → Lock
+without c t j = cond (eqb (lock t j .client) c) no-lock (lock t j)
+
+pub purge-after : (c : ℕ) (t : Tables) → 1 ≤ c → Valid t → After t (purge-change c t .tables) (without c t)
 unfolding purge-change locks-of
 purge-after c t low val =
     let own : ℕ → Bool = λ k. eqb (lock t k .client) c in
@@ -228,11 +217,21 @@ purge-after c t low val =
       valid = sa .valid;
       in-order = λ s. leaving (spared (locks-of c t)) t t1 _ s (pl .waits-left s) (sa .fronts s)
           (λ k m h. let z = pl .gone k (spared-not (locks-of c t) k h) in rw (sa .unmoved k (rw z), z) (refl, refl));
-      free-is = sa .free-is ∙ pl .free-is;
+      weighs = λ f y j. sa .weighs f y j ∙ ap f (freed t1 pl j);
       locks-are = sa .locks-are ∙ pl .locks-are;
       resources-are = sa .resources-are ∙ pl .resources-are;
     }
   where
+    freed : (t1 : Tables) → Purged (stands-on c t) (locks-of c t) t t1 → (j : ℕ) → lock t1 j ≡ without c t j
+    freed t1 pl j = unfold locks-of in
+        let n = length (t .locks) in
+        let e = count-kept (λ k. eqb (lock t k .client) c) n j in
+        by-cases (eqb (lock t j .client) c)
+        (λ h. rw h (by-cases (within n j)
+        (λ w. pl .gone j (rw (e, h, w) (omega arith)))
+        (λ w. absent-lock t1 j (rw (pl .locks-are) w))))
+        (λ h. rw h (pl .unpurged j (rw (e, h))))
+
     listed : (j : ℕ) → within (length (t .locks)) j ≡ true → eqb (lock t j .client) c ≡ true → (eqb (lock t j .state) 0 ≡ false) × (lock t j .resource ≢ 0 → stands-on c t (lock t j .resource) ≡ true)
     listed j w e = (
       by-cases (eqb (lock t j .state) 0)

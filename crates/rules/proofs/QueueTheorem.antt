@@ -1,15 +1,16 @@
 -- The queue theorem: lists of calls on the written form of valid states.
 use mathlib.Core.Path.{_≡_, refl, sym, ap, ap₂, _∙_}
 use mathlib.Core.Logic.{_≢_}
-use mathlib.Core.Bool.{Bool, true, false, not}
+use mathlib.Core.Bool.{Bool, true, false, _&&_, not, cond}
 use mathlib.Core.List.{List, [], _∷_}
 use Prim.Native.Nat.{ℕ, zero, suc, _+_, _≤_}
 use native.Mathlib.Omega.{arith}
 use lib.ListN.{length}
 use lib.Dec.{eqb}
 use borrow.Author.Tests.{leb-true}
-use Rattle.tables.specs.Lists.{count, from}
-use Rattle.tables.specs.State.{Tables, lock, started, most-resources, most-locks}
+use Rattle.tables.specs.declared.Lock.{Lock}
+use Rattle.tables.specs.Lists.{count, bit, from}
+use Rattle.tables.specs.State.{Tables, no-lock, lock, blocked-lock, unread, started, most-resources, most-locks}
 use Rattle.tables.specs.Layout.{read-lock, words, slots}
 use Rattle.tables.proofs.Cases.{parts}
 use Rattle.tables.proofs.Counts.{from-in, keep-cong}
@@ -18,8 +19,8 @@ use Rattle.tables.specs.Validity.{Valid}
 use Rattle.tables.proofs.Written.{valid-readable, valid-sound}
 use Rattle.rules.specs.Calls.{Said, refused, Step}
 use Rattle.rules.specs.Entries.{Lent, lent-of, outcome, written, written-back, if-sound, entry, Call, step-of, call-entry, start-accepts, start-if, start-entry}
-use Rattle.rules.specs.Theorem.{lent-after-calls, sum-of, requests-accepted, releases-accepted, requests-cancelled, locks-purged, polled-denials, in-use, Demand, QueueTheorem}
-use Rattle.rules.proofs.ChainLengths.{used-locks}
+use Rattle.rules.specs.Theorem.{lent-after-calls, sum-of, requests-accepted, releases-accepted, requests-cancelled, locks-purged, polled-denials, answers-2, polled-completions, cancels-accepted, purged-blocked, purged-unread, locks-that, client-of, HeardSum, Demand, QueueTheorem}
+use Rattle.rules.proofs.LockWeights.{weight, weight-bits, used-bit, owes, steady-owes, weight-owes}
 use Rattle.rules.proofs.EveryCall.{Kept, stepped, started-valid, started-none}
 use Rattle.rules.proofs.QueueProperties.{queues-hold}
 
@@ -61,32 +62,77 @@ sum-is : (term : Call → Said → ℕ) (c : Call) (cs : List Call) (t : Tables)
 unfolding sum-of
 sum-is term c cs t val = rw (outcome-is c t val)
 
-played : (cs : List Call) (t : Tables) → Valid t
-    → used-locks (play cs t) + (sum-of releases-accepted cs (lent-of t) + sum-of requests-cancelled cs (lent-of t) + sum-of locks-purged cs (lent-of t) + sum-of polled-denials cs (lent-of t))
-    ≡ used-locks t + sum-of requests-accepted cs (lent-of t)
+-- BOTH SUMS over the list, the second where some clients are meant: all of them, or one
+abbrev by-some : (ℕ → Bool) → (Call → Said → ℕ) → Call → Said → ℕ
+by-some who term c x = cond (who (client-of c)) (term c x) 0
+
+-- a number of four parts is some clients' part by part
+in-parts : (b : Bool) (i j k l : ℕ) → cond b (i + j + (k + l)) 0 ≡ cond b i 0 + cond b j 0 + (cond b k 0 + cond b l 0)
+in-parts true i j k l = refl
+in-parts false i j k l = refl
+
+balanced : (cs : List Call) (t : Tables) → Valid t
+    → weight used-bit (play cs t) + (sum-of releases-accepted cs (lent-of t) + sum-of requests-cancelled cs (lent-of t) + sum-of locks-purged cs (lent-of t) + sum-of polled-denials cs (lent-of t))
+    ≡ weight used-bit t + sum-of requests-accepted cs (lent-of t)
 unfolding play sum-of
-played [] t val = omega arith
-played (c ∷ cs) t val =
+balanced [] t val = omega arith
+balanced (c ∷ cs) t val =
     rw (sum-is releases-accepted c cs t val, sum-is requests-cancelled c cs t val, sum-is locks-purged c cs t val, sum-is polled-denials c cs t val, sum-is requests-accepted c cs t val)
-    (omega (arith, stepped c t val .balance, played cs (step-of c t .tables) (stepped c t val .valid)))
+    (omega (arith, stepped c t val .sums .balance, balanced cs (step-of c t .tables) (stepped c t val .valid)))
 
-in-use-is : (t : Tables) → in-use (words t) ≡ used-locks t
-unfolding in-use used-locks
-in-use-is t =
+module _ (who : ℕ → Bool) where
+  abbrev summed : (Call → Said → ℕ) → List Call → Tables → ℕ
+  summed term cs t = sum-of (by-some who term) cs (lent-of t)
+
+  heard : (cs : List Call) (t : Tables) → Valid t
+      → weight (owes who) (play cs t) + (summed polled-completions cs t + summed cancels-accepted cs t + (summed purged-blocked cs t + summed purged-unread cs t))
+      ≡ weight (owes who) t + summed answers-2 cs t
+  unfolding play sum-of
+  heard [] t val = omega arith
+  heard (c ∷ cs) t val =
+      let x = step-of c t .said in
+      rw (sum-is (by-some who polled-completions) c cs t val, sum-is (by-some who cancels-accepted) c cs t val, sum-is (by-some who purged-blocked) c cs t val, sum-is (by-some who purged-unread) c cs t val, sum-is (by-some who answers-2) c cs t val)
+      (omega (
+        arith,
+        stepped c t val .sums .heard who,
+        in-parts (who (client-of c)) (polled-completions c x) (cancels-accepted c x) (purged-blocked c x) (purged-unread c x),
+        heard cs (step-of c t .tables) (stepped c t val .valid),
+      ))
+
+-- locks counted in the words are those of the state
+pub locks-are : (p : Lock → Bool) (t : Tables) → locks-that p (words t) ≡ weight (λ l. bit (p l)) t
+unfolding locks-that
+locks-are p t =
     rw (locks-word t)
-    (ap length (keep-cong (λ k. not (eqb (read-lock (words t) k .state) 0)) (λ k. not (eqb (lock t k .state) 0)) (from 1 (length (t .locks))) same-state))
+    (ap length (keep-cong (λ k. p (read-lock (words t) k)) (λ k. p (lock t k)) (from 1 (length (t .locks))) same-lock) ∙ weight-bits p t)
   where
-    same-state : (k : ℕ) → 1 ≤ count k (from 1 (length (t .locks))) → not (eqb (read-lock (words t) k .state) 0) ≡ not (eqb (lock t k .state) 0)
-    same-state k m =
-        let w = from-in (length (t .locks)) k m in
-        rw (lock-read t k (w .0) (w .1))
+    same-lock : (k : ℕ) → 1 ≤ count k (from 1 (length (t .locks))) → p (read-lock (words t) k) ≡ p (lock t k)
+    same-lock k m = let w = from-in (length (t .locks)) k m in rw (lock-read t k (w .0) (w .1))
 
-demand : (cs : List Call) (t : Tables) → Valid t → used-locks t ≡ 0 → Demand cs (lent-of t)
+demand : (cs : List Call) (t : Tables) → Valid t → ((f : Lock → ℕ) → f no-lock ≡ 0 → weight f t ≡ 0) → Demand cs (lent-of t)
 demand cs t val none =
     record {
       queues = rw (after-is cs t val) (queues-hold (play cs t) (play-valid cs t val));
-      balance = rw (after-is cs t val, in-use-is (play cs t)) (omega (arith, played cs t val));
+      sums = rw (after-is cs t val) (record {
+        balance = omega (arith, locks-are (λ l. not (eqb (l .state) 0)) u, none used-bit refl, balanced cs t val);
+        heard-once = counted (λ c. true);
+        heard-by-each = λ i. counted (λ c. eqb c i);
+      });
     }
+  where
+    u : Tables
+    u = play cs t
+
+    counted : (who : ℕ → Bool) → HeardSum (λ term. summed who term cs t) (λ p. locks-that (λ l. who (l .client) && p l) (words u))
+    counted who =
+        omega (
+          arith,
+          locks-are (λ l. who (l .client) && blocked-lock l) u,
+          locks-are (λ l. who (l .client) && unread l) u,
+          weight-owes who u,
+          none (owes who) (steady-owes who .none),
+          heard who cs t val,
+        )
 
 -- what start accepts, and what it leaves then
 pub from-start : (P : Lent → Type 0) (r l : ℕ) → (Valid (started r l) → P (lent-of (started r l))) → (t : Lent) → start-entry t r l .said .refusal ≡ 0 → P (start-entry t r l .lent-after)

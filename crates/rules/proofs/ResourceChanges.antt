@@ -180,7 +180,7 @@ free-empty r t c w h =
       fronts = λ s. rw (field-kept r no-resource t (λ (y : Resource). y .wait) w (same .wait) s) (front-none _);
       unmoved = λ j q. lock-kept r no-resource t j;
       peopled = λ q. clash (empty (resource t r)) h q;
-      free-same = unfold move-resource in refl;
+      weighs = λ f s j. ap f (lock-kept r no-resource t j);
       locks-same = unfold move-resource in refl;
       resources-same = resources-kept r no-resource t;
     }
@@ -216,7 +216,6 @@ pub record Quiet (t t′ : Tables) : Type 0 where
   pub lock-is : (k : ℕ) → lock t′ k ≡ lock t k
   pub waits-are : (s : ℕ) → resource t′ s .wait ≡ resource t s .wait
   pub used-is : (s : ℕ) → used t′ s ≡ used t s
-  pub free-is : t′ .free-locks ≡ t .free-locks
   pub locks-are : length (t′ .locks) ≡ length (t .locks)
   pub resources-are : length (t′ .resources) ≡ length (t .resources)
 
@@ -235,7 +234,6 @@ value-quiet f v r t right u c =
       lock-is = lock-kept r x t;
       waits-are = field-kept r x t (λ (y : Resource). y .wait) w (same .wait);
       used-is = λ s. used-kept r x t w same s named;
-      free-is = refl;
       locks-are = refl;
       resources-are = resources-kept r x t;
     }
@@ -243,5 +241,5 @@ value-quiet f v r t right u c =
 pub leave-quiet : (b : Bool) (f : ℕ) (v : List ℕ) (r : ℕ) (t : Tables) → (stores f ≡ true → length v ≡ value-width) → (b ≡ true → used t r ≡ true) → Core t → Quiet t (leave-value b f v r t)
 unfolding leave-value
 leave-quiet false f v r t right u c =
-    record { core = c; settled = λ s h. h; lock-is = λ k. refl; waits-are = λ s. refl; used-is = λ s. refl; free-is = refl; locks-are = refl; resources-are = refl }
+    record { core = c; settled = λ s h. h; lock-is = λ k. refl; waits-are = λ s. refl; used-is = λ s. refl; locks-are = refl; resources-are = refl }
 leave-quiet true f v r t right u c = value-quiet f v r t right (u refl) c

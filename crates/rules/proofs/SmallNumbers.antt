@@ -9,7 +9,7 @@ use lib.Dec.{T as Holds, eqb, ltb, lit<}
 use Rattle.tables.specs.declared.Lock.{Lock}
 use Rattle.tables.specs.declared.LockEntry.{LockEntry}
 use Rattle.tables.specs.Lists.{count, first-that, first, from}
-use Rattle.tables.specs.State.{Tables, lock, resource, converting, grants, converts, waits, LockChain, free-locks, blocked, notices, queue, chain}
+use Rattle.tables.specs.State.{Tables, lock, resource, converting, blocked-lock, unread, grants, converts, waits, LockChain, free-locks, blocked, notices, queue, chain}
 use Rattle.tables.specs.Layout.{read}
 use Rattle.tables.specs.Grants.{holders}
 use Rattle.tables.specs.Sound.{sound}
@@ -22,14 +22,17 @@ use Rattle.tables.proofs.Pigeonhole.{length-from}
 use Rattle.tables.proofs.Soundness.{sound-valid}
 use Rattle.rules.specs.Queues.{find}
 use Rattle.rules.specs.Deadlock.{victim}
-use Rattle.rules.specs.Calls.{accepted, refused, Step, unless, refused-or, resource-for, with-resource, granted-at-once, request-on, request-change, request-refusal, request, in-place, convert-change, convert-refusal, convert, release-change, release-refusal, release, cancel-change, cancel-refusal, cancel, locks-of, purge-change, purge-refusal, purge, deny-victim, break, poll-notice, poll-change, poll-refusal, poll}
+use Rattle.rules.specs.Calls.{accepted-with, accepted, refused, Step, unless, refused-or, resource-for, with-resource, granted-at-once, request-on, request-change, request-refusal, request, in-place, convert-change, convert-refusal, convert, release-change, release-refusal, release, cancel-change, cancel-refusal, cancel, locks-of, how-many, purge-change, purge-refusal, purge, deny-victim, break, poll-notice, poll-change, poll-refusal, poll}
 use Rattle.rules.specs.Entries.{Lent, Call, to-request, to-convert, to-release, to-cancel, to-purge, to-break, to-poll, step-of, written-back, if-sound, entry, call-entry, start-accepts, start-if, start-entry, look-refusal, read-value, read-if, read-entry, lock-entry, listed, list-locks, list-if, list-entry}
 use Rattle.rules.specs.Images.{image-refusal, image-into, image-entry, load-refusal, load-into, load-entry}
 use Rattle.rules.specs.Numbers.{Small, reading-said, listing-said, imaged-said, NumbersSmall}
 use Rattle.rules.proofs.ChainLengths.{length-keep, chain-short}
 
+small-with : (a k x : ℕ) → a < 2 ^ 16 → k < 2 ^ 16 → x < 2 ^ 16 → Small (accepted-with a k x)
+small-with a k x p q r = record { refusal = omega arith; answer = p; number = q; extra = r; silent = λ z. absurd (z refl) }
+
 small-accepted : (a k : ℕ) → a < 2 ^ 16 → k < 2 ^ 16 → Small (accepted a k)
-small-accepted a k p q = record { refusal = omega arith; answer = p; number = q; extra = omega arith; silent = λ z. absurd (z refl) }
+small-accepted a k p q = small-with a k 0 p q (omega arith)
 
 answer-small : (a : ℕ) → a < 2 ^ 16 → Small (accepted a 0)
 answer-small a p = small-accepted a 0 p (omega arith)
@@ -102,11 +105,18 @@ module _ (t : Tables) (c : Core t) where
           (λ h. rw (h, request-on) (small-accepted 1 (first (t .free-locks)) (omega arith) free-small))
           (λ h. rw (h, request-on) (small-accepted 2 (first (t .free-locks)) (omega arith) free-small))
 
+  -- a client has at most as many locks as there are, and no more of one kind
+  own-small : (i : ℕ) → length (locks-of i t) < 2 ^ 16
+  unfolding locks-of
+  own-small i = omega (arith, length-keep (λ k. eqb (lock t k .client) i) (from 1 (length (t .locks))), length-from 1 (length (t .locks)), c .locks-high)
+
+  some-small : (p : Lock → Bool) (i : ℕ) → how-many p (locks-of i t) t < 2 ^ 16
+  unfolding how-many
+  some-small p i = omega (arith, length-keep (λ k. p (lock t k)) (locks-of i t), own-small i)
+
   purge-small : (i : ℕ) → Small (purge-change i t .said)
-  unfolding purge-change locks-of
-  purge-small i =
-      answer-small (length (locks-of i t))
-      (omega (arith, length-keep (λ k. eqb (lock t k .client) i) (from 1 (length (t .locks))), length-from 1 (length (t .locks)), c .locks-high))
+  unfolding purge-change
+  purge-small i = small-with _ _ _ (own-small i) (some-small blocked-lock i) (some-small unread i)
 
   break-small : Small (break t .said)
   unfolding break deny-victim victim
@@ -124,7 +134,7 @@ module _ (t : Tables) (c : Core t) where
       go zero e = answer-small 0 (omega arith)
       go (suc k) e =
           let n = notice-small (used t) (lock t (suc k)) (lock t (suc k) .state) (ok-numbered (c .lock-ok (suc k))) in
-          record { refusal = omega arith; answer = n .0; number = number-small notices (suc k) (first-in _ (t .notices) k e); extra = n .1; silent = λ z. absurd (z refl) }
+          small-with _ _ _ (n .0) (number-small notices (suc k) (first-in _ (t .notices) k e)) (n .1)
 
   step-small : (call : Call) → Small (step-of call t .said)
   unfolding request convert release cancel purge poll request-refusal convert-refusal release-refusal cancel-refusal purge-refusal poll-refusal release-change

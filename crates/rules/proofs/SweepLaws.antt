@@ -1,4 +1,4 @@
--- Granting and sweeping keep a state sound, leave other resources as they were, and take from the front of a wait chain.
+-- Granting and sweeping keep a state sound, leave other resources as they were, take from the front of a wait chain, and leave what the locks weigh.
 use mathlib.Core.Path.{_≡_, refl, sym, ap, _∙_}
 use mathlib.Core.Logic.{_≢_}
 use mathlib.Core.Bool.{true, false, and-true}
@@ -6,18 +6,18 @@ use mathlib.Core.List.{List, [], _∷_, _++_}
 use Prim.Native.Nat.{ℕ, _+_, _≤_}
 use native.Mathlib.Omega.{arith}
 use lib.ListN.{length, drop}
-use lib.Dec.{eqb}
 use Rattle.tables.specs.declared.Lock.{Lock}
-use Rattle.tables.specs.Lists.{count, remove, null}
-use Rattle.tables.specs.State.{Tables, lock, resource, converting, waiting, blocked-lock, shift, shift-front, relist, move, converts, waits, queue}
+use Rattle.tables.specs.Lists.{within, count, remove, null}
+use Rattle.tables.specs.State.{Tables, lock, resource, converting, waiting, blocked-lock, shift, relist, move, converts, waits, queue}
 use Rattle.tables.specs.Grants.{convert-grantable, wait-grantable, empty}
 use Rattle.tables.proofs.Cases.{by-cases, by-equal, clash, eqb-same}
 use Rattle.tables.proofs.Counts.{count-append, remove-absent, remove-head, remove-append, shift-off, head-in, head-once}
 use Rattle.tables.specs.Validity.{Core, line, idle, Settled, Near, as-granted}
-use Rattle.tables.proofs.Valid.{used-within, lock-other, resource-same, resource-other, locks-length, resources-length, core-move}
+use Rattle.tables.proofs.Valid.{used-within, lock-same, lock-other, resource-same, resource-other, locks-length, resources-length, core-move}
 use Rattle.tables.proofs.ChainMembers.{fits-true, blocked-place, settled-other, line-once, line-blocked, not-granted, wait-behind, wait-head}
 use Rattle.rules.specs.Queues.{granted-lock, grant-lock, grant-while, grant-converts, grant-waits, sweep}
 use Rattle.rules.proofs.ListOrder.{FromFront, front-none, front-then}
+use Rattle.rules.proofs.LockWeights.{Steady, Weighs, weighs-same, blocked-silent}
 
 module _ (t : Tables) (c : Core t) where
   pub grant-core : (r k : ℕ) → 1 ≤ count k (line t r) → convert-grantable t r k ≡ true → Core (grant-lock r k t)
@@ -78,7 +78,7 @@ module _ (t : Tables) (c : Core t) where
         (λ q. rw q (grant-front e))
         (λ n. rw (resource-other r k (granted-lock (lock t k)) t s n) (front-none _))
 
--- what sweeping does. Of every wait chain some are taken from the front, and locks that are not blocked stay as they are.
+-- what sweeping does. Of every wait chain some are taken from the front, locks that are not blocked stay as they are, and all weigh what they weighed.
 pub record Swept (r : ℕ) (t t′ : Tables) : Type 0 where
   pub core : Core t′
   pub still : idle t′ r (line t′ r) ≡ true
@@ -86,15 +86,15 @@ pub record Swept (r : ℕ) (t t′ : Tables) : Type 0 where
   pub fronts : (s : ℕ) → FromFront (resource t s .wait) (resource t′ s .wait)
   pub unmoved : (j : ℕ) → blocked-lock (lock t j) ≡ false → lock t′ j ≡ lock t j
   pub peopled : empty (resource t r) ≡ false → empty (resource t′ r) ≡ false
-  pub free-same : t′ .free-locks ≡ t .free-locks
+  pub weighs : Weighs (lock t) t′
   pub locks-same : length (t′ .locks) ≡ length (t .locks)
   pub resources-same : length (t′ .resources) ≡ length (t .resources)
 
 -- a step before a sweep that leaves the other resources alone
 pub step-swept : (r k : ℕ) (m : Lock) (t t′ : Tables) → Core t → Near r (lock t k) → (empty (resource t r) ≡ false → empty (resource (move r k m t) r) ≡ false) →
-    move r k m t .free-locks ≡ t .free-locks → ((s : ℕ) → FromFront (resource t s .wait) (resource (move r k m t) s .wait)) → blocked-lock (lock t k) ≡ true →
-    Swept r (move r k m t) t′ → Swept r t t′
-step-swept r k m t t′ c near full same front b s =
+    ((f : Lock → ℕ) → Steady f → f m ≡ f (lock t k)) → ((s : ℕ) → FromFront (resource t s .wait) (resource (move r k m t) s .wait)) → blocked-lock (lock t k) ≡ true →
+    within (length (t .locks)) k ≡ true → Swept r (move r k m t) t′ → Swept r t t′
+step-swept r k m t t′ c near full same front b w s =
     record {
       core = s .core;
       still = s .still;
@@ -104,14 +104,10 @@ step-swept r k m t t′ c near full same front b s =
           let o = lock-other r k m t j (λ e. clash (blocked-lock (lock t k)) b (rw e at h)) in
           s .unmoved j (rw o h) ∙ o;
       peopled = λ h. s .peopled (full h);
-      free-same = s .free-same ∙ same;
+      weighs = λ f y j. s .weighs f y j ∙ by-equal j k (λ e. rw (e, lock-same r k m t w) (same f y)) (λ n. ap f (lock-other r k m t j n));
       locks-same = s .locks-same ∙ locks-length r k m t;
       resources-same = s .resources-same ∙ resources-length r k m t;
     }
-
-pub free-kept : (r k : ℕ) (m : Lock) (t : Tables) → eqb (lock t k .state) 0 ≡ false → eqb (m .state) 0 ≡ false → move r k m t .free-locks ≡ t .free-locks
-unfolding move shift-front
-free-kept r k m t p q = rw (p, q)
 
 pub full-grant : (xs : List ℕ) (k : ℕ) → null (xs ++ (k ∷ [])) ≡ false
 full-grant [] k = refl
@@ -134,7 +130,7 @@ still-swept r t c h =
       fronts = λ s. front-none _;
       unmoved = λ j q. refl;
       peopled = λ q. q;
-      free-same = refl;
+      weighs = weighs-same t;
       locks-same = refl;
       resources-same = refl;
     }
@@ -147,8 +143,9 @@ next-swept r k ks t c e rest =
     let l : Lock = granted-lock (lock t k) in
     by-cases (convert-grantable t r k)
     (λ g. rw (g, grant-while)
-    (step-swept r k l t _ c (λ z. blocked-place t c r k m .1) (λ z. grant-full t c r k m) (free-kept r k l t (not-granted t c r k m .1) (unfold granted-lock in refl))
-    (grant-fronts t c r k ks e) (line-blocked t c r k m) (rest g)))
+    (step-swept r k l t _ c (λ z. blocked-place t c r k m .1) (λ z. grant-full t c r k m)
+    (λ f y. y .grants (lock t k) (line-blocked t c r k m) (blocked-silent t c k (line-blocked t c r k m)))
+    (grant-fronts t c r k ks e) (line-blocked t c r k m) (blocked-place t c r k m .2) (rest g)))
     (λ g. rw (g, grant-while) (still-swept r t c (rw e (unfold idle in rw g))))
 
 pub swept : (r : ℕ) (qs : List ℕ) (t : Tables) → Core t → line t r ≡ qs → Swept r t (sweep-line r qs t)

@@ -9,7 +9,7 @@ use lib.Dec.{eqb}
 use Rattle.modes.specs.Modes.{NL, CR, CW, PR, PW, EX}
 use Rattle.tables.specs.Lists.{same}
 use Rattle.tables.specs.State.{no-value, value-width}
-use Rattle.rules.specs.Calls.{Said, accepted, notified, refused}
+use Rattle.rules.specs.Calls.{Said, accepted, accepted-with, refused}
 use Rattle.rules.specs.Entries.{Lent, Call, to-request, to-convert, to-release, to-cancel, to-purge, to-break, to-poll, call-entry, start-entry, Reading, read-entry}
 
 -- a line: a call and what it says; or a read and the value and validity that it gives
@@ -75,10 +75,14 @@ hears-granted c k = says (to-poll c) 1 k
 
 -- .. or that k is in the way of the mode m, without a completion or with one
 abbrev pub hears-both : ℕ → ℕ → ℕ → ℕ → BenchLine
-hears-both c e k m = calls (to-poll c) (notified e k m)
+hears-both c e k m = calls (to-poll c) (accepted-with e k m)
 
 abbrev pub hears-mark : ℕ → ℕ → ℕ → BenchLine
 hears-mark c k m = hears-both c 0 k m
+
+-- the client c is purged: how many locks, how many of them blocked, how many with a completion unread
+abbrev pub purges : ℕ → ℕ → ℕ → ℕ → BenchLine
+purges c n b u = calls (to-purge c) (accepted-with n b u)
 
 -- M: PR, PR; lock 1 to CW answers 2
 abbrev pub shared-to-concurrent : List BenchLine
@@ -144,11 +148,20 @@ bench =
 abbrev pub requests-c : ℕ → ℕ → Call
 requests-c c m = to-request c m 0 (67 ∷ [])
 
+abbrev pub requests-d : ℕ → ℕ → Call
+requests-d c m = to-request c m 0 (68 ∷ [])
+
 -- a cancel sweeps: the request behind the cancelled one is granted; lock 1's mark has outlasted its conversion and the request that it kept waiting
 abbrev pub cancel-sweeps : List BenchLine
 cancel-sweeps =
     says (requests-a 1 PR) 1 1 ∷ says (requests-a 2 EX) 2 2 ∷ says (requests-a 3 CW) 2 3 ∷ says (converts-to 1 1 CW) 1 0 ∷ hears-nothing 3
     ∷ says (to-cancel 2 2) 2 0 ∷ hears-granted 3 3 ∷ hears-mark 1 1 EX ∷ []
+
+-- a conversion that is taken back leaves no completion: its lock may be released
+abbrev pub cancel-is-silent : List BenchLine
+cancel-is-silent =
+    says (requests-a 1 PR) 1 1 ∷ says (requests-a 2 PR) 1 2 ∷ says (converts-to 1 1 EX) 2 0 ∷ says (to-cancel 1 1) 1 0 ∷ hears-nothing 1 ∷ says (gives-up 1 1) 0 0
+    ∷ []
 
 -- every release sweeps, the second too, while the first one's notice is unread; a mark stops none
 abbrev pub releases-sweep : List BenchLine
@@ -165,7 +178,14 @@ behind-the-cycle =
 
 -- a purge counts locks, and not the resources where they stood
 abbrev pub purge-counts-locks : List BenchLine
-purge-counts-locks = says (requests-a 1 NL) 1 1 ∷ says (requests-a 1 NL) 1 2 ∷ says (to-purge 1) 2 0 ∷ says (to-purge 1) 0 0 ∷ []
+purge-counts-locks = says (requests-a 1 NL) 1 1 ∷ says (requests-a 1 NL) 1 2 ∷ purges 1 2 0 0 ∷ purges 1 0 0 0 ∷ []
+
+-- of client 2's six locks three are blocked, 2 converting, 4 and 8 waiting; two have a completion unread, 6 granted and 7 denied; 5 has a mark alone
+abbrev pub purge-counts-all : List BenchLine
+purge-counts-all =
+    says (requests-a 1 PR) 1 1 ∷ says (requests-a 2 NL) 1 2 ∷ says (converts-to 2 2 EX) 2 0 ∷ says (requests-b 1 EX) 1 3 ∷ says (requests-b 2 EX) 2 4
+    ∷ says (requests-c 1 EX) 1 5 ∷ says (requests-c 2 CR) 2 6 ∷ says (gives-up 1 5) 0 0 ∷ says (requests-d 2 PR) 1 5 ∷ says (requests-d 2 EX) 2 7
+    ∷ says to-break 7 7 ∷ says (requests-b 2 EX) 2 8 ∷ purges 2 6 3 2 ∷ purges 2 0 0 0 ∷ refuses (to-purge 0) 3 ∷ []
 
 -- flags 1 and 2 act from PW and EX to a smaller mode, and are ignored on the way up; storing makes the value valid
 abbrev pub sevens : List ℕ
@@ -192,7 +212,7 @@ reader-leaves-no-value =
 abbrev pub purge-spoils : List BenchLine
 purge-spoils =
     says (requests-a 1 PW) 1 1 ∷ says (requests-a 2 NL) 1 2 ∷ says (requests-b 1 PR) 1 3 ∷ says (requests-b 2 NL) 1 4
-    ∷ says (to-purge 1) 2 0 ∷ reads 2 2 no-value 0 ∷ reads 2 4 no-value 1 ∷ []
+    ∷ purges 1 2 0 0 ∷ reads 2 2 no-value 0 ∷ reads 2 4 no-value 1 ∷ []
 
 -- a sweep's notices are in the order granted: the conversion, lock 2, before the request, lock 3, that was blocked first
 abbrev pub notices-in-order : List BenchLine
@@ -229,13 +249,13 @@ null-behind-a-conversion =
 -- 11 before 12: neither a resource nor a lock is left
 abbrev pub no-record-left : List BenchLine
 no-record-left =
-    says (requests-a 1 NL) 1 1 ∷ says (requests-b 1 NL) 1 2 ∷ says (requests-c 1 NL) 1 3 ∷ says (to-request 1 NL 0 (68 ∷ [])) 1 4
+    says (requests-a 1 NL) 1 1 ∷ says (requests-b 1 NL) 1 2 ∷ says (requests-c 1 NL) 1 3 ∷ says (requests-d 1 NL) 1 4
     ∷ says (requests-a 1 NL) 1 5 ∷ says (requests-a 1 NL) 1 6 ∷ says (requests-a 1 NL) 1 7 ∷ says (requests-a 1 NL) 1 8
     ∷ refuses (to-request 1 NL 0 (69 ∷ [])) 11 ∷ refuses (requests-a 1 NL) 12 ∷ []
 
 abbrev pub mistakes : List (List BenchLine)
 mistakes =
-    cancel-sweeps ∷ releases-sweep ∷ behind-the-cycle ∷ purge-counts-locks ∷ flags-act ∷ reader-leaves-no-value ∷ purge-spoils ∷ notices-in-order
+    cancel-sweeps ∷ cancel-is-silent ∷ releases-sweep ∷ behind-the-cycle ∷ purge-counts-locks ∷ purge-counts-all ∷ flags-act ∷ reader-leaves-no-value ∷ purge-spoils ∷ notices-in-order
     ∷ raised-in-place ∷ converting-told ∷ behind-the-editor ∷ null-behind-a-conversion ∷ no-record-left ∷ []
 
 -- each sequence starts on fresh tables with R 4, L 8, whatever was in them

@@ -1,5 +1,5 @@
--- The seven calls on a state: for each its refusals, in document 01's order, and what it answers and changes where none fits. Marks (R-1) and the
--- wait chain in what a new request needs (R-2) are document 02's.
+-- The seven calls on a state: for each its refusals, in document 01's order, and what it answers and changes where none fits. Marks (R-1), the wait
+-- chain in what a new request needs (R-2) and two of purge's counts (R-3) are document 02's.
 use mathlib.Core.Bool.{Bool, true, false, _&&_, _||_, not, cond}
 use mathlib.Core.List.{List, [], _∷_, _++_}
 use Prim.Native.Nat.{ℕ, zero, suc, _/_, _%_}
@@ -15,14 +15,13 @@ use Rattle.rules.specs.Queues.{sweep, free-lock, settle, find}
 use Rattle.rules.specs.Deadlock.{obstacles, victim}
 pub use Rattle.rules.specs.declared.Said.{Said}
 
--- WHAT A CALL SAYS: a refusal, or 0 where it is accepted; its answer; a lock's number, or a further count; and one number more, which is poll's mark.
--- What it doesn't say is zero. The record is the code's struct, `Said`.
-abbrev pub accepted : ℕ → ℕ → Said
-accepted a k = record { refusal = 0; answer = a; number = k; extra = 0 }
+-- WHAT A CALL SAYS: a refusal, or 0 where it is accepted; its answer; a lock's number, or purge's second count; and one number more, which is poll's
+-- mark or purge's third count. What it doesn't say is zero. The record is the code's struct, `Said`.
+abbrev pub accepted-with : ℕ → ℕ → ℕ → Said
+accepted-with a k x = record { refusal = 0; answer = a; number = k; extra = x }
 
--- what poll says of a notice: its completion and lock, and "the mark too"
-abbrev pub notified : ℕ → ℕ → ℕ → Said
-notified e k m = record { refusal = 0; answer = e; number = k; extra = m }
+abbrev pub accepted : ℕ → ℕ → Said
+accepted a k = accepted-with a k 0
 
 -- "The first that fits is answered with zeros in all other fields; nothing lent changes."
 abbrev pub refused : ℕ → Said
@@ -243,10 +242,20 @@ unfoldable pub settle-all : List ℕ → Tables → Tables
 settle-all [] t = t
 settle-all (r ∷ rs) t = settle-all rs (settle r t)
 
+-- how many of the locks ks are so
+unfoldable pub how-many : (Lock → Bool) → List ℕ → Tables → ℕ
+how-many p ks t = length (keep (λ k. p (lock t k)) ks)
+
+-- "Answers the count", and since R-3 "two more counts: locks purged while blocked, and with a completion unread". In sound tables no lock is both.
+abbrev pub purge-counts : ℕ → Tables → Said
+purge-counts c t = let ks = locks-of c t in accepted-with (length ks) (how-many blocked-lock ks t) (how-many unread ks t)
+
 unfoldable pub purge-change : ℕ → Tables → Step
 purge-change c t =
-    accepted-step (length (locks-of c t)) 0
-    (settle-all (keep (stands-on c t) (from 1 (length (t .resources)))) (purge-locks (locks-of c t) t))
+    record {
+      said = purge-counts c t;
+      tables = settle-all (keep (stands-on c t) (from 1 (length (t .resources)))) (purge-locks (locks-of c t) t);
+    }
 
 unfoldable pub purge-refusal : ℕ → ℕ
 purge-refusal c = unless (client-right c) 3 0
@@ -288,7 +297,7 @@ unfoldable pub poll-notice : ℕ → Tables → Step
 poll-notice zero t = accepted-step completion-none 0 t
 poll-notice (suc k) t =
     let l = lock t (suc k) in
-    record { said = notified (l .completion) (suc k) (l .mark); tables = take-notice (suc k) t }
+    record { said = accepted-with (l .completion) (suc k) (l .mark); tables = take-notice (suc k) t }
 
 unfoldable pub poll-change : ℕ → Tables → Step
 poll-change c t = poll-notice (first-that (λ k. eqb (lock t k .client) c) (t .notices)) t

@@ -8,5 +8,6 @@ pub mod Numbers
 pub mod Theorem
 pub mod Marks
 pub mod NoOvertaking
+pub mod Heard
 pub mod Bench
 pub mod Accepted

@@ -1,7 +1,7 @@
 -- What R-1 promises (document 02): whoever is in the way of a call that has to wait is told, and a mark lasts until it is polled or its lock is freed.
 use mathlib.Core.Path.{_≡_}
 use mathlib.Core.Logic.{_≢_}
-use mathlib.Core.Bool.{Bool, true, false, _&&_, _||_, not}
+use mathlib.Core.Bool.{Bool, true, false, _&&_, not}
 use mathlib.Core.List.{List, _++_}
 use Prim.Native.Nat.{ℕ, _≤_}
 use lib.Dec.{eqb}
@@ -10,13 +10,10 @@ use Rattle.tables.specs.Lists.{count, keep}
 use Rattle.tables.specs.State.{noticed, notices, queue, grants, converts, of-locks, state-free, mark-none}
 use Rattle.tables.specs.Layout.{read-chain, read-lock}
 use Rattle.rules.specs.Calls.{Said, larger}
-use Rattle.rules.specs.Entries.{Lent, Outcome, Call, kind, same-kind, a-request, a-convert, a-poll, to-request, to-convert, to-release, to-cancel, to-purge, to-break, to-poll, call-entry, start-entry}
-use Rattle.rules.specs.Theorem.{lent-after-calls, IsLock, keeps-out}
+use Rattle.rules.specs.Entries.{Lent, Outcome, Call, kind, same-kind, a-poll, to-request, to-convert, to-release, to-cancel, to-purge, to-break, to-poll, call-entry, start-entry}
+use Rattle.rules.specs.Theorem.{begins-to-wait, lent-after-calls, IsLock, keeps-out}
 
--- THE CALL. "When a request or conversion answers 2": the lock that waits then, and the mode that it asks for
-unfoldable pub begins-to-wait : Call → Said → Bool
-begins-to-wait c x = (same-kind a-request (kind c) || same-kind a-convert (kind c)) && eqb (x .answer) 2
-
+-- THE CALL. "When a request or conversion answers 2" (`begins-to-wait`): the lock that waits then, and the mode that it asks for
 abbrev pub asking-lock : Call → Said → ℕ
 asking-lock (to-request c m f n) x = x .number
 asking-lock (to-convert c k m f v) x = k

@@ -1,4 +1,5 @@
--- The queue theorem (document 01's demand 3): what holds of the words and slots after every list of the seven calls from fresh tables.
+-- The queue theorem (document 01's demand 3, and R-3 of document 02): what holds of the words and slots after every list of the seven calls from fresh
+-- tables, and how the answers add up.
 use mathlib.Core.Path.{_≡_}
 use mathlib.Core.Logic.{_≢_}
 use mathlib.Core.Bool.{Bool, true, _&&_, _||_, not, cond}
@@ -9,11 +10,11 @@ use lib.Dec.{eqb}
 use Rattle.modes.specs.Modes.{compatible}
 use Rattle.tables.specs.Lists.{count, bit, any, keep, from}
 use Rattle.tables.specs.declared.Lock.{Lock}
-use Rattle.tables.specs.State.{holds, grants, converts, waits, LockChain, free-locks, denied, blocked, notices, queue, of-locks, state-free, completion-denied}
+use Rattle.tables.specs.State.{holds, blocked-lock, unread, grants, converts, waits, LockChain, free-locks, denied, blocked, notices, queue, of-locks, state-free, completion-none, completion-denied}
 use Rattle.tables.specs.Layout.{of-resource, resources-in, locks-in, word-in, link-in, read-chain, read-lock}
 use Rattle.tables.specs.Sound.{ends, sound}
 use Rattle.rules.specs.Calls.{Said}
-use Rattle.rules.specs.Entries.{Lent, Call, Kind, kind, same-kind, a-request, a-release, a-cancel, a-purge, a-poll, call-entry, start-entry}
+use Rattle.rules.specs.Entries.{Lent, Call, to-request, to-convert, to-release, to-cancel, to-purge, to-break, to-poll, Kind, kind, same-kind, a-request, a-convert, a-release, a-cancel, a-purge, a-poll, call-entry, start-entry}
 
 -- THE LIST. Each call gets the words and slots that the one before it left.
 unfoldable pub lent-after-calls : List Call → Lent → Lent
@@ -30,27 +31,69 @@ abbrev pub for-kind : Kind → Call → ℕ → ℕ
 for-kind k c n = cond (same-kind k (kind c)) n 0
 
 -- WHAT IS SUMMED. "a call is accepted if it isn't refused"
-unfoldable pub requests-accepted : Call → Said → ℕ
+abbrev pub requests-accepted : Call → Said → ℕ
 requests-accepted c s = for-kind a-request c (bit (eqb (s .refusal) 0))
 
-unfoldable pub releases-accepted : Call → Said → ℕ
+abbrev pub releases-accepted : Call → Said → ℕ
 releases-accepted c s = for-kind a-release c (bit (eqb (s .refusal) 0))
 
 -- "requests cancelled are cancels answering 2"
-unfoldable pub requests-cancelled : Call → Said → ℕ
+abbrev pub requests-cancelled : Call → Said → ℕ
 requests-cancelled c s = for-kind a-cancel c (bit (eqb (s .answer) 2))
 
 -- "locks purged are the counts of freed locks that purges answer, summed"
-unfoldable pub locks-purged : Call → Said → ℕ
+abbrev pub locks-purged : Call → Said → ℕ
 locks-purged c s = for-kind a-purge c (s .answer)
 
 -- "polled denials are polls answering completion 2"
-unfoldable pub polled-denials : Call → Said → ℕ
+abbrev pub polled-denials : Call → Said → ℕ
 polled-denials c s = for-kind a-poll c (bit (eqb (s .answer) completion-denied))
 
+-- "answers 2 from request and convert"
+unfoldable pub begins-to-wait : Call → Said → Bool
+begins-to-wait c s = (same-kind a-request (kind c) || same-kind a-convert (kind c)) && eqb (s .answer) 2
+
+abbrev pub answers-2 : Call → Said → ℕ
+answers-2 c s = bit (begins-to-wait c s)
+
+-- "polls with a completion"
+abbrev pub polled-completions : Call → Said → ℕ
+polled-completions c s = for-kind a-poll c (bit (not (eqb (s .answer) completion-none)))
+
+-- "accepted cancels"
+abbrev pub cancels-accepted : Call → Said → ℕ
+cancels-accepted c s = for-kind a-cancel c (bit (eqb (s .refusal) 0))
+
+-- "the two purge counts": "locks purged while blocked, and with a completion unread"
+abbrev pub purged-blocked : Call → Said → ℕ
+purged-blocked c s = for-kind a-purge c (s .number)
+
+abbrev pub purged-unread : Call → Said → ℕ
+purged-unread c s = for-kind a-purge c (s .extra)
+
+-- WHAT IS COUNTED AFTER THE LIST: how many locks of the words are so
+unfoldable pub locks-that : (Lock → Bool) → List ℕ → ℕ
+locks-that p ws = length (keep (λ k. p (read-lock ws k)) (from 1 (locks-in ws)))
+
 -- "Locks in use are those that aren't free after the list."
-unfoldable pub in-use : List ℕ → ℕ
-in-use ws = length (keep (λ k. not (eqb (read-lock ws k .state) state-free)) (from 1 (locks-in ws)))
+abbrev pub in-use : List ℕ → ℕ
+in-use ws = locks-that (λ l. not (eqb (l .state) state-free)) ws
+
+-- OF ONE CLIENT: the client that a call names (break names none), what the calls come to that name the client i, and how many of its locks are so
+abbrev pub client-of : Call → ℕ
+client-of (to-request c m f n) = c
+client-of (to-convert c k m f v) = c
+client-of (to-release c k f v) = c
+client-of (to-cancel c k) = c
+client-of (to-purge c) = c
+client-of to-break = 0
+client-of (to-poll c) = c
+
+abbrev pub by-client : ℕ → (Call → Said → ℕ) → Call → Said → ℕ
+by-client i term c s = cond (eqb (client-of c) i) (term c s) 0
+
+abbrev pub locks-of-client : ℕ → (Lock → Bool) → List ℕ → ℕ
+locks-of-client i p ws = locks-that (λ l. eqb (l .client) i && p l) ws
 
 -- THE WORDS. A lock and a resource of the tables
 pub record IsLock (ws : List ℕ) (k : ℕ) : Type 0 where
@@ -112,12 +155,26 @@ pub record QueuesHold (ws ss : List ℕ) : Type 0 where
   pub convert-heads : (r : ℕ) → IsResource ws r → convert-head ws r ≢ 0 → kept-out ws r (convert-head ws r) (read-lock ws (convert-head ws r) .asked) ≡ true
   pub wait-heads : (r : ℕ) → IsResource ws r → wait-head ws r ≢ 0 → (conversion-waits ws r || kept-out ws r 0 (read-lock ws (wait-head ws r) .asked)) ≡ true
 
--- DEMAND 3, one statement about a list of calls on the tables t
+-- THE SUMS. `sum` is a term summed over the answers of a list, `locks` how many locks are so after it.
+-- R-3: "answers 2 from request and convert = locks now blocked + completions unread + polls with a completion + accepted cancels + the two purge counts
+-- summed". A mark alone is no completion unread.
+abbrev pub HeardSum : ((Call → Said → ℕ) → ℕ) → ((Lock → Bool) → ℕ) → Type 0
+HeardSum sum locks =
+    sum answers-2
+    ≡ locks blocked-lock + locks unread + sum polled-completions + sum cancels-accepted + (sum purged-blocked + sum purged-unread)
+
+-- ws: the words after the list
+pub record SumsHold (sum : (Call → Said → ℕ) → ℕ) (ws : List ℕ) : Type 0 where
+  -- (e) accepted requests = locks in use + releases + requests cancelled + locks purged + polled denials
+  pub balance : sum requests-accepted ≡ in-use ws + sum releases-accepted + sum requests-cancelled + sum locks-purged + sum polled-denials
+  -- (f) R-3's sum; and that of each client, of the calls that name it and the locks that are its own
+  pub heard-once : HeardSum sum (λ p. locks-that p ws)
+  pub heard-by-each : (i : ℕ) → HeardSum (λ term. sum (by-client i term)) (λ p. locks-of-client i p ws)
+
+-- DEMAND 3 AND R-3'S SUM, one statement about a list of calls on the tables t
 pub record Demand (cs : List Call) (t : Lent) : Type 0 where
   pub queues : QueuesHold (lent-after-calls cs t .words) (lent-after-calls cs t .slots)
-  -- (e) accepted requests = locks in use + releases + requests cancelled + locks purged + polled denials
-  pub balance : sum-of requests-accepted cs t
-      ≡ in-use (lent-after-calls cs t .words) + sum-of releases-accepted cs t + sum-of requests-cancelled cs t + sum-of locks-purged cs t + sum-of polled-denials cs t
+  pub sums : SumsHold (λ term. sum-of term cs t) (lent-after-calls cs t .words)
 
 -- THE QUEUE THEOREM: it holds of every list of calls on the tables that `start` leaves, wherever it accepts. Proved as `queue-theorem`.
 abbrev pub QueueTheorem : Type 0

@@ -3,7 +3,8 @@
 use tables::Lock;
 ghost use mathlib.Core.Path.{_≡_};
 ghost use Prim.Native.Nat.{_+_, _*_, _-_, _<_, _≤_, _^_};
-ghost use Rattle.tables.specs.State.{«new-lock», «blocked-lock», noticed};
+ghost use Rattle.tables.specs.Lists.{bit};
+ghost use Rattle.tables.specs.State.{«new-lock», «blocked-lock», unread, noticed};
 ghost use Rattle.tables.specs.Layout.{«header-width», «resource-width», «lock-width», «of-header», «of-resource», «of-lock»};
 ghost use Rattle.tables.specs.Layout.{«resources-in», «locks-in», «word-in», «read-lock»};
 ghost use Rattle.tables.specs.Stores.{«set-cells»};
@@ -274,8 +275,24 @@ pub fn is_blocked(l: Lock) -> bool
     (l.state == STATE_CONVERTING) | (l.state == STATE_WAITING)
 }
 
+pub fn is_unread(l: Lock) -> bool
+    ensures { λ r. ⌜ r ≡ unread l ⌝ }
+{
+    l.completion != COMPLETION_NONE
+}
+
 pub fn is_noticed(l: Lock) -> bool
     ensures { λ r. ⌜ r ≡ noticed l ⌝ }
 {
     (l.completion != COMPLETION_NONE) | (l.mark != MARK_NONE)
+}
+
+// What a test adds to a count.
+pub fn bit(b: bool) -> u32
+    ensures { λ x. ⌜ (x ≡ bit b) × (x ≤ 1) ⌝ }
+{
+    if b {
+        return 1;
+    }
+    0
 }

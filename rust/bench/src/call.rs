@@ -126,7 +126,7 @@ impl Manager for Flat {
             Call::Convert { client, lock, mode } => one(flat::convert(words, slots, *client, *lock, *mode, 0, &[])),
             Call::Release { client, lock } => none(flat::release(words, slots, *client, *lock, 0, &[])),
             Call::Cancel { client, lock } => one(flat::cancel(words, slots, *client, *lock)),
-            Call::Purge { client } => one(flat::purge(words, slots, *client)),
+            Call::Purge { client } => three(flat::purge(words, slots, *client)),
             Call::Break => denied(flat::break_deadlock(words, slots)),
             Call::Poll { client } => three(flat::poll(words, slots, *client)),
             Call::Read { client, lock } => one(flat::read(words, slots, *client, *lock).map(|(value, valid)| {

@@ -9,6 +9,7 @@ use crate::marks::Carried;
 use crate::play::Outcome;
 use crate::refusals::{self, Before, Given, fitting, image_of, sizes_in};
 use crate::sizes::{self, BUFFERS, LARGEST};
+use crate::sums::{Sums, Term};
 use crate::tally::Tally;
 use model::layout;
 use model::{Flaw, State};
@@ -237,6 +238,7 @@ pub struct Counts {
     damages: Tally<Made>,
     flaws: Tally<Found>,
     images: Tally<Lent>,
+    sums: Tally<Term>,
     broken_promises: Vec<String>,
 }
 
@@ -250,6 +252,7 @@ impl Default for Counts {
             damages: Tally::of(DAMAGES.iter().flat_map(|damage| Where::ALL.map(|had_by| Made(damage.label, had_by)))),
             flaws: Tally::of(Flaw::ALL.iter().flat_map(|flaw| [Found(TABLES, *flaw), Found(IMAGE, *flaw)])),
             images: Tally::of(Lent::all()),
+            sums: Tally::of(Term::all()),
             broken_promises: Vec::new(),
         }
     }
@@ -276,6 +279,11 @@ impl Counts {
             let size = fitting_length.and_then(|(words, _)| Size::of(words));
             size.into_iter().for_each(|size| self.images.add(Lent(call.entry(), size, refused)));
         }
+    }
+
+    /// Counts what the answers come to after a call.
+    pub fn add_sums(&mut self, sums: &Sums) {
+        self.sums.add_all(sums.terms());
     }
 
     /// Counts a call on damaged tables.
@@ -321,7 +329,7 @@ impl Counts {
     /// What was expected and never occurred.
     pub fn missing(&self) -> Vec<String> {
         let tables = self.damages.missing().chain(self.flaws.missing());
-        self.calls.missing().into_iter().chain(tables).chain(self.images.missing()).collect()
+        self.calls.missing().into_iter().chain(tables).chain(self.images.missing()).chain(self.sums.missing()).collect()
     }
 
     /// What must not occur.
@@ -344,6 +352,6 @@ impl fmt::Display for Counts {
             let counts = self.damages.iter().filter(|(made, _)| made.0 == damage.label).map(|(_, count)| format!("{count:8}"));
             writeln!(f, "{}  {}", counts.collect::<String>(), damage.label)?;
         }
-        writeln!(f, "images\n{}", self.images.lines())
+        writeln!(f, "images\n{}calls after which a term of a sum was above 0\n{}", self.images.lines(), self.sums.lines())
     }
 }

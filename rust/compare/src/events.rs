@@ -3,6 +3,7 @@
 use crate::call::{Call, Image};
 use crate::manager::{lock, result};
 use crate::marks::note_marks;
+use crate::purges::note_purge;
 use crate::sizes::{LARGEST, MIDDLE, SMALL, SMALLEST, Sizes};
 use crate::waiters::{behind_waiters, note_waiters};
 use model::layout::{MOST_CLIENT, NAME_BYTES, VALUE_BYTES};
@@ -144,9 +145,26 @@ events! {
     CancelMarked = "cancel: a marked conversion",
     CancelMarkStays = "cancel: a mark stays where nobody waits any more",
     PurgeMany = "purge: five or more locks",
-    PurgeDenied = "purge: a denied lock",
-    PurgeUnread = "purge: a granted lock with a completion unread",
-    PurgeBlocked = "purge: a blocked lock",
+    PurgeConverting = "purge: a converting lock",
+    PurgeWaiting = "purge: a waiting lock",
+    PurgeBothQueues = "purge: converting and waiting locks",
+    PurgeBlockedOnOne = "purge: two blocked locks on one resource",
+    PurgeManyBlocked = "purge: more than 255 blocked locks",
+    PurgeHeldUp = "purge: a blocked lock that its client alone holds up",
+    PurgeGranted = "purge: a lock with completion 1 unread",
+    PurgeDenied = "purge: a lock with completion 2 unread",
+    PurgeConversionDenied = "purge: a lock with completion 3 unread",
+    PurgeEveryCompletion = "purge: completions 1, 2 and 3 unread",
+    PurgeUnreadAlike = "purge: two locks with the same completion unread",
+    PurgeManyUnread = "purge: more than 255 completions unread",
+    PurgeBlockedAndUnread = "purge: blocked locks and completions unread",
+    PurgeBlockedAlone = "purge: blocked locks and no completion unread",
+    PurgeUnreadAlone = "purge: completions unread and no blocked lock",
+    PurgeNeither = "purge: locks, none of them blocked or with a completion unread",
+    PurgeMarkAlone = "purge: a mark alone, and no completion unread",
+    PurgeMarkBeside = "purge: a mark alone, beside a completion unread",
+    PurgeNone = "purge: no lock, where others are blocked and have completions unread",
+    PurgeOthersToo = "purge: blocked locks and completions unread, where others have both too",
     PurgeInvalidates = "purge: a value becomes not valid",
     PurgeReaderKeepsValid = "purge: a value stays valid after a holder below PW",
     PurgeFreesResources = "purge: frees two or more resources",
@@ -252,6 +270,7 @@ pub fn events(before: &State, call: &Call, answer: u64, refused: Option<u32>, af
     }
     if refused.is_none() {
         note_marks(before, call, answer, after, &mut found);
+        note_purge(before, call, &mut found);
         note_waiters(before, call, answer, after, &mut found);
     }
     if sizes_of(before) == LARGEST {
@@ -469,9 +488,6 @@ impl Notes<'_> {
     fn purge(&self, client: u32, found: &mut Vec<Event>) {
         let its: Vec<&Lock> = self.before.locks.values().filter(|lock| u32::from(lock.client) == client).collect();
         note(found, self.result >= 5, Event::PurgeMany);
-        note(found, its.iter().any(|lock| lock.standing == Standing::Denied), Event::PurgeDenied);
-        note(found, its.iter().any(|lock| lock.held().is_some() && lock.completion() != 0), Event::PurgeUnread);
-        note(found, its.iter().any(|lock| lock.blocked()), Event::PurgeBlocked);
         let valid_before = |number: u32| self.before.resources.get(&number).is_some_and(|resource| resource.valid);
         let valid_after = |number: u32| self.after.resources.get(&number).map(|resource| resource.valid);
         let stood_on: Vec<u32> = its.iter().filter_map(|lock| lock.resource()).collect();

@@ -64,8 +64,9 @@ const CHOSEN_SIZES: [Sizes; 9] =
 const CHOSEN_FILLS: [Fill; 3] = [Fill::Started, Fill::Half, Fill::Full];
 
 /// Games of smaller seeds than this are chosen ones: those of chosen sizes, then three that make every damage in turn: of the tables, of an
-/// image that is loaded, and of an image that holder is asked about.
-pub const CHOSEN: u64 = SIZED + 3;
+/// image that is loaded, and of an image that holder is asked about; then one in which a single client has all locks of the largest tables.
+pub const CHOSEN: u64 = ALONE + 1;
+const ALONE: u64 = SIZED + 3;
 const SIZED: u64 = (CHOSEN_SIZES.len() * CHOSEN_FILLS.len()) as u64;
 
 /// How many calls a chosen game has.
@@ -87,6 +88,7 @@ enum Fill {
 const RING: [usize; 15] = [60, 4, 2, 2, 1, 5, 12, 1, 1, 1, 1, 1, 1, 1, 3];
 const PILE: [usize; 15] = [50, 14, 10, 4, 1, 3, 16, 1, 1, 1, 1, 1, 1, 1, 3];
 const IMAGES: [usize; 15] = [8, 8, 3, 1, 0, 1, 4, 1, 1, 6, 30, 30, 2, 0, 8];
+const PURGES: [usize; 15] = [0, 0, 0, 0, 1, 0, 0, 0, 0, 0, 0, 0, 0, 0, 0];
 const LINES: [usize; 15] = [30, 24, 13, 6, 2, 6, 16, 0, 0, 0, 0, 0, 0, 0, 0];
 
 /// What a game is out for.
@@ -125,7 +127,11 @@ impl Game {
     /// The game of a seed.
     pub fn new(seed: u64) -> Game {
         let mut rng = Rng::new(seed);
-        if (SIZED..CHOSEN).contains(&seed) {
+        if seed == ALONE {
+            let game = Game::of(rng, LARGEST, Style::Images, 3);
+            return Game { fill: Fill::Full, clients: vec![MOST_CLIENT], actions: PURGES.to_vec(), ..game };
+        }
+        if (SIZED..ALONE).contains(&seed) {
             let entry = [Entry::Sound, Entry::Load, Entry::Holder][(seed - SIZED) as usize];
             return Game::of(rng, VARIED, Style::Damages(entry), DAMAGES.len() + 2);
         }

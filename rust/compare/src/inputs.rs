@@ -107,6 +107,7 @@ pub fn chosen() -> Vec<Input> {
         ("each byte", bytes()),
         ("denied locks polled out of order", DENIED.to_vec()),
         ("requests behind a wait chain", BEHIND.to_vec()),
+        ("purges of blocked locks and of completions unread", PURGED.to_vec()),
         ("more than a pipe holds", lines_of_pipe),
     ];
     plain.into_iter().map(|(what, bytes)| Input::new(what, bytes)).chain(edges()).chain(last_lines()).collect()
@@ -119,6 +120,11 @@ const DENIED: &[u8] = b"q 1 5 0 a\nq 2 5 0 b\nq 3 5 0 c\nq 1 5 0 a\nq 2 5 0 b\nq
 /// another EX waits for this PR, whose client asks again: a deadlock.
 const BEHIND: &[u8] = b"q 1 3 0 a\nq 2 5 0 a\nq 3 3 4 a\nq 3 3 0 a\nq 4 0 0 a\nq 4 0 4 a\nr 1 1 0\nn 3\nn 2\nr 2 2 0\nn 2\nn 3\n\
 q 5 5 0 a\nq 3 3 0 a\nd\nn 5\nn 3\nn 3\n";
+
+/// Client 1 is purged with completions 1, 2 and 3 unread and two marks alone. Then it and client 2 have a denied request and others that
+/// wait for their own locks, and client 3 has nothing.
+const PURGED: &[u8] = b"q 1 0 0 a\nq 2 5 0 a\nc 1 1 3 0\nq 1 5 0 b\nq 1 5 0 b\nd\nr 2 2 0\nq 1 3 0 c\nq 1 3 0 c\nc 1 5 5 0\nd\np 1\n\
+q 1 5 0 a\nq 1 5 0 a\nd\nq 2 5 0 b\nq 2 5 0 b\nd\nq 1 5 0 a\nq 2 5 0 b\nq 2 5 0 b\np 3\np 1\np 2\n";
 
 /// A random script: calls that go by what the tables hold, and lines with something wrong, more often in some scripts than in others.
 pub fn random(seed: u64) -> Input {

@@ -240,8 +240,15 @@ fn comes(given: &Given) -> bool {
 
 /// Whether a branch can be met in lockplay: it is one of its calls', and needs no value and no more than eight locks.
 fn met(event: &Event) -> bool {
-    let too_much =
-        [Event::DeepWaitQueue, Event::ConvertStores, Event::ConvertStoresValid, Event::ReleaseStores, Event::ReleaseStoresEmptied];
+    let too_much = [
+        Event::DeepWaitQueue,
+        Event::PurgeManyBlocked,
+        Event::PurgeManyUnread,
+        Event::ConvertStores,
+        Event::ConvertStoresValid,
+        Event::ReleaseStores,
+        Event::ReleaseStoresEmptied,
+    ];
     event.of_call() && !too_much.contains(event)
 }
 

@@ -240,6 +240,8 @@ mod tests {
         assert!(found(<[u8]>::to_vec, |printed| printed.trim_end().to_string()), "no byte 10 at the end");
         assert!(found(<[u8]>::to_vec, |printed| printed.replace("n 0 0 0", "n 0 0")), "a field less");
         assert!(found(<[u8]>::to_vec, |printed| printed.replace("n 0 1 5", "n 0 1 0")), "another mark");
+        assert!(found(<[u8]>::to_vec, |printed| printed.replace("p 4 2 1", "p 4 1 2")), "purge's counts in another order");
+        assert!(found(<[u8]>::to_vec, |printed| printed.replace("p 0 0 0", "p 0")), "a purge without its further counts");
     }
 
     #[test]

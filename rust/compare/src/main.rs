@@ -8,6 +8,8 @@ mod damage;
 mod damages;
 mod events;
 mod every;
+#[cfg(test)]
+mod faulty;
 mod generate;
 mod inputs;
 mod lines;
@@ -16,12 +18,14 @@ mod manager;
 mod marks;
 mod play;
 mod program;
+mod purges;
 mod refusals;
 mod rng;
 mod scenario;
 mod scripts;
 mod sizes;
 mod states;
+mod sums;
 mod tally;
 mod waiters;
 
@@ -129,7 +133,7 @@ impl Options {
             if self.trace {
                 eprintln!("game of seed {seed}");
             }
-            if let Err(failed) = play_game(other, seed, &mut counts, self.calls) {
+            if let Err(failed) = play_game(&Model, other, seed, &mut counts, self.calls) {
                 return failed.report(other);
             }
             progress.tell(counts.total());
@@ -224,7 +228,7 @@ fn play_every(other: &dyn Manager, states: usize) -> ExitCode {
 
 fn play_one(other: &dyn Manager, seed: u64) -> ExitCode {
     let mut counts = Counts::default();
-    match play_game(other, seed, &mut counts, u64::MAX) {
+    match play_game(&Model, other, seed, &mut counts, u64::MAX) {
         Err(failed) => failed.report(other),
         Ok(()) => {
             println!("{} calls, no difference\n{counts}", counts.total());
@@ -234,10 +238,10 @@ fn play_one(other: &dyn Manager, seed: u64) -> ExitCode {
 }
 
 /// Plays one game to its end, or until there were enough calls.
-fn play_game(other: &dyn Manager, seed: u64, counts: &mut Counts, enough: u64) -> Result<(), Failed> {
+fn play_game(first: &dyn Manager, second: &dyn Manager, seed: u64, counts: &mut Counts, enough: u64) -> Result<(), Failed> {
     GAME.store(seed, Ordering::Relaxed);
     let mut game = Game::new(seed);
-    let mut board = Board::new(&Model, other);
+    let mut board = Board::new(first, second);
     let mut calls = vec![game.opening()];
     let mut state = None;
     loop {
@@ -252,6 +256,7 @@ fn play_game(other: &dyn Manager, seed: u64, counts: &mut Counts, enough: u64) -
         let (was, is) = (old.as_ref().or(new.as_ref()), new.as_ref().or(old.as_ref()));
         let (Some(was), Some(is)) = (was, is) else { panic!("a game without tables") };
         counts.add(&before, was, call, &outcome, is);
+        counts.add_sums(board.sums());
         state = new.or(old);
         if calls.len() >= game.length() || counts.total() >= enough {
             return Ok(());
@@ -280,16 +285,17 @@ fn read_back(board: &Board) -> Option<State> {
 mod tests {
     use super::*;
     use crate::call::Change;
-    use crate::manager::{Listed, Tables, accepted, lock, mark, result};
+    use crate::faulty::{Faulty, Mistake};
+    use crate::manager::Tables;
     use crate::sizes::BUFFERS;
-    use model::layout::{self, MOST_CLIENT, NAME_BYTES, header, lock_at};
+    use model::layout::{MOST_CLIENT, NAME_BYTES};
 
     /// Plays games of a seed until there were enough calls, or the first that fails.
-    fn play(other: &dyn Manager, seed: u64, enough: u64) -> Result<Counts, Failed> {
+    fn play(first: &dyn Manager, second: &dyn Manager, seed: u64, enough: u64) -> Result<Counts, Failed> {
         let mut counts = Counts::default();
         let mut games = 0;
         while counts.total() < enough {
-            play_game(other, Rng::game_seed(seed, games), &mut counts, enough)?;
+            play_game(first, second, Rng::game_seed(seed, games), &mut counts, enough)?;
             games += 1;
         }
         Ok(counts)
@@ -297,131 +303,16 @@ mod tests {
 
     #[test]
     fn the_model_and_flat_agree() {
-        match play(&Flat, 77, 30_000) {
+        match play(&Model, &Flat, 77, 30_000) {
             Ok(counts) => assert_eq!(counts.unexpected(), Vec::<String>::new()),
             Err(failed) => panic!("seed {}: {}", failed.seed, failed.difference),
         }
     }
 
-    /// The mistakes that a faulty manager makes.
-    #[derive(Clone, Copy)]
-    enum Mistake {
-        /// A purge of two or more locks answers one less.
-        PurgeCount,
-        /// A release leaves a stray byte where a freed slot ought to be zero.
-        SlotByte,
-        /// Unsound tables with a nonzero word 7 are taken for sound.
-        Soundness,
-        /// A new request goes past those that wait, as it did before document 02.
-        Overtaking,
-        /// A poll doesn't tell the mark.
-        UntoldMark,
-        /// A poll tells a mark and leaves it in its lock.
-        KeptMark,
-    }
-
-    /// Flat with one mistake.
-    struct Faulty(Mistake);
-
-    impl Manager for Faulty {
-        fn start(&self, t: &mut Tables, resources: u32, locks: u32) -> u64 {
-            Flat.start(t, resources, locks)
-        }
-
-        fn request(&self, t: &mut Tables, client: u32, mode: u32, flags: u32, name: &[u8]) -> u64 {
-            match self.0 {
-                Mistake::Overtaking => overtaking(t, client, mode, flags, name),
-                _ => Flat.request(t, client, mode, flags, name),
-            }
-        }
-
-        fn convert(&self, t: &mut Tables, client: u32, lock: u32, mode: u32, flags: u32, value: &[u8]) -> u64 {
-            Flat.convert(t, client, lock, mode, flags, value)
-        }
-
-        fn release(&self, t: &mut Tables, client: u32, lock: u32, flags: u32, value: &[u8]) -> u64 {
-            let answer = Flat.release(t, client, lock, flags, value);
-            if let (Mistake::SlotByte, 0, Some(last)) = (self.0, answer, t.slots.last_mut()) {
-                *last = 1;
-            }
-            answer
-        }
-
-        fn cancel(&self, t: &mut Tables, client: u32, lock: u32) -> u64 {
-            Flat.cancel(t, client, lock)
-        }
-
-        fn purge(&self, t: &mut Tables, client: u32) -> u64 {
-            match (self.0, Flat.purge(t, client)) {
-                (Mistake::PurgeCount, count) if count >= 2 && refusal(count).is_none() => count - 1,
-                (_, answer) => answer,
-            }
-        }
-
-        fn break_deadlock(&self, t: &mut Tables) -> u64 {
-            Flat.break_deadlock(t)
-        }
-
-        fn poll(&self, t: &mut Tables, client: u32) -> u64 {
-            let answer = Flat.poll(t, client);
-            match self.0 {
-                Mistake::UntoldMark if refusal(answer).is_none() => accepted(result(answer), lock(answer), 0),
-                Mistake::KeptMark if refusal(answer).is_none() && mark(answer) != 0 => {
-                    let resources = t.words[header::RESOURCES];
-                    t.words[lock_at(resources, lock(answer), layout::lock::MARK)] = mark(answer);
-                    answer
-                }
-                _ => answer,
-            }
-        }
-
-        fn read(&self, t: &Tables, client: u32, lock: u32, value: &mut [u8]) -> u64 {
-            Flat.read(t, client, lock, value)
-        }
-
-        fn list(&self, t: &Tables, client: u32, lock: u32, entries: &mut [Listed]) -> u64 {
-            Flat.list(t, client, lock, entries)
-        }
-
-        fn image(&self, t: &Tables, area: &mut [u8]) -> u64 {
-            Flat.image(t, area)
-        }
-
-        fn load(&self, image: &[u8], t: &mut Tables) -> u64 {
-            Flat.load(image, t)
-        }
-
-        fn sound(&self, t: &Tables) -> u32 {
-            let mut eased = t.clone();
-            if let (Mistake::Soundness, Some(word)) = (self.0, eased.words.get_mut(header::ZERO)) {
-                *word = 0;
-            }
-            Flat.sound(&eased)
-        }
-
-        fn holder(&self, image: &[u8], name: &[u8]) -> u32 {
-            Flat.holder(image, name)
-        }
-    }
-
-    /// A request that is granted as if nobody waited.
-    fn overtaking(t: &mut Tables, client: u32, mode: u32, flags: u32, name: &[u8]) -> u64 {
-        let granted = State::from_tables(&t.words, &t.slots).and_then(|mut state| {
-            let resource = state.named(name)?;
-            let waiting = std::mem::take(&mut state.resources.get_mut(&resource)?.waiting);
-            let (answer, number) = state.request(client, mode, flags, name).ok()?;
-            state.resources.get_mut(&resource)?.waiting = waiting;
-            (answer == model::Answer::Granted).then_some((state, number))
-        });
-        let Some((state, number)) = granted else { return Flat.request(t, client, mode, flags, name) };
-        (t.words, t.slots) = state.to_tables();
-        accepted(1, number, 0)
-    }
-
     /// The failure that a mistake leads to, and the calls that are left of it.
     fn found(mistake: Mistake) -> (Failed, Vec<Call>) {
         let faulty = Faulty(mistake);
-        let failed = play(&faulty, 1, 30_000).err().expect("the mistake is found");
+        let failed = play(&Model, &faulty, 1, 30_000).err().expect("the mistake is found");
         let short = shrink_calls(&Model, &faulty, &failed.calls, 4000);
         assert!(play_list(&Model, &faulty, &short).is_some(), "the shorter list shows a difference too");
         assert!(play_list(&Model, &Flat, &short).is_none(), "and it is the mistake's");
@@ -459,6 +350,64 @@ mod tests {
         let (failed, short) = found(Mistake::KeptMark);
         assert!(matches!(failed.difference, Difference::Words { first: 0, .. }));
         assert_eq!(short.last().map(Call::entry), Some(Entry::Poll));
+    }
+
+    #[test]
+    fn wrong_counts_of_a_purge_are_found() {
+        for mistake in [Mistake::ConvertingAlone, Mistake::CountedTwice, Mistake::MarkCounted, Mistake::CountsExchanged] {
+            let (failed, short) = found(mistake);
+            assert!(matches!(failed.difference, Difference::Answer(..)), "{mistake:?}: {}", failed.difference);
+            assert_eq!(short.last().map(Call::entry), Some(Entry::Purge), "{mistake:?}");
+        }
+    }
+
+    #[test]
+    fn what_a_blocked_call_is_told_wrongly_is_found() {
+        for (mistake, entry) in [(Mistake::SilentSweep, Entry::Release), (Mistake::ToldCancel, Entry::Cancel)] {
+            let (failed, short) = found(mistake);
+            assert!(matches!(failed.difference, Difference::Words { .. }), "{mistake:?}: {}", failed.difference);
+            assert_eq!(short.last().map(Call::entry), Some(entry), "{mistake:?}");
+        }
+        let (failed, _) = found(Mistake::OthersNotice);
+        assert!(matches!(failed.difference, Difference::Answer(..)));
+    }
+
+    /// What doesn't add up where both managers make the mistake, and the entry of the last call that is left.
+    fn found_by_sums(mistake: Mistake) -> (String, Option<Entry>) {
+        let faulty = Faulty(mistake);
+        let failed = play(&faulty, &faulty, 1, 30_000).err().expect("the mistake is found");
+        let short = shrink_calls(&faulty, &faulty, &failed.calls, 4000);
+        let told = play_list(&faulty, &faulty, &short).map(|(_, difference)| difference.to_string());
+        assert!(short.len() <= 6, "{} calls are left", short.len());
+        assert!(play_list(&Flat, &Flat, &short).is_none(), "it is the mistake's");
+        (told.expect("the shorter list shows it too"), short.last().map(Call::entry))
+    }
+
+    #[test]
+    fn the_sums_find_mistakes_of_both_managers() {
+        let of_locks = "the answers don't add up: accepted requests";
+        let of_calls = "the answers don't add up: answers 2 of request and convert";
+        let of_a_client = "the answers don't add up: client";
+        for (mistake, sum, entry) in [
+            (Mistake::PurgeCount, of_locks, Entry::Purge),
+            (Mistake::ConvertingAlone, of_calls, Entry::Purge),
+            (Mistake::CountedTwice, of_calls, Entry::Purge),
+            (Mistake::MarkCounted, of_calls, Entry::Purge),
+            (Mistake::SilentSweep, of_calls, Entry::Release),
+            (Mistake::ToldCancel, of_calls, Entry::Cancel),
+            (Mistake::OthersNotice, of_a_client, Entry::Poll),
+        ] {
+            let (told, last) = found_by_sums(mistake);
+            assert!(told.starts_with(sum), "{mistake:?}: {told}");
+            assert_eq!(last, Some(entry), "{mistake:?}");
+        }
+    }
+
+    /// The sum has both counts together, so that the model alone shows which is which.
+    #[test]
+    fn exchanged_counts_add_up() {
+        let faulty = Faulty(Mistake::CountsExchanged);
+        assert!(play(&faulty, &faulty, 1, 5_000).is_ok());
     }
 
     #[test]
@@ -504,6 +453,7 @@ mod tests {
             "the damage \"a convert head kept waiting by its own mode alone\" of tables",
             &too_large,
             "sound: started tables of R 256, L 1024",
+            "in the sums of a list from fresh tables: locks purged while blocked",
         ] {
             assert!(missing.iter().any(|what| what == expected), "{expected}");
         }

@@ -22,8 +22,9 @@ impl Tables {
     }
 }
 
-/// A lock manager. Answers are those of zamgyorud.h: a refusal has the highest bit set and its number below; otherwise the result is in bits 0
-/// to 15, the lock in bits 16 to 31 and the mark in bits 32 to 47. A call may change only what its `&mut` arguments lend.
+/// A lock manager. Answers are those of zamgyorud.h: a refusal has the highest bit set and its number below; otherwise the result is in
+/// bits 0 to 15, the lock in bits 16 to 31 and the mark in bits 32 to 47. Purge's three counts stand in these places. A call may change
+/// only what its `&mut` arguments lend.
 pub trait Manager {
     fn start(&self, tables: &mut Tables, resources: u32, locks: u32) -> u64;
     fn request(&self, tables: &mut Tables, client: u32, mode: u32, flags: u32, name: &[u8]) -> u64;
@@ -79,6 +80,16 @@ pub fn mark(answer: u64) -> u32 {
     result(answer >> 32)
 }
 
+/// The second count in an accepted purge's answer: locks that were blocked.
+pub fn purged_blocked(answer: u64) -> u32 {
+    lock(answer)
+}
+
+/// The third count in an accepted purge's answer: locks with a completion unread.
+pub fn purged_unread(answer: u64) -> u32 {
+    mark(answer)
+}
+
 /// An answer of a result alone.
 fn one(answer: Result<u32, Refused>) -> u64 {
     two(answer.map(|result| (result, 0)))
@@ -89,7 +100,7 @@ fn two(answer: Result<(u32, u32), Refused>) -> u64 {
     three(answer.map(|(result, lock)| (result, lock, 0)))
 }
 
-/// An answer of a result, a lock and a mark.
+/// An answer of a result, a lock and a mark, or of three counts.
 fn three(answer: Result<(u32, u32, u32), Refused>) -> u64 {
     answer.map_or_else(refused, |(result, lock, mark)| accepted(result, lock, mark))
 }
@@ -148,7 +159,8 @@ impl Manager for Model {
     }
 
     fn purge(&self, t: &mut Tables, client: u32) -> u64 {
-        one(model::entries::purge(&mut t.words, &mut t.slots, client).map_err(|refused| refused.0))
+        let answer = model::entries::purge(&mut t.words, &mut t.slots, client);
+        three(answer.map(|purged| (purged.locks, purged.blocked, purged.unread)).map_err(|refused| refused.0))
     }
 
     fn break_deadlock(&self, t: &mut Tables) -> u64 {
@@ -215,7 +227,7 @@ impl Manager for Flat {
     }
 
     fn purge(&self, t: &mut Tables, client: u32) -> u64 {
-        one(flat::purge(&mut t.words, &mut t.slots, client))
+        three(flat::purge(&mut t.words, &mut t.slots, client))
     }
 
     fn break_deadlock(&self, t: &mut Tables) -> u64 {

@@ -1,7 +1,8 @@
-//! Two managers side by side: each call is made on both, and all that they give back or hold is compared.
+//! Two managers side by side: each call is made on both, all that they give back or hold is compared, and their answers have to add up.
 
 use crate::call::{Call, damage};
 use crate::manager::{Listed, Manager, Tables, lock, mark, refusal, refused, result};
+use crate::sums::Sums;
 use std::fmt;
 
 /// What a call gave back, besides what it did to the tables.
@@ -21,7 +22,7 @@ pub struct Outcome {
     pub sound: Option<bool>,
 }
 
-/// Where two managers differ: what the first and the second have.
+/// Where two managers differ: what the first and the second have. Or where they agree, but their answers don't add up.
 #[derive(Clone, Debug)]
 pub enum Difference {
     Answer(u64, u64),
@@ -31,6 +32,7 @@ pub enum Difference {
     Value(Vec<u8>, Vec<u8>),
     Entries(Vec<Listed>, Vec<Listed>),
     Area { at: usize, first: u8, second: u8 },
+    Sum(String),
 }
 
 impl fmt::Display for Difference {
@@ -43,6 +45,7 @@ impl fmt::Display for Difference {
             Difference::Value(first, second) => write!(f, "value read is {first:?} and {second:?}"),
             Difference::Entries(first, second) => write!(f, "list is {first:?} and {second:?}"),
             Difference::Area { at, first, second } => write!(f, "image byte {at} is {first} and {second}"),
+            Difference::Sum(what) => write!(f, "the answers don't add up: {what}"),
         }
     }
 }
@@ -140,25 +143,20 @@ impl Side<'_> {
         };
         outcome
     }
-
-    /// Goes on with the tables lent to an accepted start or load.
-    fn take(&mut self, outcome: &Outcome) {
-        if let (Some(lent), None) = (&outcome.lent, refusal(outcome.answer)) {
-            self.tables = lent.clone();
-        }
-    }
 }
 
-/// Two managers that have been given the same calls.
+/// Two managers that have been given the same calls, and what their answers come to. The sums are one for both, since answers and tables
+/// have been found the same before a call is added to them.
 pub struct Board<'m> {
     first: Side<'m>,
     second: Side<'m>,
+    sums: Sums,
 }
 
 impl<'m> Board<'m> {
     pub fn new(first: &'m dyn Manager, second: &'m dyn Manager) -> Board<'m> {
         let side = |manager| Side { manager, tables: Tables { words: Vec::new(), slots: Vec::new() } };
-        Board { first: side(first), second: side(second) }
+        Board { first: side(first), second: side(second), sums: Sums::default() }
     }
 
     /// The tables, the same on both sides.
@@ -166,23 +164,30 @@ impl<'m> Board<'m> {
         &self.first.tables
     }
 
-    /// Goes on from other tables, on both sides.
+    /// What the answers come to, the same on both sides.
+    pub fn sums(&self) -> &Sums {
+        &self.sums
+    }
+
+    /// Goes on from other tables, on both sides. The sums start there at what these hold.
     pub fn set(&mut self, tables: &Tables) {
         self.first.tables.clone_from(tables);
         self.second.tables.clone_from(tables);
+        self.sums = Sums::resumed(tables);
     }
 
     /// Makes a call on both sides.
     pub fn play(&mut self, call: &Call) -> Result<Outcome, Difference> {
         if let Call::Damaged { changes, call, stays } = call {
-            let before = self.first.tables.clone();
-            damage(&mut self.first.tables, &changes.list);
-            damage(&mut self.second.tables, &changes.list);
+            let (before, sums) = (self.tables().clone(), self.sums.clone());
+            let mut damaged = before.clone();
+            damage(&mut damaged, &changes.list);
+            self.set(&damaged);
             let sound = self.agreed_soundness()?;
             let outcome = self.play(call)?;
             if !(sound && *stays) {
-                self.first.tables.clone_from(&before);
-                self.second.tables = before;
+                self.set(&before);
+                self.sums = sums;
             }
             return Ok(Outcome { sound: Some(sound), ..outcome });
         }
@@ -190,9 +195,19 @@ impl<'m> Board<'m> {
         let second = self.second.make(call);
         compare_outcomes(&first, &second)?;
         compare_tables(&self.first.tables, &self.second.tables)?;
-        self.first.take(&first);
-        self.second.take(&second);
+        self.take(call, &first);
+        self.sums.play(call, first.answer, &self.first.tables).map_err(Difference::Sum)?;
         Ok(first)
+    }
+
+    /// Goes on with the tables lent to an accepted start or load.
+    fn take(&mut self, call: &Call, outcome: &Outcome) {
+        if let (Some(lent), None) = (&outcome.lent, refusal(outcome.answer)) {
+            self.set(lent);
+            if matches!(call, Call::Start { .. }) {
+                self.sums = Sums::default();
+            }
+        }
     }
 
     fn agreed_soundness(&self) -> Result<bool, Difference> {

@@ -232,22 +232,24 @@ pub fn cancel(words: &mut [u32], slots: &[u8], client: u32, k: u32) -> Result<u3
     Ok(answer)
 }
 
-/// All locks of a client are freed: how many.
-pub fn purge(words: &mut [u32], slots: &mut [u8], client: u32) -> Result<u32, Refused> {
+/// All locks of a client are freed: how many, how many of them blocked, and how many with a completion unread.
+pub fn purge(words: &mut [u32], slots: &mut [u8], client: u32) -> Result<(u32, u32, u32), Refused> {
     let mut queues = Queues::open(words, slots)?;
     check_client(client)?;
     let mut touched = [false; MOST_RESOURCES + 1];
-    let mut count = 0;
+    let (mut count, mut blocked, mut unread) = (0, 0, 0);
     for record in queues.locks.iter().filter(|record| record[lock::CLIENT] == client) {
         let number = record[lock::RESOURCE] as usize;
         count += 1;
+        blocked += u32::from(matches!(record[lock::STATE], state::CONVERTING | state::WAITING));
+        unread += u32::from(record[lock::COMPLETION] != completion::NONE);
         touched[number] = true;
         if record[lock::HELD] >= PW {
             queues.resources[number - 1][resource::VALID] = 0;
         }
     }
     if count == 0 {
-        return Ok(0);
+        return Ok((0, 0, 0));
     }
     let stood_on = (1..=queues.resources.len() as u32).filter(|number| touched[*number as usize]);
     stood_on.clone().for_each(|number| queues.remove_client_from(number, client));
@@ -258,7 +260,7 @@ pub fn purge(words: &mut [u32], slots: &mut [u8], client: u32) -> Result<u32, Re
         }
     }
     stood_on.for_each(|number| free_or_sweep(&mut queues, slots, number));
-    Ok(count)
+    Ok((count, blocked, unread))
 }
 
 /// If there is a deadlock, the first lock of the blocked chain that is on one is denied: its number, or 0.

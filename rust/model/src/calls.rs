@@ -38,6 +38,15 @@ pub struct Polled {
     pub mark: u32,
 }
 
+/// What purge answers: how many locks it freed, how many of them were blocked, and how many had a completion unread. A mark alone is none.
+#[derive(Clone, Copy, Debug, Default, PartialEq, Eq)]
+#[allow(missing_docs)]
+pub struct Purged {
+    pub locks: u32,
+    pub blocked: u32,
+    pub unread: u32,
+}
+
 /// A lock as list shows it.
 #[derive(Clone, Copy, Debug, PartialEq, Eq)]
 #[allow(missing_docs)]
@@ -194,10 +203,12 @@ impl State {
         }
     }
 
-    /// All locks of a client are freed: how many.
-    pub fn purge(&mut self, client: u32) -> Result<u32, Refused> {
+    /// All locks of a client are freed. They are counted as they stood before the first of them was.
+    pub fn purge(&mut self, client: u32) -> Result<Purged, Refused> {
         let client = client_of(client)?;
         let its: Vec<u32> = self.locks.iter().filter(|(_, lock)| lock.client == client).map(|(n, _)| *n).collect();
+        let how_many = |is: fn(&Lock) -> bool| its.iter().filter(|lock| is(&self.locks[lock])).count() as u32;
+        let purged = Purged { locks: its.len() as u32, blocked: how_many(Lock::blocked), unread: how_many(Lock::unread) };
         let stood_on: BTreeSet<u32> = its.iter().filter_map(|lock| self.locks[lock].resource()).collect();
         for lock in &its {
             self.invalidate_if_writer(*lock);
@@ -206,7 +217,7 @@ impl State {
         for resource in stood_on {
             self.free_or_sweep(resource);
         }
-        Ok(its.len() as u32)
+        Ok(purged)
     }
 
     /// If there is a deadlock, the first lock of the blocked chain that is on one is denied: its number, or 0.

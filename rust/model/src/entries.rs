@@ -2,7 +2,7 @@
 //! written out. A refused call writes nothing.
 
 use crate::layout::{self, Value, WORD_BYTES, header};
-use crate::{Answer, Entry, Polled, Refused, State};
+use crate::{Answer, Entry, Polled, Purged, Refused, State};
 
 fn state_of(words: &[u32], slots: &[u8]) -> Result<State, Refused> {
     State::from_tables(words, slots).ok_or(Refused::UNSOUND)
@@ -75,7 +75,7 @@ pub fn cancel(words: &mut [u32], slots: &mut [u8], client: u32, lock: u32) -> Re
 }
 
 /// All locks of a client are freed.
-pub fn purge(words: &mut [u32], slots: &mut [u8], client: u32) -> Result<u32, Refused> {
+pub fn purge(words: &mut [u32], slots: &mut [u8], client: u32) -> Result<Purged, Refused> {
     change(words, slots, |state| state.purge(client))
 }
 

@@ -86,7 +86,7 @@ impl Asked<'_> {
             }
             Asked::Release { client, lock, flags } => state.release(client, lock, flags, b"").map(|()| vec![0]),
             Asked::Cancel { client, lock } => state.cancel(client, lock).map(|answer| vec![answer]),
-            Asked::Purge { client } => state.purge(client).map(|count| vec![count]),
+            Asked::Purge { client } => state.purge(client).map(|purged| vec![purged.locks, purged.blocked, purged.unread]),
             Asked::Break => Ok(vec![state.break_deadlock()]),
             Asked::Poll { client } => state.poll(client).map(|polled| vec![polled.completion, polled.lock, polled.mark]),
         }
@@ -145,7 +145,7 @@ mod tests {
     #[test]
     fn the_sample() {
         let input = b"q 1 5 0 vip-7\nq 2 5 0 vip-7\nq 2 5 4 vip-7\np 1\nn 2\nn 2\n";
-        assert_eq!(printed(input), "q 1 1\nq 2 2\nq ! 13\np 1\nn 1 2 0\nn 0 0 0\n");
+        assert_eq!(printed(input), "q 1 1\nq 2 2\nq ! 13\np 1 0 0\nn 1 2 0\nn 0 0 0\n");
     }
 
     #[test]

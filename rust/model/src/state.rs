@@ -138,6 +138,11 @@ impl Lock {
         }
     }
 
+    /// Whether it has a completion that its client hasn't polled. A denied lock has.
+    pub fn unread(&self) -> bool {
+        self.completion() != 0
+    }
+
     /// The mark's number, 0 for none.
     pub fn mark_number(&self) -> u32 {
         self.mark.map_or(0, Mode::number)
@@ -145,7 +150,7 @@ impl Lock {
 
     /// Whether it belongs on the notice chain: it has a completion or a mark.
     pub fn noticed(&self) -> bool {
-        self.completion() != 0 || self.mark.is_some()
+        self.unread() || self.mark.is_some()
     }
 }
 

@@ -1,9 +1,9 @@
 //! What the model's calls do beyond what lockplay shows: values, validity, the orders of chains, and other table sizes; and what document 02
-//! says of marks and of requests that others wait ahead of. The bench sequences of document 01 are scripts of lockplay, in
-//! `examples/bench`.
+//! says of marks, of requests that others wait ahead of and of purge's counts. The bench sequences of document 01 are
+//! scripts of lockplay, in `examples/bench`.
 
 use model::layout::{VALUE_BYTES, lock, lock_at, slots, words};
-use model::{Answer, Flaw, Polled, Refused, State};
+use model::{Answer, Flaw, Polled, Purged, Refused, State};
 
 const NL: u32 = 0;
 const CR: u32 = 1;
@@ -33,6 +33,10 @@ fn poll_all(state: &mut State) -> Vec<(u32, u32, u32)> {
         }
     }
     found
+}
+
+fn purged(locks: u32, blocked: u32, unread: u32) -> Purged {
+    Purged { locks, blocked, unread }
 }
 
 /// What every state must be: what its own tables give back.
@@ -101,13 +105,13 @@ fn purge_frees_ascending_and_invalidates() {
     s.request(1, EX, 0, b"B").unwrap();
     // 2 waits for client 1, whose 6 is blocked by its own 3: 2 is only behind that deadlock.
     assert_eq!(s.break_deadlock(), 6);
-    assert_eq!(s.purge(1), Ok(4));
+    assert_eq!(s.purge(1), Ok(purged(4, 0, 1)), "6 is denied, and nobody was told");
     assert_eq!(s.free_locks, [6, 5, 3, 1, 7, 8]);
     assert_eq!(s.free_resources, [3]);
     assert!(s.resources.values().all(|resource| !resource.valid));
     assert_eq!(s.notices, [4, 2], "4's mark is older than 2's grant, and outlasts the lock that asked");
     assert!(s.denied.is_empty());
-    assert_eq!(s.purge(1), Ok(0));
+    assert_eq!(s.purge(1), Ok(purged(0, 0, 0)));
     assert_sound(&s);
 }
 
@@ -293,11 +297,80 @@ fn a_mark_goes_with_its_lock() {
     assert_eq!(s.notices, [1, 2, 4]);
     assert_eq!(s.release(1, 1, 0, b""), Ok(()), "a mark stops no release");
     assert_eq!(s.notices, [2, 4]);
-    assert_eq!(s.purge(2), Ok(2));
+    assert_eq!(s.purge(2), Ok(purged(2, 0, 0)), "a mark alone is no completion");
     assert_eq!(poll_all(&mut s), [(1, 5, 0), (1, 3, 0)]);
     assert_eq!(s.request(4, NL, 0, b"name"), Ok((Answer::Granted, 4)));
     assert_eq!(poll_all(&mut s), [], "a freed record keeps nothing");
     assert_sound(&s);
+}
+
+#[test]
+fn purge_counts_converting_and_waiting_locks_as_blocked() {
+    let mut s = state(4, 8);
+    requests(&mut s, &[PR, PR]);
+    s.request(2, EX, 0, b"other").unwrap();
+    assert_eq!(s.convert(1, 1, EX, 0, b""), Ok(Answer::Waits));
+    assert_eq!(s.request(1, CR, 0, b"other"), Ok((Answer::Waits, 4)));
+    assert_eq!(s.request(1, EX, 0, b"own"), Ok((Answer::Granted, 5)));
+    assert_eq!(s.request(1, EX, 0, b"own"), Ok((Answer::Waits, 6)), "for its client's own lock");
+    assert_eq!(s.purge(0), Err(Refused::CLIENT));
+    assert_eq!(s.purge(3), Ok(purged(0, 0, 0)));
+    assert_eq!(s.purge(1), Ok(purged(4, 3, 0)), "6 isn't granted on the way");
+    assert_eq!(s.purge(2), Ok(purged(2, 0, 0)), "2's and 3's marks are no completions");
+    assert_eq!((s.free_locks.len(), s.free_resources.len()), (8, 4));
+}
+
+/// Client 1 has a completion of each kind unread: the conversion of lock 1 was granted, request 4 denied, and the conversion of 5 denied.
+fn each_completion() -> State {
+    let mut s = state(4, 8);
+    requests(&mut s, &[NL, EX]);
+    assert_eq!(s.convert(1, 1, PR, 0, b""), Ok(Answer::Waits));
+    s.request(1, EX, 0, b"own").unwrap();
+    assert_eq!(s.request(1, EX, 0, b"own"), Ok((Answer::Waits, 4)));
+    assert_eq!(s.break_deadlock(), 4);
+    s.release(2, 2, 0, b"").unwrap();
+    assert_eq!(requests_on(&mut s, b"both", &[(1, PR), (1, PR)]), [(Answer::Granted, 2), (Answer::Granted, 5)]);
+    assert_eq!(s.convert(1, 5, EX, 0, b""), Ok(Answer::Waits));
+    assert_eq!(s.break_deadlock(), 5);
+    s
+}
+
+fn requests_on(state: &mut State, name: &[u8], requests: &[(u32, u32)]) -> Vec<(Answer, u32)> {
+    requests.iter().map(|(client, mode)| state.request(*client, *mode, 0, name).expect("accepted")).collect()
+}
+
+#[test]
+fn purge_counts_every_completion_as_unread() {
+    let mut s = each_completion();
+    assert_eq!([1, 4, 5].map(|lock| s.locks[&lock].completion()), [1, 2, 3]);
+    assert_eq!([2, 3].map(|lock| s.locks[&lock].mark_number()), [EX, EX], "marks alone, beside them");
+    assert_eq!(requests_on(&mut s, b"name", &[(2, EX), (1, NL)]), [(Answer::Waits, 6), (Answer::Granted, 7)]);
+    assert_eq!(requests_on(&mut s, b"name", &[(1, CR)]), [(Answer::Waits, 8)]);
+    assert_eq!(s.purge(1), Ok(purged(7, 1, 3)), "8 is blocked; 2, 3 and 7 are neither");
+    assert_eq!(s.purge(2), Ok(purged(1, 0, 1)), "6 was granted by the sweep");
+}
+
+#[test]
+fn a_completion_that_was_polled_is_not_counted() {
+    let mut s = each_completion();
+    let told: Vec<u32> = poll_all(&mut s).iter().map(|(completion, ..)| *completion).collect();
+    assert_eq!(told, [0, 2, 1, 0, 3]);
+    assert_eq!(s.purge(1), Ok(purged(4, 0, 0)), "4 was freed by its poll");
+}
+
+/// Answers 2 are the locks now blocked, the completions unread, the polls with one, the accepted cancels and purge's last two counts.
+#[test]
+fn every_blocked_call_is_heard_of_once() {
+    let mut s = state(1, 8);
+    let waits = requests(&mut s, &[EX, EX, PR, PR, CR, EX]).iter().filter(|answer| **answer == Answer::Waits).count();
+    assert_eq!(waits, 5);
+    assert_eq!(s.cancel(6, 6), Ok(2));
+    assert_eq!(s.purge(2), Ok(purged(1, 1, 0)));
+    s.release(1, 1, 0, b"").unwrap();
+    assert_eq!(s.poll(3), Ok(Polled { completion: 1, lock: 3, mark: 0 }));
+    assert_eq!(s.purge(4), Ok(purged(1, 0, 1)));
+    assert_eq!(s.locks.values().filter(|lock| lock.unread()).count(), 1, "and 5's is left: 1 + 1 + 1 + 1 + 1");
+    assert!(s.blocked.is_empty());
 }
 
 /// Sound tables with a mark, in which lock 1 is granted and lock 2 waits, and a word of a lock changed.

@@ -94,6 +94,18 @@ pub enum Cancelled {
     Request,
 }
 
+/// What a purge freed. No lock is in both of the last two numbers. Their sum is how many calls of the client were still open: they answered
+/// [`Outcome::Waiting`], and no poll will tell of them any more.
+#[derive(Clone, Copy, Debug, PartialEq, Eq)]
+pub struct Purged {
+    /// How many locks, in whatever state.
+    pub locks: u32,
+    /// How many of them were blocked: converting, or waiting.
+    pub blocked: u32,
+    /// How many of them had a completion unread: their waits had ended, by a grant or a denial. A mark alone doesn't count.
+    pub unread: u32,
+}
+
 /// How a blocked call ended.
 #[derive(Clone, Copy, Debug, PartialEq, Eq)]
 pub enum Completion {

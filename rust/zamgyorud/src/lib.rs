@@ -33,6 +33,6 @@ pub mod raw;
 mod shown;
 mod tables;
 
-pub use answers::{Cancelled, Completion, Entry, Flags, Mode, Notice, Outcome, Queue, Refusal, Value};
+pub use answers::{Cancelled, Completion, Entry, Flags, Mode, Notice, Outcome, Purged, Queue, Refusal, Value};
 pub use shown::{Lock, Resource};
 pub use tables::{Tables, holder};

@@ -3,8 +3,9 @@
 //! These functions are safe: a slice is a pointer and a length that belong together, which is all that the library asks for. Every content of
 //! tables, names and values is allowed; what isn't right is refused. For typed answers see [`Tables`](crate::Tables).
 
-/// What a call answers, except [`sound`] and [`holder`]: C's `struct zamgyorud_answer`. With the highest bit set it is a refusal, whose number is
-/// below. Otherwise bits 0 to 15 are the result, bits 16 to 31 the lock, and bits 32 to 47 the mark.
+/// What a call answers, except [`sound`] and [`holder`]: C's `struct zamgyorud_answer`. With the highest bit set it is a refusal, whose
+/// number is below. Otherwise bits 0 to 15 are the result, bits 16 to 31 the lock, and bits 32 to 47 the mark; of [`purge`] they are its
+/// three counts.
 ///
 /// ```
 /// # use zamgyorud::raw::Answer;
@@ -12,6 +13,8 @@
 /// assert_eq!((waiting.refusal(), waiting.result(), waiting.lock(), waiting.mark()), (0, 2, 3, 0));
 /// let polled = Answer { bits: 5 << 32 | 1 << 16 };
 /// assert_eq!((polled.refusal(), polled.result(), polled.lock(), polled.mark()), (0, 0, 1, 5));
+/// let purged = Answer { bits: 1 << 32 | 2 << 16 | 5 };
+/// assert_eq!((purged.refusal(), purged.result(), purged.purged_blocked(), purged.purged_unread()), (0, 5, 2, 1));
 /// let refused = Answer { bits: 1 << 63 | 13 };
 /// assert_eq!((refused.refusal(), refused.result(), refused.lock(), refused.mark()), (13, 0, 0, 0));
 /// ```
@@ -42,13 +45,25 @@ impl Answer {
         self.number(0)
     }
 
-    /// The lock that request gives, break has denied or poll tells of; 0 for all other calls, and if it was refused.
+    /// The lock that request gives, break has denied or poll tells of; 0 for all other calls but purge, of whose answer this is the second
+    /// count and no lock, and if it was refused.
     pub fn lock(self) -> u32 {
         self.number(16)
     }
 
-    /// The mark that poll tells of, a mode from 1 to 5; 0 if the lock has none, for all other calls, and if it was refused.
+    /// The mark that poll tells of, a mode from 1 to 5; 0 if the lock has none, for all other calls but purge, of whose answer this is the
+    /// third count and no mark, and if it was refused.
     pub fn mark(self) -> u32 {
+        self.number(32)
+    }
+
+    /// How many of the locks that purge freed were blocked; 0 if it was refused. Of any other call's answer this means nothing.
+    pub fn purged_blocked(self) -> u32 {
+        self.number(16)
+    }
+
+    /// How many of the locks that purge freed had a completion unread; 0 if it was refused. Of any other call's answer this means nothing.
+    pub fn purged_unread(self) -> u32 {
         self.number(32)
     }
 }
@@ -222,7 +237,7 @@ pub fn cancel(words: &mut [u32], slots: &[u8], client: u32, lock: u32) -> Answer
     call!(zamgyorud_cancel(mut [words], [slots], client, lock))
 }
 
-/// All locks of a client are freed.
+/// All locks of a client are freed: how many, how many of them blocked, and how many with a completion unread.
 pub fn purge(words: &mut [u32], slots: &mut [u8], client: u32) -> Answer {
     call!(zamgyorud_purge(mut [words], mut [slots], client))
 }

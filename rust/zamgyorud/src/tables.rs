@@ -1,6 +1,6 @@
 //! Tables that own their words and slots, and the calls on them.
 
-use crate::answers::{Cancelled, Completion, Entry, Flags, Mode, Notice, Outcome, Queue, Refusal, Value};
+use crate::answers::{Cancelled, Completion, Entry, Flags, Mode, Notice, Outcome, Purged, Queue, Refusal, Value};
 use crate::layout::{self, MOST_LOCKS, VALUE_BYTES, WORD_BYTES, header};
 use crate::raw;
 
@@ -71,6 +71,11 @@ fn completion(number: u32) -> Option<Completion> {
 /// A notice from what poll answers: lock 0 says that there is none.
 fn notice(answer: raw::Answer) -> Option<Notice> {
     (answer.lock() != 0).then(|| Notice { lock: answer.lock(), completion: completion(answer.result()), mark: mark(answer.mark()) })
+}
+
+/// What a purge freed, from its three counts.
+fn purged(answer: raw::Answer) -> Purged {
+    Purged { locks: answer.result(), blocked: answer.purged_blocked(), unread: answer.purged_unread() }
 }
 
 /// A lock from the numbers of a list's entry.
@@ -207,22 +212,29 @@ impl Tables {
         })
     }
 
-    /// Frees all locks of a client: how many.
+    /// Frees all locks of a client: how many, how many of them were blocked, and how many had a completion unread.
+    ///
+    /// Each call that answers [`Outcome::Waiting`] is heard of once: by a poll with a completion, by an accepted cancel, or in one of the
+    /// last two numbers. Until then it is open.
     ///
     /// ```
-    /// # use zamgyorud::{Completion, Flags, Mode, Notice, Refusal, Tables};
+    /// # use zamgyorud::{Completion, Flags, Mode, Notice, Purged, Refusal, Tables};
     /// # fn main() -> Result<(), Refusal> {
     /// let mut tables = Tables::start(4, 8)?;
-    /// tables.request(1, Mode::Ex, Flags::NONE, b"vip-7")?;
-    /// tables.request(2, Mode::Ex, Flags::NONE, b"vip-7")?;
-    /// assert_eq!(tables.purge(1)?, 1);
-    /// assert_eq!(tables.poll(2)?, Some(Notice { lock: 2, completion: Some(Completion::Granted), mark: None }));
-    /// assert_eq!(tables.poll(2)?, None);
+    /// for (client, name) in [(1, b"vip-7"), (1, b"vip-8"), (2, b"vip-7"), (2, b"vip-8"), (3, b"vip-7")] {
+    ///     tables.request(client, Mode::Ex, Flags::NONE, name)?;
+    /// }
+    /// // Client 2 gets vip-7, and dies before it polls that. It still waits for vip-8. So two of its calls are open.
+    /// tables.release(1, 1, Flags::NONE, b"")?;
+    /// assert_eq!(tables.purge(2)?, Purged { locks: 2, blocked: 1, unread: 1 });
+    /// // Now client 3 has vip-7.
+    /// assert_eq!(tables.poll(3)?, Some(Notice { lock: 5, completion: Some(Completion::Granted), mark: None }));
+    /// assert_eq!(tables.poll(3)?, None);
     /// # Ok(())
     /// # }
     /// ```
-    pub fn purge(&mut self, client: u32) -> Result<u32, Refusal> {
-        number(raw::purge(&mut self.words, &mut self.slots, client))
+    pub fn purge(&mut self, client: u32) -> Result<Purged, Refusal> {
+        accepted(raw::purge(&mut self.words, &mut self.slots, client)).map(purged)
     }
 
     /// If there is a deadlock, denies the one of its requests that has been blocked the longest: its lock.

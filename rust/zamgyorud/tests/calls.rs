@@ -1,7 +1,7 @@
 //! The wrapper over the library: every call, its answers and its refusals.
 
 use zamgyorud::layout::{self, MOST_LOCKS, MOST_RESOURCES, NAME_BYTES, VALUE_BYTES};
-use zamgyorud::{Cancelled, Completion, Flags, Mode, Notice, Outcome, Queue, Refusal, Tables, holder};
+use zamgyorud::{Cancelled, Completion, Flags, Mode, Notice, Outcome, Purged, Queue, Refusal, Tables, holder};
 
 fn tables() -> Tables {
     Tables::start(4, 8).expect("sizes in range")
@@ -24,6 +24,11 @@ fn ended(lock: u32, completion: Completion) -> Option<Notice> {
 /// The notice that a lock is in the way, with no completion.
 fn in_the_way(lock: u32, mode: Mode) -> Option<Notice> {
     Some(Notice { lock, completion: None, mark: Some(mode) })
+}
+
+/// What a purge answers.
+fn purged(locks: u32, blocked: u32, unread: u32) -> Result<Purged, Refusal> {
+    Ok(Purged { locks, blocked, unread })
 }
 
 #[test]
@@ -100,8 +105,27 @@ fn deadlocks_and_cancels() {
     assert_eq!(t.break_deadlock(), Ok(Some(3)));
     assert_eq!(t.poll(1), Ok(in_the_way(1, Mode::Ex)));
     assert_eq!(t.poll(1), Ok(ended(3, Completion::RequestDenied)));
-    assert_eq!(t.purge(1), Ok(1));
-    assert_eq!(t.purge(9), Ok(0));
+    assert_eq!(t.purge(1), purged(1, 0, 0));
+    assert_eq!(t.purge(9), purged(0, 0, 0));
+}
+
+/// Lock 1 holds PR and waits for EX, behind lock 2; locks 3 to 5 of client 1 wait behind it. Lock 6 holds RES-B for client 1, and has a
+/// mark for lock 7, whose request is denied. The last purge finds a lock with a completion unread and none blocked.
+#[test]
+fn a_purge_counts_the_calls_that_are_open() {
+    let mut t = requested(&[Mode::Pr, Mode::Pr]);
+    assert_eq!(t.convert(1, 1, Mode::Ex, Flags::NONE, b""), Ok(Outcome::Waiting));
+    for lock in 3..=5 {
+        assert_eq!(t.request(1, Mode::Nl, Flags::NONE, b"RES-A"), Ok((Outcome::Waiting, lock)));
+    }
+    assert_eq!(t.request(1, Mode::Ex, Flags::NONE, b"RES-B"), Ok((Outcome::Granted, 6)));
+    assert_eq!(t.request(1, Mode::Ex, Flags::NONE, b"RES-B"), Ok((Outcome::Waiting, 7)));
+    assert_eq!(t.break_deadlock(), Ok(Some(7)));
+    assert_eq!(t.request(2, Mode::Cr, Flags::NONE, b"RES-B"), Ok((Outcome::Waiting, 8)));
+    assert_eq!((t.purge(0), t.purge(256)), (Err(Refusal::Client), Err(Refusal::Client)));
+    assert_eq!(t.purge(1), purged(6, 4, 1));
+    assert_eq!((t.purge(1), t.poll(1)), (purged(0, 0, 0), Ok(None)));
+    assert_eq!(t.purge(2), purged(2, 0, 1));
 }
 
 /// Lock 1 holds PR, and lock 2 waits for EX. PR fits what is held, but waits behind lock 2; NL passes it, and a conversion does.
@@ -123,7 +147,7 @@ RES-A (value valid)
               lock 3, client 3, PR
 ";
     assert_eq!(t.to_string(), drawn);
-    assert_eq!((t.purge(1), t.purge(4)), (Ok(1), Ok(1)));
+    assert_eq!((t.purge(1), t.purge(4)), (purged(1, 0, 0), purged(1, 0, 0)));
     assert_eq!((t.poll(2), t.poll(3)), (Ok(ended(2, Completion::Granted)), Ok(None)));
     assert_eq!(t.release(2, 2, Flags::NONE, b""), Ok(()));
     assert_eq!(t.poll(3), Ok(ended(3, Completion::Granted)));
@@ -148,7 +172,7 @@ fn marks_are_set_raised_and_polled() {
     assert_eq!((t.poll(1), t.poll(1)), (Ok(in_the_way(1, Mode::Ex)), Ok(None)));
     // A mark stops no conversion and stays with the lock, also where nobody waits any more.
     assert_eq!(t.convert(2, 2, Mode::Nl, Flags::NONE, b""), Ok(Outcome::Granted));
-    assert_eq!(t.purge(3), Ok(3));
+    assert_eq!(t.purge(3), purged(3, 3, 0));
     assert_eq!((t.poll(2), t.poll(2)), (Ok(in_the_way(2, Mode::Ex)), Ok(None)));
 }
 
@@ -167,7 +191,7 @@ RES-A (value valid)
 ";
     assert_eq!(t.to_string(), drawn);
     assert_eq!((t.poll(2), t.poll(2)), (Ok(in_the_way(2, Mode::Ex)), Ok(None)));
-    assert_eq!(t.purge(2), Ok(1));
+    assert_eq!(t.purge(2), purged(1, 1, 0));
     assert_eq!(t.poll(1), Ok(Some(Notice { lock: 1, completion: Some(Completion::Granted), mark: Some(Mode::Pw) })));
     assert_eq!(t.release(1, 1, Flags::NONE, b""), Ok(()));
 }
@@ -262,7 +286,7 @@ fn parts_go_both_ways() {
     let mut again = Tables::from_parts(words, slots).expect("sound");
     assert_eq!(again, t);
     // What comes back is the whole state: the same call does the same to both.
-    assert_eq!((again.purge(1), t.purge(1)), (Ok(1), Ok(1)));
+    assert_eq!((again.purge(1), t.purge(1)), (purged(1, 0, 0), purged(1, 0, 0)));
     assert_eq!(again, t);
     assert_eq!(again.poll(2), Ok(ended(2, Completion::Granted)));
 }

@@ -8,10 +8,12 @@ purge-own-spec =
     tie.close
     (tie.spec
     (λ c κs. search own-laws)
+    (λ c κs. search needs)
     (λ c. search needs)
     (λ c. search own-laws)
     (λ c κs. search needs)
     (λ c. search own-laws)
+    (λ c κs. search needs)
     (λ c κs. search needs)
     (λ c. search needs)
     (λ c. search needs)
