@@ -29,7 +29,8 @@ STOREYS = [
         'check_queues check_tables', 'check_chains check_names', 'check_resources check_locks', 'check_laws'])],
      'right': [Layer('calls', '#cfe2f7', '#2063a8', [
          'call_arguments call_refusals call_convert - -', 'call_start call_request call_purge call_release call_notice']),
-               Layer('queues and deadlock', '#dfd6f2', '#6b47b5', ['- queues marks deadlock_prune deadlock_search', '- flags - deadlock_graph -'])]},
+               Layer('queues and deadlock', '#dfd6f2', '#6b47b5', [
+                   '- queues marks deadlock_prune deadlock_search', '- flags - deadlock_lines deadlock_owners', '- - - deadlock_graph -'])]},
     {'all': [Layer('the tables in place', '#fbe3c4', '#a86008', ['- table_names - table_chains -', '- table_bytes - table_fields -'])]},
     {'all': [Layer('definitions and laws', '#e4e4e4', '#5a5a5a', ['modes tables rules answers queue_theorem'])]},
 ]

@@ -57,10 +57,10 @@
  *      start, image, load                linear in R and L
  *      request, holder                   linear in R and L: each name is compared with the one given
  *      convert, release, cancel, purge   quadratic in L: linear for each lock that is freed or granted
- *      break                             cubic in L: a search from each blocked lock over all blocked locks, and their holders
+ *      break                             quadratic in L: passes and searches, each linear in R and L, until none rules out a lock any more
  *
  * Measured with R 256 and L 1,024 on one machine: most calls take 5 to 10 us. At worst, names that look alike add 30 us, a request with 1,022 locks in
- * its way takes 20 us, a release that grants 1,023 locks takes 4 ms, and a break takes 1 s.
+ * its way takes 20 us, a release that grants 1,023 locks takes 4 ms, and a break takes 9 to 12 ms.
  */
 #ifndef ZAMGYORUD_H
 #define ZAMGYORUD_H
@@ -95,7 +95,7 @@ extern "C" {
 /* The bytes of stack that a call needs at most, with some margin: measured on x86-64 (tests/stack_test.c), not proved. A signal handler that runs on
  * the same stack comes on top, and so does the loader, at the first call of a function of the shared library. Load and holder of an image of
  * R 4 and L 8 need no more than the others. */
-#define ZAMGYORUD_STACK_BREAK(l) (16384 + 496 * (size_t)(l)) /* on tables of L locks: 512 KB for 1,024 */
+#define ZAMGYORUD_STACK_BREAK(l) (20480 + 184 * (size_t)(l)) /* on tables of L locks: 204 KB for 1,024 */
 #define ZAMGYORUD_STACK_LOAD 73728
 #define ZAMGYORUD_STACK_HOLDER 73728
 #define ZAMGYORUD_STACK_OTHERS 8192

@@ -1,6 +1,7 @@
 /* Measures the stack of every call and holds it to what zamgyorud.h says. Each call is made in a thread whose stack was painted before; what is no
- * longer painted after the call was used. The tables are the largest ones, and for break also smaller ones, with the deepest search that there is.
- * Prints the bytes of each call by the tables' sizes and 'stack: N calls as told', or which call needs more, and then the exit status is 1.
+ * longer painted after the call was used. The tables are the largest ones, and for break also smaller ones, with the deepest search that there is,
+ * along a line, and with one that is deep by owners: its arrays have three sizes, for up to 32, 256 and 1,024 locks. Prints the bytes of each call by
+ * the tables' sizes, those of a level of break's recursion and 'stack: N calls as told', or which call needs more, and then the exit status is 1.
  */
 #define _XOPEN_SOURCE 700
 #include <pthread.h>
@@ -22,6 +23,7 @@ static uint8_t value[ZAMGYORUD_VALUE_BYTES];
 static struct zamgyorud_tables tables;
 static uint32_t resources;
 static uint32_t locks;
+static uint32_t denied;
 
 static uint8_t *stack;
 static size_t used;
@@ -171,8 +173,8 @@ static void sound(void)
 
 static void break_deadlock(void)
 {
-    if (zamgyorud_lock(zamgyorud_tables_break(&tables)) != locks)
-        fail("break doesn't deny the first conversion");
+    if (zamgyorud_lock(zamgyorud_tables_break(&tables)) != denied)
+        fail("break doesn't deny the first lock on the blocked chain");
 }
 
 static void break_nothing(void)
@@ -212,27 +214,64 @@ static void measure_calls(uint32_t r, uint32_t l, size_t most_load, size_t most_
     putchar('\n');
 }
 
-/* The deepest search: all locks are blocked, and it passes each of them. Numbers go down along the queues, and a search goes to the lowest number
- * first. Two clients hold PR and convert to EX; all others wait, the last of them for the second client. */
-static void measure_break(uint32_t l)
+/* The client of lock k in the deepest search. The last holder is client 1's. */
+static uint32_t deep_client(uint32_t k, uint32_t l)
+{
+    return k + 1 == l ? 1 : 2 + k % 250;
+}
+
+/* The deepest search: all locks are blocked, and it passes each of them. Client 1 and others hold CR; client 1 waits for EX behind them, and then all
+ * convert to EX. So the lock that waits is the first on the blocked chain and the last of the line: the search goes from it along the whole line, and
+ * at the first conversion it looks at all holders, until it finds it again as a lock of client 1. Answers the bytes. */
+static size_t measure_break(uint32_t l)
 {
     uint32_t k;
 
     resize(MOST_R, l);
     start();
-    for (k = 1; k <= l; k++)
-        accepted(zamgyorud_tables_request(&tables, 1, ZAMGYORUD_MODE_NL, 0, (const uint8_t *)"A", 1));
-    for (k = 1; k <= l; k++) /* what is freed last is taken first */
-        accepted(zamgyorud_tables_release(&tables, 1, k, 0, NULL, 0));
-    for (k = 1; k <= 2; k++)
-        accepted(zamgyorud_tables_request(&tables, k, ZAMGYORUD_MODE_PR, 0, (const uint8_t *)"A", 1));
-    for (k = 1; k <= 2; k++)
-        accepted(zamgyorud_tables_convert(&tables, k, l + 1 - k, ZAMGYORUD_MODE_EX, 0, NULL, 0));
-    for (k = 3; k < l; k++)
-        accepted(zamgyorud_tables_request(&tables, 3 + k % 250, ZAMGYORUD_MODE_EX, 0, (const uint8_t *)"A", 1));
-    accepted(zamgyorud_tables_request(&tables, 2, ZAMGYORUD_MODE_EX, 0, (const uint8_t *)"A", 1));
+    for (k = 1; k < l; k++)
+        accepted(zamgyorud_tables_request(&tables, deep_client(k, l), ZAMGYORUD_MODE_CR, 0, (const uint8_t *)"A", 1));
+    accepted(zamgyorud_tables_request(&tables, 1, ZAMGYORUD_MODE_EX, 0, (const uint8_t *)"A", 1));
+    for (k = 1; k < l; k++)
+        accepted(zamgyorud_tables_convert(&tables, deep_client(k, l), k, ZAMGYORUD_MODE_EX, 0, NULL, 0));
+    denied = l;
     measure("break in a deadlock", break_deadlock, ZAMGYORUD_STACK_BREAK(l));
     putchar('\n');
+    return used;
+}
+
+/* A client asks for EX on name k. */
+static void circle_request(uint32_t client, uint32_t k)
+{
+    const uint8_t name[1] = {(uint8_t)k};
+
+    accepted(zamgyorud_tables_request(&tables, client, ZAMGYORUD_MODE_EX, 0, name, sizeof name));
+}
+
+/* A search that goes deep by owners, and not along a line: each of so many clients holds EX on a name of its own and waits for that of the next, the
+ * last for that of the first. The first that waits is denied: its lock has the number after those that are held. */
+static void measure_circle(uint32_t clients, uint32_t l)
+{
+    uint32_t k;
+
+    resize(MOST_R, l);
+    start();
+    for (k = 0; k < clients; k++)
+        circle_request(k + 1, k);
+    for (k = 0; k < clients; k++)
+        circle_request(k + 1, (k + 1) % clients);
+    denied = clients + 1;
+    measure("break in a circle of owners", break_deadlock, ZAMGYORUD_STACK_BREAK(l));
+    putchar('\n');
+}
+
+/* The deepest search on tables of two sizes, for which the call has the same arrays: what they differ in is the recursion's. */
+static void measure_levels(uint32_t few, uint32_t many)
+{
+    const size_t least = measure_break(few);
+    const size_t most = measure_break(many);
+
+    printf("stack, L %lu to %lu: %lu bytes a level\n", (unsigned long)few, (unsigned long)many, (unsigned long)((most - least) / (many - few)));
 }
 
 int main(void)
@@ -245,8 +284,13 @@ int main(void)
     measure_calls(MOST_R, MOST_L, ZAMGYORUD_STACK_LOAD, ZAMGYORUD_STACK_HOLDER);
     measure_break(3);
     measure_break(8);
-    measure_break(256);
-    measure_break(MOST_L);
+    measure_break(32);
+    measure_levels(33, 256);
+    measure_levels(257, MOST_L);
+    measure_circle(16, 32);
+    measure_circle(128, 256);
+    measure_circle(250, 500);
+    measure_circle(250, MOST_L);
     free(stack);
     if (failed == 0)
         printf("stack: %u calls as told\n", measured);

@@ -3,4 +3,7 @@ pub mod SameVictim
 pub mod SeenChains
 pub mod LockWords
 pub mod LineAhead
+pub mod NearestLocks
+pub mod HolderWalks
+pub mod LinkLaws
 pub mod Marks

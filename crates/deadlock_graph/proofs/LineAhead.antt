@@ -1,4 +1,4 @@
--- Who stands ahead of a blocked lock, on its resource's line, and who is in its way.
+-- Who stands ahead of a blocked lock, on its resource's line.
 use mathlib.Core.Path.{_≡_, refl, sym, ap, _∙_}
 use mathlib.Core.Logic.{_≢_}
 use mathlib.Core.Bool.{true, false}
@@ -7,14 +7,13 @@ use Prim.Native.Nat.{ℕ, _≤_}
 use native.Mathlib.Omega.{arith}
 use lib.Dec.{eqb, leb}
 use borrow.Author.Tests.{eqb-true, eq-eqb, ne-eqb, leb-true, leb-false}
-use Rattle.tables.specs.Lists.{count, any, keep}
+use Rattle.tables.specs.Lists.{count, any}
 use Rattle.tables.specs.State.{Tables, lock, resource, converting, waiting, blocked-lock, converts, waits, queue}
-use Rattle.tables.specs.Grants.{holders}
 use Rattle.tables.proofs.Cases.{by-cases, by-equal, clash, eqb-same}
 use Rattle.tables.proofs.Counts.{count-nil, count-same, count-other, count-append, any-has}
 use Rattle.tables.specs.Validity.{Core, line}
 use Rattle.tables.proofs.ChainMembers.{state-within, chain-has, on-converts, blocked-place}
-use Rattle.rules.specs.Deadlock.{in-the-way, before, ahead, obstacles}
+use Rattle.rules.specs.Deadlock.{before, ahead}
 use Rattle.deadlock_graph.proofs.SameVictim.{Alike}
 
 -- ---- who stands before a member
@@ -37,7 +36,7 @@ before-in k (x ∷ xs) ys m =
     (λ e. before-here k x (xs ++ ys) e ∙ sym (before-here k x xs e))
     (λ e. before-past k x (xs ++ ys) e ∙ ap (λ zs. x ∷ zs) (before-in k xs ys (rw (count-other k x xs e) at m)) ∙ sym (before-past k x xs e))
 
-before-off : (k : ℕ) (xs ys : List ℕ) → count k xs ≡ 0 → before k (xs ++ ys) ≡ xs ++ before k ys
+pub before-off : (k : ℕ) (xs ys : List ℕ) → count k xs ≡ 0 → before k (xs ++ ys) ≡ xs ++ before k ys
 before-off k [] ys m = refl
 before-off k (x ∷ xs) ys m =
     by-equal k x
@@ -87,9 +86,3 @@ module _ (t : Tables) (c : Core t) where
 pub line-alike : (t u : Tables) → Alike t u → (r : ℕ) → line u r ≡ line t r
 unfolding line
 line-alike t u a r = rw (a .queues converts r, a .queues waits r)
-
--- ---- the holders in a lock's way
-
-pub obstacles-are : (t : Tables) (a : ℕ) → obstacles t a ≡ keep (in-the-way t a) (resource t (lock t a .resource) .grant ++ resource t (lock t a .resource) .convert)
-unfolding obstacles holders in-the-way
-obstacles-are t a = refl

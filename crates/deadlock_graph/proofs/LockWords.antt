@@ -11,21 +11,18 @@ use Rattle.modes.specs.Modes.{compatible}
 use Rattle.tables.specs.Lists.{within, count}
 use Rattle.tables.specs.declared.Lock.{Lock}
 use Rattle.tables.specs.State.{Tables, lock, blocked-lock, blocked}
-use Rattle.tables.specs.Layout.{of-lock, resources-in, locks-in, word-in, read-lock, of-resource}
+use Rattle.tables.specs.Layout.{of-lock, resources-in, locks-in, word-in, read-lock}
 use Rattle.tables.proofs.Counts.{within-le}
 use Rattle.tables.specs.Validity.{used, Core}
 use Rattle.tables.proofs.Valid.{used-within, blocked-lock-place}
 use Rattle.tables.proofs.ChainMembers.{on-chain, chain-has, blocked-within}
 use Rattle.rules.specs.Deadlock.{in-the-way, owner}
-use Rattle.table_fields.specs.Sizes.{Sized}
 use Rattle.table_fields.proofs.StateWords.{resources-is, locks-is}
 use Rattle.table_chains.specs.Contracts.{Some}
-use Rattle.table_chains.specs.Walking.{At, Walking}
-use Rattle.table_chains.proofs.ChainWalks.{some-sized, grants-walk, converts-walk}
+use Rattle.table_chains.specs.Walking.{At}
 use Rattle.table_chains.proofs.LockLimits as limits
 use Rattle.table_chains.proofs.LockLimits.{at-sized, held-mode, asked-mode}
 use Rattle.deadlock_graph.specs.Contracts.{seen, Blocked}
-use Rattle.deadlock_graph.specs.Owners.{Owned, owner-places}
 use Rattle.deadlock_graph.proofs.SameVictim.{Alike, alike}
 
 -- the state that the words tell is like that whose words they are
@@ -46,9 +43,6 @@ module _ (ws : List ℕ) (s : Some Core ws) (k : ℕ) where
   same-lock : lock (seen ws) k ≡ lock t k
   same-lock = some-alike ws s .locks k
 
-  pub client-few : lock (seen ws) k .client < owner-places
-  client-few = rw same-lock (limits.client-few t (s .good) k)
-
   pub held-few : lock (seen ws) k .held < 6
   held-few = rw same-lock (limits.held-few t (s .good) k)
 
@@ -68,6 +62,10 @@ module _ (ws : List ℕ) (k : ℕ) (a : At ws k) where
   unfolding read-lock
   client-told = ap (λ (l : Lock). l .client) lock-seen
 
+  pub state-told : word-in ws (of-lock k 5) ≡ lock (seen ws) k .state
+  unfolding read-lock
+  state-told = ap (λ (l : Lock). l .state) lock-seen
+
   pub held-told : word-in ws (of-lock k 6) ≡ lock (seen ws) k .held
   unfolding read-lock
   held-told = ap (λ (l : Lock). l .held) lock-seen
@@ -77,10 +75,8 @@ module _ (ws : List ℕ) (k : ℕ) (a : At ws k) where
   asked-told = ap (λ (l : Lock). l .asked) lock-seen
 
   -- its owner
-  pub owner-known : (x r : ℕ) → x ≡ word-in ws (of-lock k 4) → (r ≡ x) × (r < 2 ^ 32) → Owned ws k r
-  owner-known x r e h =
-      let is : r ≡ owner (lock (seen ws) k) = h .0 ∙ e ∙ client-told in
-      record { is = is; few = rw is (client-few ws (a .some) k) }
+  pub owner-known : (x r : ℕ) → x ≡ word-in ws (of-lock k 4) → (r ≡ x) × (r < 2 ^ 32) → r ≡ owner (lock (seen ws) k)
+  owner-known x r e h = h .0 ∙ e ∙ client-told
 
 -- whether j is in a's way
 pub way-known : (ws : List ℕ) (a j x y : ℕ) (g : Bool) → At ws a → At ws j → x ≡ word-in ws (of-lock j 6) → y ≡ word-in ws (of-lock a 7) → g ≡ compatible x y
@@ -117,37 +113,12 @@ module _ (ws : List ℕ) (k : ℕ) where
       let w = within-le (length (s .state .resources)) (lock (s .state) k .resource) (used-within (s .state) _ (blocked-used s (blocked-there s (b .stands) .1))) in
       rw (same-lock ws s k) (w .0, omega (arith, w .1, resources-told ws s))
 
-  pub blocked-resource : (x : ℕ) → Blocked ws k → x ≡ word-in ws (of-lock k 3) → (1 ≤ x) × (x ≤ resources-in ws)
-  blocked-resource x b e = rw (e ∙ resource-told ws k (blocked-at b)) (blocked-home b)
-
 -- ---- what a read of a word asks for
-
-pub owner-place : {ws : List ℕ} {k x : ℕ} (o : List Bool) → Owned ws k x → length o ≡ owner-places → x < length o
-owner-place o w e = omega (arith, w .few)
-
-pub blocked-sized : {ws : List ℕ} {a : ℕ} → Blocked ws a → Sized ws
-blocked-sized b = some-sized (b .some)
 
 pub blocked-stands : {ws : List ℕ} {a : ℕ} → Blocked ws a → At ws a
 blocked-stands {ws} {a} b = blocked-at ws a b
 
 pub blocked-low : {ws : List ℕ} {a : ℕ} → Blocked ws a → 1 ≤ a
 blocked-low {ws} {a} b = blocked-at ws a b .low
-
-pub blocked-high : {ws : List ℕ} {a : ℕ} → Blocked ws a → a ≤ locks-in ws
-blocked-high {ws} {a} b = blocked-at ws a b .high
-
-module _ {ws : List ℕ} {a r : ℕ} (b : Blocked ws a) (e : r ≡ word-in ws (of-lock a 3)) where
-  pub bar-low : 1 ≤ r
-  bar-low = blocked-resource ws a r b e .0
-
-  pub bar-high : r ≤ resources-in ws
-  bar-high = blocked-resource ws a r b e .1
-
-  pub bar-grants : {g : ℕ} → g ≡ word-in ws (of-resource r 1) → Walking ws 0 g
-  bar-grants h = grants-walk (b .some) (bar-low, bar-high) h
-
-  pub bar-converts : {g : ℕ} → g ≡ word-in ws (of-resource r 2) → Walking ws 0 g
-  bar-converts h = converts-walk (b .some) (bar-low, bar-high) h
 
 pub ruleset read-laws = (needs, at-sized, owner-known, held-mode, asked-mode, way-known)

@@ -9,6 +9,7 @@ use lib.ListN.{length, set, length-set}
 use lib.Seq.{getD-set-same, getD-set-other}
 use Rattle.tables.specs.Lists.{count}
 use Rattle.tables.proofs.Cases.{by-cases, by-equal}
+use Rattle.tables.proofs.Counts.{count-nil, count-other}
 use Rattle.rules.specs.Walks.{Walk, step, through}
 use Rattle.table_chains.specs.Marks.{marked}
 use Rattle.deadlock_graph.specs.Marks.{unmarked, Cleared}
@@ -36,6 +37,28 @@ pub unmarked-le : (xs : List ℕ) (m : List Bool) → unmarked xs m ≤ length x
 unfolding unmarked
 unmarked-le [] m = omega arith
 unmarked-le (x ∷ xs) m = by-cases (marked m x) (λ h. rw h (omega (arith, unmarked-le xs m))) (λ h. rw h (omega (arith, unmarked-le xs m)))
+
+pub unmarked-mono : (xs : List ℕ) (m m′ : List Bool) → Keeping m m′ → unmarked xs m′ ≤ unmarked xs m
+unfolding unmarked
+unmarked-mono [] m m′ k = omega arith
+unmarked-mono (x ∷ xs) m m′ k =
+    let rest = unmarked-mono xs m m′ k in
+    by-cases (marked m x)
+    (λ h. rw (h, k x h) (omega arith))
+    (λ h. rw h (by-cases (marked m′ x) (λ g. rw g (omega arith)) (λ g. rw g (omega arith))))
+
+pub unmarked-less : (xs : List ℕ) (m m′ : List Bool) → Keeping m m′ → (x : ℕ) → 1 ≤ count x xs → marked m x ≡ false → marked m′ x ≡ true → unmarked xs m′ < unmarked xs m
+unfolding unmarked
+unmarked-less [] m m′ k x l f t = absurd (omega (arith, count-nil x))
+unmarked-less (y ∷ xs) m m′ k x l f t =
+    by-equal x y
+    (λ e. let f′ : marked m y ≡ false = rw e at f in let t′ : marked m′ y ≡ true = rw e at t in
+    let rest = unmarked-mono xs m m′ k in rw (f′, t′) (omega arith))
+    (λ e.
+    let rest = unmarked-less xs m m′ k x (rw (count-other x y xs e) at l) f t in
+    by-cases (marked m y)
+    (λ h. rw (h, k y h) (omega arith))
+    (λ h. rw h (by-cases (marked m′ y) (λ g. rw g (omega arith)) (λ g. rw g (omega arith)))))
 
 -- ---- cleared nodes
 

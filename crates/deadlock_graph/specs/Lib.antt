@@ -1,3 +1,5 @@
 pub mod Contracts
-pub mod Owners
 pub mod Marks
+pub mod Holders
+pub mod Hops
+pub mod Links

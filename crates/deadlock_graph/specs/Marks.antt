@@ -8,7 +8,7 @@ use Rattle.rules.specs.Walks.{Walk}
 use Rattle.table_fields.specs.Sizes.{lock-places}
 use Rattle.table_chains.specs.Marks.{marked}
 
--- how many of the nodes have none
+-- how many of the nodes have no mark
 unfoldable pub unmarked : List ℕ → List Bool → ℕ
 unmarked [] m = 0
 unmarked (x ∷ xs) m = cond (marked m x) (unmarked xs m) (suc (unmarked xs m))

@@ -1,5 +1,9 @@
 -- What the proofs of several functions use.
-pub mod BusyOwners
-pub mod OwnersInTheWay
-pub mod ClearedLines
+pub mod ClearedBehind
+pub mod BlockedWalks
+pub mod ClearedLocks
 pub mod LocksLeft
+pub mod FrontPasses
+pub mod WantedOwners
+pub mod BackPasses
+pub mod FreeLines

@@ -1,30 +1,30 @@
 -- The count of the locks that are left, and pass after pass: a law for each return, turn and call.
-use mathlib.Core.Path.{_≡_, refl, ap, _∙_}
+use mathlib.Core.Path.{_≡_, refl, sym, ap, _∙_}
 use mathlib.Core.Logic.{_≢_}
-use mathlib.Core.Bool.{Bool, true, false, _&&_, not}
+use mathlib.Core.Bool.{Bool, true, false, _||_, not}
 use mathlib.Core.List.{List}
 use Prim.Native.Nat.{ℕ, suc, _+_, _≤_, _<_, _^_}
 use native.Mathlib.Omega.{arith}
 use lib.ListN.{getD, length}
-use lib.Dec.{eqb, ltb}
-use borrow.Author.Tests.{ltb-true, not-true, not-false}
+use borrow.Author.Tests.{not-true, not-false}
 use borrow.Author.Needs.{needs}
+use Rattle.tables.specs.Lists.{bit}
 use Rattle.tables.specs.Layout.{of-header, of-lock, word-in, onward}
-use Rattle.tables.proofs.Cases.{and-left}
 use Rattle.tables.specs.Validity.{Core}
 use Rattle.tables.specs.State.{most-locks}
-use Rattle.rules.specs.Deadlock.{leads}
 use Rattle.table_fields.specs.Sizes.{lock-places}
 use Rattle.table_chains.specs.Contracts.{Some}
-use Rattle.table_chains.specs.Walking.{Walking}
-use Rattle.table_chains.proofs.ChainWalks.{some-sized, walk-splits, walk-ends, blocked-walks, walk-short, walk-sized, walk-low, walk-high, walk-stands, walk-less, walk-on}
-use Rattle.deadlock_graph.specs.Contracts.{seen}
 use Rattle.table_chains.specs.Marks.{marked}
-use Rattle.deadlock_graph.specs.Marks.{unmarked, Cleared}
-use Rattle.deadlock_graph.proofs.SeenChains.{blocked-seen}
+use Rattle.table_chains.specs.Walking.{Walking}
+use Rattle.table_chains.proofs.ChainWalks.{some-sized, walk-splits, walk-ends, blocked-walks, walk-stands, walk-less, walk-on}
+use Rattle.deadlock_graph.specs.Contracts.{seen}
+use Rattle.deadlock_graph.specs.Links.{Linked}
+use Rattle.deadlock_graph.specs.Marks.{unmarked}
 use Rattle.deadlock_graph.proofs.Marks.{unmarked-le}
+use Rattle.deadlock_graph.proofs.SeenChains.{blocked-seen, blocked-few}
 use Rattle.deadlock_prune.specs.Clearing.{Uncleared}
-use Rattle.deadlock_prune.proofs.BusyOwners.{mark-place}
+use Rattle.deadlock_prune.specs.BothEnds.{Ready, Passed}
+use Rattle.deadlock_prune.proofs.ClearedLocks.{mark-place}
 
 -- ---- how many are left
 
@@ -36,8 +36,7 @@ pub record Counting (ws : List ℕ) (m : List Bool) (n k : ℕ) : Type 0 where
   pub few : unmarked (seen ws .blocked) m ≤ most-locks
 
 left-few : {ws : List ℕ} (m : List Bool) → Some Core ws → unmarked (seen ws .blocked) m ≤ most-locks
-left-few {ws} m s =
-    omega (arith, unmarked-le (seen ws .blocked) m, ap length (blocked-seen ws (word-in ws (of-header 5)) s refl), walk-short ws 1 (word-in ws (of-header 5)), some-sized s .few-locks)
+left-few {ws} m s = omega (arith, unmarked-le (seen ws .blocked) m, blocked-few ws s, some-sized s .few-locks)
 
 pub counting-starts : {ws : List ℕ} {k : ℕ} (m : List Bool) → Some Core ws → length m ≡ lock-places → k ≡ word-in ws (of-header 5) → Counting ws m 0 k
 counting-starts {ws} {k} m s l e =
@@ -68,7 +67,7 @@ module _ {ws : List ℕ} {m : List Bool} {n k : ℕ} (i : Counting ws m n k) whe
         unfolding unmarked marked
         split = rw (walk-splits ws 1 k (i .walks) e, not-true (getD m k false) f, h)
 
-        pub counting-fits : n + 1 < 2 ^ 32
+        pub counting-fits : n + 1 < 2 ^ 16
         counting-fits = omega (arith, i .whole, i .few, split)
 
         pub counting-again : Counting ws m (n + 1) x
@@ -80,27 +79,47 @@ module _ {ws : List ℕ} {m : List Bool} {n k : ℕ} (i : Counting ws m n k) whe
       let none : unmarked (onward ws 1 k) m ≡ 0 = rw (e, walk-ends ws 1) in
       omega (arith, i .whole)
 
-pub ruleset count-laws = (needs, some-sized, walk-sized, walk-low, walk-high, walk-less, counting-starts, counting-place, counting-number, counting-past, counting-fits, counting-again, counting-ends)
+pub ruleset count-laws = (needs, walk-less, counting-starts, counting-place, counting-number, counting-past, counting-fits, counting-again, counting-ends)
 
 -- ---- pass after pass
 
--- n blocked locks are left; m₀ are the marks before the first pass
-pub record Passes (ws : List ℕ) (m₀ m : List Bool) (n : ℕ) : Type 0 where
-  pub left : Uncleared ws m n
+pub bit-or : (a b : Bool) → bit (a || b) ≤ bit a + bit b
+bit-or true b = omega arith
+bit-or false b = omega arith
+
+-- m₀ are the marks before the first pass
+pub record Passes (ws ls : List ℕ) (m₀ m : List Bool) : Type 0 where
+  pub ready : Ready ws ls m
   pub size : length m ≡ length m₀
 
-module _ {ws : List ℕ} {m : List Bool} {n : ℕ} (c : Cleared (leads (seen ws)) (seen ws .blocked) m) (e : n ≡ unmarked (seen ws .blocked) m) where
-  pub all-starts : Passes ws m m n
-  all-starts = record { left = record { cleared = c; is = e }; size = refl }
+module _ {ws ls : List ℕ} {m : List Bool} (d : Ready ws ls m) where
+  pub ready-some : Some Core ws
+  ready-some = d .linked .some
 
-  pub all-fits : Some Core ws → n + 1 < 2 ^ 32
-  all-fits s = omega (arith, left-few m s)
+  pub ready-linked : Linked ws ls m
+  ready-linked = d .linked
 
-  pub all-again : {m₀ m₁ : List Bool} {n₁ : ℕ} → Passes ws m₀ m₁ n₁ → length m ≡ length m₁ → Passes ws m₀ m n
-  all-again i s = record { left = record { cleared = c; is = e }; size = s ∙ i .size }
+  pub ready-wide : length m ≡ lock-places
+  ready-wide = d .cleared .wide
 
--- a turn leaves less than was left before it
-pub all-less : (n k : ℕ) → (ltb n k && not (eqb n 0)) ≡ true → n < k
-all-less n k h = ltb-true n k (and-left (ltb n k) _ h)
+  pub ready-left : {n : ℕ} → n ≡ unmarked (seen ws .blocked) m → Uncleared ws ls m n
+  ready-left e = record { linked = d .linked; cleared = d .cleared; is = e }
 
-pub ruleset all-laws = (needs, all-starts, all-fits, all-again, all-less)
+  pub ready-none : {n : ℕ} → n ≡ unmarked (seen ws .blocked) m → n ≡ 0 → Uncleared ws ls m 0
+  ready-none e z = record { linked = d .linked; cleared = d .cleared; is = sym z ∙ e }
+
+  pub passes-start : Passes ws ls m m
+  passes-start = record { ready = d; size = refl }
+
+module _ {ws ls : List ℕ} {m₀ m m′ : List Bool} {r : Bool} (i : Passes ws ls m₀ m) (p : Passed ws ls m m′ r) where
+  pub passes-again : length m′ ≡ length m → Passes ws ls m₀ m′
+  passes-again s = record { ready = p .ready; size = s ∙ i .size }
+
+-- a pass that is not the last one leaves less
+pub passes-less : {ws ls : List ℕ} {m m′ : List Bool} {r b : Bool} → Passed ws ls m m′ r → b ≡ true → unmarked (seen ws .blocked) m′ + bit r < unmarked (seen ws .blocked) m + bit b
+passes-less p e = rw e (omega (arith, p .fewer))
+
+pub passes-end : {ws ls : List ℕ} {m₀ m : List Bool} → Passes ws ls m₀ m → Ready ws ls m
+passes-end i = i .ready
+
+pub ruleset passes-laws = (needs, passes-start, passes-again, passes-less, passes-end)

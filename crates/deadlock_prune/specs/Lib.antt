@@ -1,1 +1,3 @@
 pub mod Clearing
+pub mod FreeLines
+pub mod BothEnds

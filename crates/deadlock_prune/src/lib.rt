@@ -1,234 +1,51 @@
-// Clearing blocked locks that are on no cycle: passes along the lines, as long as they clear locks.
-use deadlock_graph::OWNER_PLACES;
-use deadlock_graph::in_the_way;
+// Clearing blocked locks that are on no cycle, before any search: cheaply where a line leads nowhere, then from both ends.
+use deadlock_graph::LINK_AHEAD;
+use deadlock_graph::LINK_HOLDER;
+use deadlock_graph::LINK_OWNER;
+use deadlock_graph::bars;
+use deadlock_graph::first_blocked;
+use deadlock_graph::first_converting;
+use deadlock_graph::first_holder;
+use deadlock_graph::first_waiting;
+use deadlock_graph::holds_null;
+use deadlock_graph::link;
+use deadlock_graph::next_blocked;
+use deadlock_graph::next_holder;
+use deadlock_graph::next_on_line;
 use deadlock_graph::owner_of;
-use modes::fits_row;
-use modes::with_mode;
-use table_fields::BLOCKED;
-use table_fields::LOCK_ASKED;
-use table_fields::LOCK_HELD;
-use table_fields::LOCK_NEXT;
-use table_fields::LOCK_NEXT_BLOCKED;
-use table_fields::LOCK_RESOURCE;
-use table_fields::RESOURCE_CONVERT;
-use table_fields::RESOURCE_GRANT;
-use table_fields::RESOURCE_WAIT;
-use table_fields::header_word;
-use table_fields::lock_word;
+use table_fields::LOCK_PLACES;
 use table_fields::resource_count;
-use table_fields::resource_word;
 ghost use mathlib.Core.Path.{_≡_};
-ghost use Prim.Native.Nat.{_≤_, _<_};
+ghost use Prim.Native.Nat.{_≤_};
 ghost use lib.ListN.{length};
 ghost use Rattle.tables.specs.Lists.{any};
-ghost use Rattle.tables.specs.State.{lock, resource};
-ghost use Rattle.tables.specs.Layout.{«resources-in», onward};
+ghost use Rattle.tables.specs.Layout.{«resources-in»};
 ghost use Rattle.tables.specs.Grants.{holders};
 ghost use Rattle.tables.specs.Validity.{Core};
-ghost use Rattle.rules.specs.Deadlock.{leads};
 ghost use Rattle.table_fields.specs.Sizes.{«lock-places»};
 ghost use Rattle.table_chains.specs.Contracts.{Some};
-ghost use Rattle.table_chains.specs.Walking.{At, Walking};
+ghost use Rattle.table_chains.specs.Walking.{At};
 ghost use Rattle.deadlock_graph.specs.Contracts.{seen, Blocked};
-ghost use Rattle.deadlock_graph.specs.Marks.{unmarked, Cleared};
-ghost use Rattle.deadlock_prune.specs.Clearing.{hinders, «with-busy», «with-all-busy», «busy-modes», BusyNoted, Busy, Clearing, AllCleared, AfterConversions, Uncleared};
-ghost use Rattle.deadlock_graph.specs.Owners.{«owner-places»};
+ghost use Rattle.deadlock_graph.specs.Marks.{unmarked};
+ghost use Rattle.deadlock_graph.specs.Links.{Linked};
+ghost use Rattle.deadlock_prune.specs.Clearing.{Clearable, Uncleared, Prunable};
+ghost use Rattle.deadlock_prune.specs.FreeLines.{«filter-places», OwnersNoted, counts, FreePass, FreeChain, ChainCleared, LineCleared, LinesCleared};
+ghost use Rattle.deadlock_prune.specs.BothEnds.{Placed, LinkedLock, Ready, Passed, BusyNoted, Busy, hinders, Hindered, FrontPass, FrontStep, OwnerNoted, WantNoted, Wanted, BackLine, LineBacked, BackReady, BackPassed};
 
-// The owner of the blocked lock k is busy, unless k is cleared.
-fn note_busy(words: &[u32], cleared: &[bool], k: u32, busy: &mut [bool])
-    requires { ⌜ At (now words) k ⌝ }
-    requires { ⌜ length (now cleared) ≡ lock-places ⌝ }
-    requires { ⌜ length (now busy) ≡ owner-places ⌝ }
-    ensures { λ _. ⌜ BusyNoted (now (words .entry)) (now (cleared .entry)) k (now (busy .entry)) (now (busy .exit)) ⌝ }
-{
-    if cleared[k as usize] {
-        return;
-    }
-    let owner = owner_of(words, k);
-    busy[owner] = true;
-}
-
-// The busy owners: those of the blocked locks that are not cleared.
-fn busy_owners(words: &[u32], cleared: &[bool], busy: &mut [bool])
-    requires { ⌜ Some Core (now words) ⌝ }
-    requires { ⌜ length (now cleared) ≡ lock-places ⌝ }
-    requires { ⌜ length (now busy) ≡ owner-places ⌝ }
-    ensures { λ _. ⌜ Busy (now (words .entry)) (now (cleared .entry)) (now (busy .exit)) ⌝ }
-{
-    let mut k = header_word(words, BLOCKED);
-    while k != 0 {
-        note_busy(words, cleared, k, busy);
-        k = lock_word(words, k, LOCK_NEXT_BLOCKED);
-    }
-}
-
-// Whether j is in a's way and its owner is busy.
-fn hinders(words: &[u32], busy: &[bool], a: u32, j: u32) -> bool
-    requires { ⌜ At (now words) a ⌝ }
-    requires { ⌜ At (now words) j ⌝ }
-    requires { ⌜ length (now busy) ≡ owner-places ⌝ }
-    ensures { λ r. ⌜ r ≡ hinders (seen (now (words .entry))) (now (busy .entry)) a j ⌝ }
-{
-    if !in_the_way(words, a, j) {
-        return false;
-    }
-    let owner = owner_of(words, j);
-    busy[owner]
-}
-
-// Whether that holds of some lock of a home chain, from `first` on.
-fn hindered_from(words: &[u32], busy: &[bool], a: u32, first: u32) -> bool
-    requires { ⌜ At (now words) a ⌝ }
-    requires { ⌜ Walking (now words) 0 first ⌝ }
-    requires { ⌜ length (now busy) ≡ owner-places ⌝ }
-    ensures { λ r. ⌜ r ≡ any (hinders (seen (now (words .entry))) (now (busy .entry)) a) (onward (now (words .entry)) 0 first) ⌝ }
-{
-    let mut k = first;
-    while k != 0 {
-        if hinders(words, busy, a, k) {
-            return true;
-        }
-        k = lock_word(words, k, LOCK_NEXT);
-    }
-    false
-}
-
-// Whether a busy owner is in the way of the blocked lock a.
-fn hindered(words: &[u32], busy: &[bool], a: u32) -> bool
-    requires { ⌜ Blocked (now words) a ⌝ }
-    requires { ⌜ length (now busy) ≡ owner-places ⌝ }
-    ensures { λ r. ⌜ r ≡ any (hinders (seen (now (words .entry))) (now (busy .entry)) a) (holders (seen (now (words .entry))) (lock (seen (now (words .entry))) a .resource)) ⌝ }
-{
-    let r = lock_word(words, a, LOCK_RESOURCE);
-    if hindered_from(words, busy, a, resource_word(words, r, RESOURCE_GRANT)) {
-        return true;
-    }
-    hindered_from(words, busy, a, resource_word(words, r, RESOURCE_CONVERT))
-}
-
-// The conversions on resource r are cleared, up to the first one with a busy owner in its way. Answers whether all of
-// them were.
-fn clear_conversions(words: &[u32], busy: &[bool], r: u32, cleared: &mut [bool]) -> bool
-    requires { ⌜ Clearing (now words) (now busy) (now cleared) ⌝ }
-    requires { ⌜ (1 ≤ r) × (r ≤ resources-in (now words)) ⌝ }
-    ensures { λ all. ⌜ AfterConversions (now (words .entry)) r (now (busy .entry)) (now (cleared .exit)) all ⌝ }
-{
-    let mut k = resource_word(words, r, RESOURCE_CONVERT);
-    while k != 0 {
-        if hindered(words, busy, k) {
-            return false;
-        }
-        cleared[k as usize] = true;
-        k = lock_word(words, k, LOCK_NEXT);
-    }
-    true
-}
-
-// The set with the mode that j holds, if its owner is busy.
-fn with_busy(words: &[u32], busy: &[bool], set: u32, j: u32) -> u32
-    requires { ⌜ At (now words) j ⌝ }
-    requires { ⌜ length (now busy) ≡ owner-places ⌝ }
-    requires { ⌜ set < 64 ⌝ }
-    ensures { λ x. ⌜ x ≡ with-busy (seen (now (words .entry))) (now (busy .entry)) set j ⌝ }
-{
-    let owner = owner_of(words, j);
-    if !busy[owner] {
-        return set;
-    }
-    with_mode(set, lock_word(words, j, LOCK_HELD))
-}
-
-// The same for each lock of a home chain, from `first` on.
-fn with_all_busy(words: &[u32], busy: &[bool], set: u32, first: u32) -> u32
-    requires { ⌜ Walking (now words) 0 first ⌝ }
-    requires { ⌜ length (now busy) ≡ owner-places ⌝ }
-    requires { ⌜ set < 64 ⌝ }
-    ensures { λ x. ⌜ x ≡ with-all-busy (seen (now (words .entry))) (now (busy .entry)) set (onward (now (words .entry)) 0 first) ⌝ }
-{
-    let mut held = set;
-    let mut k = first;
-    while k != 0 {
-        held = with_busy(words, busy, held, k);
-        k = lock_word(words, k, LOCK_NEXT);
-    }
-    held
-}
-
-// The set of the modes that busy owners hold on resource r.
-fn busy_modes(words: &[u32], busy: &[bool], r: u32) -> u32
-    requires { ⌜ Some Core (now words) ⌝ }
-    requires { ⌜ (1 ≤ r) × (r ≤ resources-in (now words)) ⌝ }
-    requires { ⌜ length (now busy) ≡ owner-places ⌝ }
-    ensures { λ x. ⌜ x ≡ busy-modes (seen (now (words .entry))) (now (busy .entry)) r ⌝ }
-{
-    let held = with_all_busy(words, busy, 0, resource_word(words, r, RESOURCE_GRANT));
-    with_all_busy(words, busy, held, resource_word(words, r, RESOURCE_CONVERT))
-}
-
-// The waiting locks on resource r are cleared, up to the first one with a busy owner in its way. A waiting lock holds
-// nothing, so one row of the table of modes serves for all of them.
-fn clear_waits(words: &[u32], busy: &[bool], r: u32, cleared: &mut [bool])
-    requires { ⌜ Clearing (now words) (now busy) (now cleared) ⌝ }
-    requires { ⌜ (1 ≤ r) × (r ≤ resources-in (now words)) ⌝ }
-    requires { ⌜ AllCleared (resource (seen (now words)) r .convert) (now cleared) ⌝ }
-    ensures { λ _. ⌜ Clearing (now (words .entry)) (now (busy .entry)) (now (cleared .exit)) ⌝ }
-{
-    let first = resource_word(words, r, RESOURCE_WAIT);
-    if first == 0 {
-        return;
-    }
-    let row = fits_row(busy_modes(words, busy, r));
-    let mut k = first;
-    while k != 0 {
-        let asked = lock_word(words, k, LOCK_ASKED);
-        if !row[asked as usize] {
-            return;
-        }
-        cleared[k as usize] = true;
-        k = lock_word(words, k, LOCK_NEXT);
-    }
-}
-
-// Clears the line of resource r up to the first lock that can't be cleared: all locks behind that one lead to it.
-fn clear_line(words: &[u32], busy: &[bool], r: u32, cleared: &mut [bool])
-    requires { ⌜ Clearing (now words) (now busy) (now cleared) ⌝ }
-    requires { ⌜ (1 ≤ r) × (r ≤ resources-in (now words)) ⌝ }
-    ensures { λ _. ⌜ Clearing (now (words .entry)) (now (busy .entry)) (now (cleared .exit)) ⌝ }
-{
-    if !clear_conversions(words, busy, r, cleared) {
-        return;
-    }
-    clear_waits(words, busy, r, cleared);
-}
-
-// One pass along all lines. A lock is on no cycle if all that it leads to are cleared: those ahead of it on its line, and
-// the blocked locks of the owners that are in its way.
-fn clear_lines(words: &[u32], cleared: &mut [bool])
-    requires { ⌜ Some Core (now words) ⌝ }
-    requires { ⌜ Cleared (leads (seen (now words))) (seen (now words) .blocked) (now cleared) ⌝ }
-    ensures { λ _. ⌜ Cleared (leads (seen (now (words .entry)))) (seen (now (words .entry)) .blocked) (now (cleared .exit)) ⌝ }
-{
-    let mut busy = [false; OWNER_PLACES];
-    busy_owners(words, cleared, &mut busy);
-    let n = resource_count(words);
-    let mut r = 1;
-    while r <= n {
-        clear_line(words, &busy, r, cleared);
-        r += 1;
-    }
-}
+// A filter has so many places, which owners share by their low bits.
+const FILTER: usize = 256;
 
 // How many blocked locks are not cleared.
-fn count_left(words: &[u32], cleared: &[bool]) -> u32
+fn count_left(words: &[u32], cleared: &[bool]) -> u16
     requires { ⌜ Some Core (now words) ⌝ }
     requires { ⌜ length (now cleared) ≡ lock-places ⌝ }
     ensures { λ r. ⌜ r ≡ unmarked (seen (now (words .entry)) .blocked) (now (cleared .entry)) ⌝ }
 {
     let mut n = 0;
-    let mut k = header_word(words, BLOCKED);
+    let mut k = first_blocked(words);
     while k != 0 {
         let done = cleared[k as usize];
-        k = lock_word(words, k, LOCK_NEXT_BLOCKED);
+        k = next_blocked(words, k);
         if !done {
             n += 1;
         }
@@ -236,18 +53,320 @@ fn count_left(words: &[u32], cleared: &[bool]) -> u32
     n
 }
 
-// Makes passes as long as they clear locks. Answers how many blocked locks are left.
-pub fn clear_all(words: &[u32], cleared: &mut [bool]) -> u32
+// Notes the owners of the blocked locks.
+fn note_owners(words: &[u32], filter: &mut [bool])
     requires { ⌜ Some Core (now words) ⌝ }
-    requires { ⌜ Cleared (leads (seen (now words))) (seen (now words) .blocked) (now cleared) ⌝ }
-    ensures { λ r. ⌜ Uncleared (now (words .entry)) (now (cleared .exit)) r ⌝ }
+    requires { ⌜ length (now filter) ≡ filter-places ⌝ }
+    ensures { λ _. ⌜ OwnersNoted (now (words .entry)) (now (filter .exit)) ⌝ }
 {
-    let mut left = count_left(words, cleared);
-    let mut before = left + 1;
-    while (left < before) & (left != 0) {
-        clear_lines(words, cleared);
-        before = left;
-        left = count_left(words, cleared);
+    let mut k = first_blocked(words);
+    while k != 0 {
+        let owner = owner_of(words, k);
+        filter[owner % FILTER] = true;
+        k = next_blocked(words, k);
     }
-    left
+}
+
+// Whether the holder k can be in someone's way and its owner is noted.
+fn counts(words: &[u32], filter: &[bool], k: u16) -> bool
+    requires { ⌜ At (now words) k ⌝ }
+    requires { ⌜ length (now filter) ≡ filter-places ⌝ }
+    ensures { λ x. ⌜ x ≡ counts (seen (now (words .entry))) (now (filter .entry)) k ⌝ }
+{
+    if holds_null(words, k) {
+        return false;
+    }
+    let owner = owner_of(words, k);
+    filter[owner % FILTER]
+}
+
+// Whether that holds of some holder on resource r.
+fn is_noted(words: &[u32], filter: &[bool], r: u32) -> bool
+    requires { ⌜ Some Core (now words) ⌝ }
+    requires { ⌜ (1 ≤ r) × (r ≤ resources-in (now words)) ⌝ }
+    requires { ⌜ length (now filter) ≡ filter-places ⌝ }
+    ensures { λ x. ⌜ x ≡ any (counts (seen (now (words .entry))) (now (filter .entry))) (holders (seen (now (words .entry))) r) ⌝ }
+{
+    let mut k = first_holder(words, r);
+    while k != 0 {
+        if counts(words, filter, k) {
+            return true;
+        }
+        k = next_holder(words, k);
+    }
+    false
+}
+
+// Clears the locks of a home chain, from `first` on.
+fn clear_chain(words: &[u32], first: u16, cleared: &mut [bool])
+    requires { ⌜ FreeChain (now words) (now cleared) first ⌝ }
+    ensures { λ _. ⌜ ChainCleared (now (words .entry)) (now (cleared .entry)) (now (cleared .exit)) first ⌝ }
+{
+    let mut k = first;
+    while k != 0 {
+        cleared[k as usize] = true;
+        k = next_on_line(words, k);
+    }
+}
+
+// Clears the line of resource r if no owner of a blocked lock holds anything there that is in someone's way: each lock of it
+// hops only to the one right ahead of it. Answers whether it left nothing.
+fn clear_line(words: &[u32], filter: &[bool], r: u32, cleared: &mut [bool]) -> bool
+    requires { ⌜ FreePass (now words) (now filter) (now cleared) ⌝ }
+    requires { ⌜ (1 ≤ r) × (r ≤ resources-in (now words)) ⌝ }
+    ensures { λ x. ⌜ LineCleared (now (words .entry)) (now (filter .entry)) (now (cleared .entry)) (now (cleared .exit)) r x ⌝ }
+{
+    let converting = first_converting(words, r);
+    let waiting = first_waiting(words, r);
+    if (converting == 0) & (waiting == 0) {
+        return true;
+    }
+    if is_noted(words, filter, r) {
+        return false;
+    }
+    clear_chain(words, converting, cleared);
+    clear_chain(words, waiting, cleared);
+    true
+}
+
+// One cheap pass along the lines, which needs no links. Answers whether it cleared every blocked lock.
+pub fn clear_free_lines(words: &[u32], cleared: &mut [bool]) -> bool
+    requires { ⌜ Clearable (now words) (now cleared) ⌝ }
+    ensures { λ r. ⌜ LinesCleared (now (words .entry)) (now (cleared .exit)) r ⌝ }
+{
+    let mut filter = [false; FILTER];
+    note_owners(words, &mut filter);
+    let n = resource_count(words);
+    let mut all = true;
+    let mut r = 1;
+    while r <= n {
+        let line = clear_line(words, &filter, r, cleared);
+        r += 1;
+        all = all & line;
+    }
+    all
+}
+
+// The owner of the blocked lock k is busy, unless k is cleared.
+fn note_busy(links: &[u16], cleared: &[bool], k: u16, busy: &mut [bool])
+    requires { ⌜ Placed (now links) k ⌝ }
+    requires { ⌜ length (now cleared) ≡ lock-places ⌝ }
+    requires { ⌜ length (now busy) ≡ lock-places ⌝ }
+    ensures { λ _. ⌜ BusyNoted (now (links .entry)) (now (cleared .entry)) k (now (busy .entry)) (now (busy .exit)) ⌝ }
+{
+    if cleared[k as usize] {
+        return;
+    }
+    let owner = link(links, k, LINK_OWNER);
+    busy[owner as usize] = true;
+}
+
+// The busy owners: those of the blocked locks that are not cleared.
+fn busy_owners(words: &[u32], links: &[u16], cleared: &[bool], busy: &mut [bool])
+    requires { ⌜ Linked (now words) (now links) (now cleared) ⌝ }
+    requires { ⌜ length (now cleared) ≡ lock-places ⌝ }
+    requires { ⌜ length (now busy) ≡ lock-places ⌝ }
+    ensures { λ _. ⌜ Busy (now (words .entry)) (now (links .entry)) (now (cleared .entry)) (now (busy .exit)) ⌝ }
+{
+    let mut k = first_blocked(words);
+    while k != 0 {
+        note_busy(links, cleared, k, busy);
+        k = next_blocked(words, k);
+    }
+}
+
+// Whether j is in k's way and its owner is busy.
+fn hinders(words: &[u32], links: &[u16], busy: &[bool], k: u16, j: u16) -> bool
+    requires { ⌜ At (now words) k ⌝ }
+    requires { ⌜ At (now words) j ⌝ }
+    requires { ⌜ Placed (now links) j ⌝ }
+    requires { ⌜ length (now busy) ≡ lock-places ⌝ }
+    ensures { λ r. ⌜ r ≡ hinders (seen (now (words .entry))) (now (links .entry)) (now (busy .entry)) k j ⌝ }
+{
+    let owner = link(links, j, LINK_OWNER);
+    if !busy[owner as usize] {
+        return false;
+    }
+    bars(words, k, j)
+}
+
+// Whether that holds of some holder that the blocked lock k looks at: it begins at the first that is in its way.
+fn hindered(words: &[u32], links: &[u16], busy: &[bool], k: u16) -> bool
+    requires { ⌜ LinkedLock (now words) (now links) k ⌝ }
+    requires { ⌜ length (now busy) ≡ lock-places ⌝ }
+    ensures { λ r. ⌜ Hindered (now (words .entry)) (now (links .entry)) (now (busy .entry)) k r ⌝ }
+{
+    let mut j = link(links, k, LINK_HOLDER);
+    while j != 0 {
+        if hinders(words, links, busy, k, j) {
+            return true;
+        }
+        j = next_holder(words, j);
+    }
+    false
+}
+
+// Clears the blocked lock k if all that it hops to are cleared: the lock right ahead of it, and the blocked locks of the
+// owners in its way. Answers whether it did.
+fn clear_if_free(words: &[u32], links: &[u16], busy: &[bool], k: u16, cleared: &mut [bool]) -> bool
+    requires { ⌜ FrontPass (now words) (now links) (now busy) (now cleared) ⌝ }
+    requires { ⌜ Blocked (now words) k ⌝ }
+    ensures { λ r. ⌜ FrontStep (now (words .entry)) (now (links .entry)) (now (busy .entry)) (now (cleared .entry)) (now (cleared .exit)) r ⌝ }
+{
+    if cleared[k as usize] {
+        return false;
+    }
+    let ahead = link(links, k, LINK_AHEAD);
+    if (ahead != 0) & !cleared[ahead as usize] {
+        return false;
+    }
+    if hindered(words, links, busy, k) {
+        return false;
+    }
+    cleared[k as usize] = true;
+    true
+}
+
+// One pass along the blocked locks. An owner whose last lock is cleared on the way is busy until the next pass. Answers
+// whether it cleared a lock.
+fn clear_front(words: &[u32], links: &[u16], cleared: &mut [bool]) -> bool
+    requires { ⌜ Ready (now words) (now links) (now cleared) ⌝ }
+    ensures { λ r. ⌜ Passed (now (words .entry)) (now (links .entry)) (now (cleared .entry)) (now (cleared .exit)) r ⌝ }
+{
+    let mut busy = [false; LOCK_PLACES];
+    busy_owners(words, links, cleared, &mut busy);
+    let mut more = false;
+    let mut k = first_blocked(words);
+    while k != 0 {
+        let one = clear_if_free(words, links, &busy, k, cleared);
+        k = next_blocked(words, k);
+        more = more | one;
+    }
+    more
+}
+
+// Passes from the front, as long as they clear locks.
+fn clear_from_front(words: &[u32], links: &[u16], cleared: &mut [bool])
+    requires { ⌜ Ready (now words) (now links) (now cleared) ⌝ }
+    ensures { λ _. ⌜ Ready (now (words .entry)) (now (links .entry)) (now (cleared .exit)) ⌝ }
+{
+    let mut more = true;
+    while more {
+        more = clear_front(words, links, cleared);
+    }
+}
+
+// The owner of j is wanted if j is in k's way.
+fn want_owner(words: &[u32], links: &[u16], k: u16, j: u16, wanted: &mut [bool])
+    requires { ⌜ At (now words) k ⌝ }
+    requires { ⌜ At (now words) j ⌝ }
+    requires { ⌜ Placed (now links) j ⌝ }
+    requires { ⌜ length (now wanted) ≡ lock-places ⌝ }
+    ensures { λ _. ⌜ OwnerNoted (now (words .entry)) (now (links .entry)) k j (now (wanted .entry)) (now (wanted .exit)) ⌝ }
+{
+    if !bars(words, k, j) {
+        return;
+    }
+    let owner = link(links, j, LINK_OWNER);
+    wanted[owner as usize] = true;
+}
+
+// The owners in the way of the blocked lock k are wanted, unless k is cleared.
+fn want_owners(words: &[u32], links: &[u16], cleared: &[bool], k: u16, wanted: &mut [bool])
+    requires { ⌜ Linked (now words) (now links) (now cleared) ⌝ }
+    requires { ⌜ Blocked (now words) k ⌝ }
+    requires { ⌜ length (now cleared) ≡ lock-places ⌝ }
+    requires { ⌜ length (now wanted) ≡ lock-places ⌝ }
+    ensures { λ _. ⌜ WantNoted (now (words .entry)) (now (links .entry)) (now (cleared .entry)) k (now (wanted .entry)) (now (wanted .exit)) ⌝ }
+{
+    if cleared[k as usize] {
+        return;
+    }
+    let mut j = link(links, k, LINK_HOLDER);
+    while j != 0 {
+        want_owner(words, links, k, j, wanted);
+        j = next_holder(words, j);
+    }
+}
+
+// The wanted owners: those in the way of the blocked locks that are not cleared.
+fn wanted_owners(words: &[u32], links: &[u16], cleared: &[bool], wanted: &mut [bool])
+    requires { ⌜ Linked (now words) (now links) (now cleared) ⌝ }
+    requires { ⌜ length (now cleared) ≡ lock-places ⌝ }
+    requires { ⌜ length (now wanted) ≡ lock-places ⌝ }
+    ensures { λ _. ⌜ Wanted (now (words .entry)) (now (links .entry)) (now (cleared .entry)) (now (wanted .exit)) ⌝ }
+{
+    let mut k = first_blocked(words);
+    while k != 0 {
+        want_owners(words, links, cleared, k, wanted);
+        k = next_blocked(words, k);
+    }
+}
+
+// Clears a line from its lock `last` on ahead, up to the first lock that is wanted or was cleared before; answers where it
+// stopped. All that are passed are cleared, so who still hops to a lock has its owner in the way. Ahead of a lock that was
+// cleared from the front all are cleared.
+fn clear_line_back(links: &[u16], wanted: &[bool], last: u16, cleared: &mut [bool]) -> u16
+    requires { ⌜ BackLine (now links) (now wanted) (now cleared) last ⌝ }
+    ensures { λ r. ⌜ LineBacked (now (links .entry)) (now (wanted .entry)) (now (cleared .entry)) (now (cleared .exit)) last r ⌝ }
+{
+    let mut k = last;
+    while k != 0 {
+        if cleared[k as usize] {
+            return k;
+        }
+        let owner = link(links, k, LINK_OWNER);
+        if wanted[owner as usize] {
+            return k;
+        }
+        cleared[k as usize] = true;
+        k = link(links, k, LINK_AHEAD);
+    }
+    k
+}
+
+// One pass along the lines, each from where the last pass stopped, which `lasts` keeps. A lock is on no cycle if only cleared
+// locks hop to it: the one right behind it, and those that its owner is in the way of. Answers whether it cleared a lock.
+fn clear_back(words: &[u32], links: &[u16], lasts: &mut [u16], cleared: &mut [bool]) -> bool
+    requires { ⌜ BackReady (now words) (now links) (now lasts) (now cleared) ⌝ }
+    ensures { λ r. ⌜ BackPassed (now (words .entry)) (now (links .entry)) (now (lasts .exit)) (now (cleared .entry)) (now (cleared .exit)) r ⌝ }
+{
+    let mut wanted = [false; LOCK_PLACES];
+    wanted_owners(words, links, cleared, &mut wanted);
+    let n = resource_count(words);
+    let mut more = false;
+    let mut r = 1;
+    while r <= n {
+        let last = lasts[r as usize];
+        let stop = clear_line_back(links, &wanted, last, cleared);
+        lasts[r as usize] = stop;
+        r += 1;
+        more = more | (stop != last);
+    }
+    more
+}
+
+// Passes from the back, as long as they clear locks.
+fn clear_from_back(words: &[u32], links: &[u16], lasts: &mut [u16], cleared: &mut [bool])
+    requires { ⌜ BackReady (now words) (now links) (now lasts) (now cleared) ⌝ }
+    ensures { λ _. ⌜ Ready (now (words .entry)) (now (links .entry)) (now (cleared .exit)) ⌝ }
+{
+    let mut more = true;
+    while more {
+        more = clear_back(words, links, lasts, cleared);
+    }
+}
+
+// Clears from the front, then from the back. Answers how many blocked locks are left.
+pub fn clear_ends(words: &[u32], links: &[u16], lasts: &mut [u16], cleared: &mut [bool]) -> u16
+    requires { ⌜ Prunable (now words) (now links) (now lasts) (now cleared) ⌝ }
+    ensures { λ r. ⌜ Uncleared (now (words .entry)) (now (links .entry)) (now (cleared .exit)) r ⌝ }
+{
+    clear_from_front(words, links, cleared);
+    let left = count_left(words, cleared);
+    if left == 0 {
+        return 0;
+    }
+    clear_from_back(words, links, lasts, cleared);
+    count_left(words, cleared)
 }

@@ -1,4 +1,1 @@
-pub mod Ranks
-pub mod OwnersInTheWay
-pub mod SearchMarks
 pub mod Searches

@@ -1,169 +1,121 @@
 // Breaking deadlocks: the first blocked lock that leads back to itself, found in the lent words.
-use deadlock_graph::OWNER_PLACES;
-use deadlock_graph::in_the_way;
-use deadlock_graph::owner_of;
-use deadlock_prune::clear_all;
-use table_fields::BLOCKED;
-use table_fields::LOCK_NEXT;
-use table_fields::LOCK_NEXT_BLOCKED;
+use deadlock_graph::LINK_AHEAD;
+use deadlock_graph::LINK_HOLDER;
+use deadlock_graph::LINK_MATE;
+use deadlock_graph::LINK_OWNER;
+use deadlock_graph::LINKS;
+use deadlock_graph::bars;
+use deadlock_graph::first_blocked;
+use deadlock_graph::link;
+use deadlock_graph::next_blocked;
+use deadlock_graph::next_holder;
+use deadlock_lines::link_lines;
+use deadlock_owners::number_owners;
+use deadlock_prune::clear_ends;
+use deadlock_prune::clear_free_lines;
 use table_fields::LOCK_PLACES;
-use table_fields::LOCK_RESOURCE;
-use table_fields::RESOURCE_CONVERT;
-use table_fields::RESOURCE_GRANT;
-use table_fields::RESOURCE_WAIT;
-use table_fields::header_word;
+use table_fields::RESOURCE_PLACES;
 use table_fields::lock_count;
-use table_fields::lock_word;
-use table_fields::resource_count;
-use table_fields::resource_word;
-use table_fields::wide;
+use table_names::copy_numbers;
 ghost use mathlib.Core.Path.{_≡_};
-ghost use Prim.Native.Nat.{_+_, _≤_};
-ghost use lib.Dec.{eqb};
+ghost use mathlib.Core.Logic.{_≢_};
 ghost use lib.ListN.{length};
-ghost use Rattle.tables.specs.Lists.{any};
-ghost use Rattle.tables.specs.Layout.{«resources-in», «locks-in», onward};
-ghost use Rattle.tables.specs.Validity.{Core, line};
 ghost use Rattle.tables.specs.State.{«most-locks»};
-ghost use Rattle.rules.specs.Deadlock.{ahead, leads, deadlocked, victim};
-ghost use Rattle.table_fields.specs.Sizes.{«lock-places»};
+ghost use Rattle.tables.specs.Validity.{Core};
+ghost use Rattle.rules.specs.Deadlock.{deadlocked, victim};
 ghost use Rattle.table_chains.specs.Contracts.{Some, Tells};
-ghost use Rattle.table_chains.specs.Walking.{At, Walking};
-ghost use Rattle.deadlock_graph.specs.Contracts.{seen, Blocked};
-ghost use Rattle.deadlock_search.specs.Ranks.{«write-ranks», Unranked, Numbered, Ranked};
-ghost use Rattle.deadlock_search.specs.OwnersInTheWay.{note, «note-all», Unbarred, Barred};
-ghost use Rattle.deadlock_search.specs.SearchMarks.{Followed, Searched};
-ghost use Rattle.deadlock_search.specs.Searches.{Following, Searching, Trying};
-ghost use Rattle.deadlock_prune.specs.Clearing.{Uncleared};
-ghost use Rattle.deadlock_graph.specs.Owners.{«owner-places»};
+ghost use Rattle.deadlock_graph.specs.Contracts.{seen};
+ghost use Rattle.deadlock_search.specs.Searches.{«first-of», HasList, OnList, FirstUnmarked, Looks, Looked, Sought};
+ghost use Rattle.deadlock_search.specs.Searches.{Following, Followed, Searching, Entered, Searched, Trying, Ready, Room, Free};
 
-// The owner of j is written down, if j is in a's way.
-fn note_owner(words: &[u32], a: u32, j: u32, owners: &mut [bool])
-    requires { ⌜ At (now words) a ⌝ }
-    requires { ⌜ At (now words) j ⌝ }
-    requires { ⌜ length (now owners) ≡ owner-places ⌝ }
-    ensures { λ _. ⌜ now (owners .exit) ≡ note (seen (now (words .entry))) a j (now (owners .entry)) ⌝ }
+// The first lock without a mark on an owner's list, from `first` on, or 0. The words are not read here: the contract speaks
+// of the state in them.
+fn unmarked_from(words: &[u32], links: &[u16], marks: &[bool; LOCK_PLACES], first: u16) -> u16
+    requires { ⌜ OnList (now words) (now links) (now marks) first ⌝ }
+    ensures { λ b. ⌜ FirstUnmarked (now (words .entry)) (now (links .entry)) (now (marks .entry)) first b ⌝ }
 {
-    if !in_the_way(words, a, j) {
-        return;
+    let mut b = first;
+    while b != 0 {
+        if !marks[b as usize] {
+            return b;
+        }
+        b = link(links, b, LINK_MATE);
     }
-    let owner = owner_of(words, j);
-    owners[owner] = true;
+    0
 }
 
-// The same for each lock of a home chain, from `first` on.
-fn note_owners(words: &[u32], a: u32, first: u32, owners: &mut [bool])
-    requires { ⌜ At (now words) a ⌝ }
-    requires { ⌜ Walking (now words) 0 first ⌝ }
-    requires { ⌜ length (now owners) ≡ owner-places ⌝ }
-    ensures { λ _. ⌜ now (owners .exit) ≡ note-all (seen (now (words .entry))) a (onward (now (words .entry)) 0 first) (now (owners .entry)) ⌝ }
+// The first lock on the list of the owner of the holder j.
+fn first_of(links: &[u16], heads: &[u16], j: u16) -> u16
+    requires { ⌜ HasList (now links) j (now heads) ⌝ }
+    ensures { λ b. ⌜ b ≡ first-of (now (links .entry)) (now (heads .entry)) j ⌝ }
 {
-    let mut k = first;
-    while k != 0 {
-        note_owner(words, a, k, owners);
-        k = lock_word(words, k, LOCK_NEXT);
-    }
+    let owner = link(links, j, LINK_OWNER);
+    heads[owner as usize]
 }
 
-// The owners that are in the way of the blocked lock a: those of the holders on its resource.
-fn bar_owners(words: &[u32], a: u32, owners: &mut [bool])
-    requires { ⌜ Blocked (now words) a ⌝ }
-    requires { ⌜ Unbarred (now owners) ⌝ }
-    ensures { λ _. ⌜ Barred (now (words .entry)) a (now (owners .exit)) ⌝ }
+// Whether the owner of the holder j has a blocked lock without a mark and j is in a's way. That lock is the first on the
+// owner's list then: locks with a mark go from the front of the list, so that a search passes each of them once.
+fn stops(
+    words: &[u32],
+    links: &[u16],
+    marks: &[bool; LOCK_PLACES],
+    a: u16,
+    j: u16,
+    heads: &mut [u16],
+) -> bool
+    requires { ⌜ Looks (now words) (now links) a j (now heads) (now marks) ⌝ }
+    requires { ⌜ j ≢ 0 ⌝ }
+    ensures { λ r. ⌜ Looked (now (words .entry)) (now (links .entry)) a j (now (heads .entry)) (now (marks .entry)) (now (heads .exit)) r ⌝ }
 {
-    let r = lock_word(words, a, LOCK_RESOURCE);
-    note_owners(words, a, resource_word(words, r, RESOURCE_GRANT), owners);
-    note_owners(words, a, resource_word(words, r, RESOURCE_CONVERT), owners);
-}
-
-// The locks of a home chain, from `first` on, get the ranks after `rank`; answers the last of them.
-fn rank_chain(words: &[u32], first: u32, rank: u32, ranks: &mut [u32]) -> u32
-    requires { ⌜ Walking (now words) 0 first ⌝ }
-    requires { ⌜ rank ≤ most-locks ⌝ }
-    requires { ⌜ length (now ranks) ≡ lock-places ⌝ }
-    ensures { λ r. ⌜ Numbered (now (words .entry)) first rank (now (ranks .entry)) (now (ranks .exit)) r ⌝ }
-{
-    let mut k = first;
-    let mut last = rank;
-    while k != 0 {
-        last += 1;
-        let place = wide(k);
-        ranks[place] = last;
-        k = lock_word(words, k, LOCK_NEXT);
-    }
-    last
-}
-
-// The line of resource r: its convert chain, then its wait chain.
-fn rank_line(words: &[u32], r: u32, ranks: &mut [u32])
-    requires { ⌜ Some Core (now words) ⌝ }
-    requires { ⌜ (1 ≤ r) × (r ≤ resources-in (now words)) ⌝ }
-    requires { ⌜ length (now ranks) ≡ lock-places ⌝ }
-    ensures { λ _. ⌜ now (ranks .exit) ≡ write-ranks 0 (line (seen (now (words .entry))) r) (now (ranks .entry)) ⌝ }
-{
-    let last = rank_chain(words, resource_word(words, r, RESOURCE_CONVERT), 0, ranks);
-    rank_chain(words, resource_word(words, r, RESOURCE_WAIT), last, ranks);
-}
-
-// The rank of every blocked lock, and 0 for the others.
-fn rank_lines(words: &[u32], ranks: &mut [u32])
-    requires { ⌜ Some Core (now words) ⌝ }
-    requires { ⌜ Unranked (now ranks) ⌝ }
-    ensures { λ _. ⌜ Ranked (now (words .entry)) (now (ranks .exit)) ⌝ }
-{
-    let n = resource_count(words);
-    let mut r = 1;
-    while r <= n {
-        rank_line(words, r, ranks);
-        r += 1;
-    }
-}
-
-// Whether the blocked lock b stands ahead of the blocked lock a.
-fn stands_ahead(words: &[u32], ranks: &[u32], a: u32, b: u32) -> bool
-    requires { ⌜ Ranked (now words) (now ranks) ⌝ }
-    requires { ⌜ Blocked (now words) a ⌝ }
-    requires { ⌜ Blocked (now words) b ⌝ }
-    ensures { λ r. ⌜ r ≡ any (eqb b) (ahead (seen (now (words .entry))) a) ⌝ }
-{
-    let here = lock_word(words, a, LOCK_RESOURCE);
-    let there = lock_word(words, b, LOCK_RESOURCE);
-    (here == there) & (ranks[b as usize] < ranks[a as usize])
-}
-
-// Whether the blocked lock a leads to b: b is blocked, and stands ahead or is of an owner in a's way.
-fn leads(words: &[u32], ranks: &[u32], owners: &[bool], a: u32, b: u32) -> bool
-    requires { ⌜ Ranked (now words) (now ranks) ⌝ }
-    requires { ⌜ Blocked (now words) a ⌝ }
-    requires { ⌜ Barred (now words) a (now owners) ⌝ }
-    requires { ⌜ At (now words) b ⌝ }
-    ensures { λ r. ⌜ r ≡ leads (seen (now (words .entry))) a b ⌝ }
-{
-    if ranks[b as usize] == 0 {
+    let first = first_of(links, heads, j);
+    if first == 0 {
         return false;
     }
-    if stands_ahead(words, ranks, a, b) {
-        return true;
+    if !bars(words, a, j) {
+        return false;
     }
-    let owner = owner_of(words, b);
-    owners[owner]
+    let b = unmarked_from(words, links, marks, first);
+    let owner = link(links, j, LINK_OWNER);
+    heads[owner as usize] = b;
+    b != 0
 }
 
-// Whether the target is found by way of the step from `from` to b, through locks without a mark.
+// The first such holder, from `at` on, or 0.
+fn seek(
+    words: &[u32],
+    links: &[u16],
+    marks: &[bool; LOCK_PLACES],
+    a: u16,
+    at: u16,
+    heads: &mut [u16],
+) -> u16
+    requires { ⌜ Looks (now words) (now links) a at (now heads) (now marks) ⌝ }
+    ensures { λ k. ⌜ Sought (now (words .entry)) (now (links .entry)) a at (now (heads .entry)) (now (marks .entry)) (now (heads .exit)) k ⌝ }
+{
+    let mut j = at;
+    while j != 0 {
+        if stops(words, links, marks, a, j, heads) {
+            return j;
+        }
+        j = next_holder(words, j);
+    }
+    0
+}
+
+// Whether the target is found by way of b, where there is such a lock: through locks without a mark.
 fn follow(
     words: &[u32],
-    ranks: &[u32],
-    owners: &[bool],
-    from: u32,
-    b: u32,
-    target: u32,
-    depth: u32,
-    marks: &mut [bool],
+    links: &[u16],
+    b: u16,
+    target: u16,
+    depth: u16,
+    heads: &mut [u16],
+    marks: &mut [bool; LOCK_PLACES],
 ) -> bool
-    requires { ⌜ Following (now words) (now ranks) (now owners) from b depth (now marks) ⌝ }
-    ensures { λ r. ⌜ Followed (leads (seen (now (words .entry)))) (seen (now (words .entry)) .blocked) (locks-in (now (words .entry)) + 1) from b target (now (marks .entry)) (now (marks .exit)) r ⌝ }
+    requires { ⌜ Following (now words) (now links) b target depth (now heads) (now marks) ⌝ }
+    ensures { λ r. ⌜ Followed (now (words .entry)) (now (links .entry)) b target (now (heads .entry)) (now (marks .entry)) (now (heads .exit)) (now (marks .exit)) r ⌝ }
 {
-    if !leads(words, ranks, owners, from, b) {
+    if b == 0 {
         return false;
     }
     if b == target {
@@ -172,64 +124,114 @@ fn follow(
     if marks[b as usize] {
         return false;
     }
-    search(words, ranks, b, target, depth - 1, marks)
+    marks[b as usize] = true;
+    search(words, links, b, target, depth - 1, heads, marks)
 }
 
-// Whether the target is found from `from`, which is entered, through locks without a mark and in no more steps than the depth.
-fn search(
+// Whether the target is found by way of the blocked locks of the owners that are in the way of `from`.
+fn follow_owners(
     words: &[u32],
-    ranks: &[u32],
-    from: u32,
-    target: u32,
-    depth: u32,
-    marks: &mut [bool],
+    links: &[u16],
+    from: u16,
+    target: u16,
+    depth: u16,
+    heads: &mut [u16],
+    marks: &mut [bool; LOCK_PLACES],
 ) -> bool
-    requires { ⌜ Searching (now words) (now ranks) from depth (now marks) ⌝ }
-    ensures { λ r. ⌜ Searched (leads (seen (now (words .entry)))) (seen (now (words .entry)) .blocked) (locks-in (now (words .entry)) + 1) from target (now (marks .entry)) (now (marks .exit)) r ⌝ }
+    requires { ⌜ Entered (now words) (now links) from target depth (now heads) (now marks) ⌝ }
+    ensures { λ r. ⌜ Searched (now (words .entry)) (now (links .entry)) from target (now (heads .entry)) (now (marks .entry)) (now (heads .exit)) (now (marks .exit)) r ⌝ }
 {
-    if depth == 0 {
-        return false;
-    }
-    marks[from as usize] = true;
-    let mut owners = [false; OWNER_PLACES];
-    bar_owners(words, from, &mut owners);
-    let last = lock_count(words);
-    let mut b = 1;
-    while b <= last {
-        if follow(words, ranks, &owners, from, b, target, depth, marks) {
+    let mut at = seek(
+        words,
+        links,
+        marks,
+        from,
+        link(links, from, LINK_HOLDER),
+        heads,
+    );
+    while at != 0 {
+        let b = first_of(links, heads, at);
+        if follow(words, links, b, target, depth, heads, marks) {
             return true;
         }
-        b += 1;
+        at = seek(words, links, marks, from, at, heads);
     }
     false
 }
 
-// Whether the blocked lock a leads back to itself. No cycle passes a cleared lock, so these have their marks from the start.
-fn on_cycle(words: &[u32], ranks: &[u32], a: u32, depth: u32, cleared: &[bool; LOCK_PLACES]) -> bool
-    requires { ⌜ Trying (now words) (now ranks) a depth (now cleared) ⌝ }
+// Whether the target is found from `from`, which is entered, through locks without a mark and in no more steps than the
+// depth. The lock right ahead comes first: it leads to those further ahead.
+fn search(
+    words: &[u32],
+    links: &[u16],
+    from: u16,
+    target: u16,
+    depth: u16,
+    heads: &mut [u16],
+    marks: &mut [bool; LOCK_PLACES],
+) -> bool
+    requires { ⌜ Searching (now words) (now links) from target depth (now heads) (now marks) ⌝ }
+    ensures { λ r. ⌜ Searched (now (words .entry)) (now (links .entry)) from target (now (heads .entry)) (now (marks .entry)) (now (heads .exit)) (now (marks .exit)) r ⌝ }
+{
+    if depth == 0 {
+        return false;
+    }
+    if follow(
+        words,
+        links,
+        link(links, from, LINK_AHEAD),
+        target,
+        depth,
+        heads,
+        marks,
+    ) {
+        return true;
+    }
+    follow_owners(words, links, from, target, depth, heads, marks)
+}
+
+// Whether the blocked lock a leads back to itself. A search begins with the owners' whole lists. No cycle passes a cleared
+// lock, so these have their marks from the start.
+fn on_cycle(
+    words: &[u32],
+    links: &[u16],
+    firsts: &[u16],
+    a: u16,
+    depth: u16,
+    cleared: &[bool; LOCK_PLACES],
+    heads: &mut [u16],
+) -> bool
+    requires { ⌜ Trying (now words) (now links) a depth (now firsts) (now cleared) ⌝ }
+    requires { ⌜ length (now heads) ≡ length (now firsts) ⌝ }
     ensures { λ r. ⌜ r ≡ deadlocked (seen (now (words .entry))) a ⌝ }
 {
     if cleared[a as usize] {
         return false;
     }
+    copy_numbers(heads, firsts);
     let mut marks = *cleared;
-    search(words, ranks, a, a, depth, &mut marks)
+    search(words, links, a, a, depth, heads, &mut marks)
 }
 
 // The first lock on the blocked chain that leads back to itself, or 0. A lock that does not is cleared: no later search
 // enters it. A search is never deeper than the count of blocked locks that were left.
-fn first_on_cycle(words: &[u32], left: u32, cleared: [bool; LOCK_PLACES]) -> u32
-    requires { ⌜ Some Core (now words) ⌝ }
-    requires { ⌜ Uncleared (now words) cleared left ⌝ }
+fn first_on_cycle(
+    words: &[u32],
+    links: &[u16],
+    firsts: &[u16],
+    left: u16,
+    cleared: [bool; LOCK_PLACES],
+    heads: &mut [u16],
+) -> u16
+    requires { ⌜ Ready (now words) (now links) left (now firsts) cleared ⌝ }
+    requires { ⌜ length (now heads) ≡ length (now firsts) ⌝ }
     ensures { λ r. ⌜ r ≡ victim (seen (now (words .entry))) ⌝ }
 {
-    let mut ranks = [0; LOCK_PLACES];
-    rank_lines(words, &mut ranks);
     let mut cleared = cleared;
-    let mut k = header_word(words, BLOCKED);
+    let mut k = first_blocked(words);
     while k != 0 {
-        let next = lock_word(words, k, LOCK_NEXT_BLOCKED);
-        if on_cycle(words, &ranks, k, left, &cleared) {
+        let next = next_blocked(words, k);
+        if on_cycle(words, links, firsts, k, left, &cleared, heads) {
             return k;
         }
         cleared[k as usize] = true;
@@ -238,15 +240,80 @@ fn first_on_cycle(words: &[u32], left: u32, cleared: [bool; LOCK_PLACES]) -> u32
     0
 }
 
-// The lock that is denied to break a deadlock, or 0 if there is none. Where there is none all are cleared, without a search.
+// The same where free lines are cleared, with arrays that are as large as the tables need.
+fn victim_in(
+    words: &[u32],
+    free: &[bool; LOCK_PLACES],
+    links: &mut [u16],
+    firsts: &mut [u16],
+    heads: &mut [u16],
+) -> u16
+    requires { ⌜ Room (now words) (now free) (now links) (now firsts) (now heads) ⌝ }
+    ensures { λ r. ⌜ r ≡ victim (seen (now (words .entry))) ⌝ }
+{
+    let mut cleared = *free;
+    let mut lasts = [0; RESOURCE_PLACES];
+    link_lines(words, &cleared, links, &mut lasts);
+    number_owners(words, &lasts, links, firsts, heads);
+    let left = clear_ends(words, links, &mut lasts, &mut cleared);
+    if left == 0 {
+        return 0;
+    }
+    first_on_cycle(words, links, firsts, left, cleared, heads)
+}
+
+// Arrays for up to 32, 256 and 1,024 locks: to clear the large ones takes longer than a break on small tables. The language has
+// no arrays of a length that is not constant, so there is a function for each.
+const SMALL_PLACES: usize = 33;
+
+const MIDDLE_PLACES: usize = 257;
+
+fn victim_small(words: &[u32], free: &[bool; LOCK_PLACES]) -> u16
+    requires { ⌜ Free 32 (now words) (now free) ⌝ }
+    ensures { λ r. ⌜ r ≡ victim (seen (now (words .entry))) ⌝ }
+{
+    let mut links = [0; LINKS * SMALL_PLACES];
+    let mut firsts = [0; SMALL_PLACES];
+    let mut heads = [0; SMALL_PLACES];
+    victim_in(words, free, &mut links, &mut firsts, &mut heads)
+}
+
+fn victim_middle(words: &[u32], free: &[bool; LOCK_PLACES]) -> u16
+    requires { ⌜ Free 256 (now words) (now free) ⌝ }
+    ensures { λ r. ⌜ r ≡ victim (seen (now (words .entry))) ⌝ }
+{
+    let mut links = [0; LINKS * MIDDLE_PLACES];
+    let mut firsts = [0; MIDDLE_PLACES];
+    let mut heads = [0; MIDDLE_PLACES];
+    victim_in(words, free, &mut links, &mut firsts, &mut heads)
+}
+
+fn victim_large(words: &[u32], free: &[bool; LOCK_PLACES]) -> u16
+    requires { ⌜ Free most-locks (now words) (now free) ⌝ }
+    ensures { λ r. ⌜ r ≡ victim (seen (now (words .entry))) ⌝ }
+{
+    let mut links = [0; LINKS * LOCK_PLACES];
+    let mut firsts = [0; LOCK_PLACES];
+    let mut heads = [0; LOCK_PLACES];
+    victim_in(words, free, &mut links, &mut firsts, &mut heads)
+}
+
+// The lock that is denied to break a deadlock, or 0 if there is none. Where no owner of a blocked lock holds more than NL where
+// a lock is blocked, there is none, and nothing is searched.
 pub fn victim(words: &[u32]) -> u32
     requires { ⌜ Some Core (now words) ⌝ }
     ensures { λ r. ⌜ Tells Core victim (now (words .entry)) r ⌝ }
 {
-    let mut cleared = [false; LOCK_PLACES];
-    let left = clear_all(words, &mut cleared);
-    if left == 0 {
+    let mut free = [false; LOCK_PLACES];
+    if clear_free_lines(words, &mut free) {
         return 0;
     }
-    first_on_cycle(words, left, cleared)
+    let locks = lock_count(words);
+    if locks < SMALL_PLACES as u32 {
+        return victim_small(words, &free) as u32;
+    }
+    if locks < MIDDLE_PLACES as u32 {
+        return victim_middle(words, &free) as u32;
+    }
+    victim_large(words, &free) as u32
 }

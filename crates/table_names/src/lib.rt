@@ -1,4 +1,5 @@
-// Names and value blocks: bytes, and the slots of the lock manager's table. Widths stand here alone. Also the copying of words.
+// Names and value blocks: bytes, and the slots of the lock manager's table. Widths stand here alone. Also the copying of words and of
+// numbers.
 use table_bytes::WORD_BYTES;
 use table_bytes::word_at;
 use table_fields::RESOURCE_NAME_LENGTH;
@@ -111,7 +112,7 @@ pub fn clear(a: &mut [u8])
     }
 }
 
-// The bytes d become the bytes s, which are as many; and the same for words.
+// The bytes d become the bytes s, which are as many; and the same for words and for numbers of 16 bits.
 pub fn copy(d: &mut [u8], s: &[u8])
     requires { ⌜ length (now d) ≡ length (now s) ⌝ }
     ensures { λ _. ⌜ now (d .exit) ≡ now (s .entry) ⌝ }
@@ -124,6 +125,17 @@ pub fn copy(d: &mut [u8], s: &[u8])
 }
 
 pub fn copy_words(d: &mut [u32], s: &[u32])
+    requires { ⌜ length (now d) ≡ length (now s) ⌝ }
+    ensures { λ _. ⌜ now (d .exit) ≡ now (s .entry) ⌝ }
+{
+    let mut i = 0;
+    while i < s.len() {
+        d[i] = s[i];
+        i += 1;
+    }
+}
+
+pub fn copy_numbers(d: &mut [u16], s: &[u16])
     requires { ⌜ length (now d) ≡ length (now s) ⌝ }
     ensures { λ _. ⌜ now (d .exit) ≡ now (s .entry) ⌝ }
 {

@@ -7,10 +7,12 @@ mod measure;
 mod report;
 mod rows;
 mod svg;
+mod worst;
 
-use crate::measure::{Effort, measure};
+use crate::measure::{Cell, Effort, measure, measure_worst};
 use crate::report::Results;
 use crate::rows::ROWS;
+use crate::worst::WORST;
 use std::path::{Path, PathBuf};
 use std::process::ExitCode;
 use std::time::Duration;
@@ -52,7 +54,9 @@ fn run(effort: Effort, folder: &Path) -> std::io::Result<()> {
         }
         measure(&ROWS[row], size, fill, effort)
     });
-    std::fs::write(folder.join("BENCHMARKS.md"), report::page(&results))?;
+    eprintln!("worst tables for break");
+    let worst: Vec<Cell> = WORST.iter().map(|worst| measure_worst(worst, effort)).collect();
+    std::fs::write(folder.join("BENCHMARKS.md"), report::page(&results, &worst))?;
     std::fs::write(folder.join("benchmarks.svg"), svg::plot(&results))?;
     println!("wrote BENCHMARKS.md and benchmarks.svg to {}", folder.display());
     Ok(())

@@ -3,6 +3,7 @@
 use crate::call::{Areas, Call, Flat, Library, Manager, Tables};
 use crate::fill::{Fill, Size, filled};
 use crate::rows::Row;
+use crate::worst::Worst;
 use std::hint::black_box;
 use std::time::{Duration, Instant};
 
@@ -38,8 +39,18 @@ fn batch(size: Size) -> usize {
 pub fn measure(row: &Row, size: Size, fill: Fill, effort: Effort) -> Cell {
     let (base, calls) = row.calls(&filled(size, fill), batch(size));
     let copies = if row.is_list() { 1 } else { calls.len() };
+    measure_calls(row.title, base, calls, copies, effort)
+}
+
+/// Times a break on some of its worst tables.
+pub fn measure_worst(worst: &Worst, effort: Effort) -> Cell {
+    measure_calls(worst.title, worst.tables(), vec![Call::Break], 1, effort)
+}
+
+/// Times calls on so many copies of some tables.
+fn measure_calls(title: &str, base: Tables, calls: Vec<Call>, copies: usize, effort: Effort) -> Cell {
     let mut bench = Bench { areas: Areas::new(&base), copies: vec![base.clone(); copies], base, calls };
-    bench.check(row.title);
+    bench.check(title);
     let began = Instant::now();
     let mut turns = Vec::new();
     while turns.len() < LEAST_TURNS || (turns.len() < effort.most_turns && began.elapsed() < effort.time) {

@@ -3,6 +3,7 @@
 use crate::fill::{Fill, SIZES, Size};
 use crate::measure::{Cell, median};
 use crate::rows::{ROWS, SOUND};
+use crate::worst::WORST;
 use std::fmt::Write;
 
 /// All cells, by size, filling and row.
@@ -62,13 +63,15 @@ fn machine() -> String {
     format!("{model}, {} of its cores", models.len())
 }
 
-/// The whole page.
-pub fn page(results: &Results) -> String {
+/// The whole page. Break's worst tables have a cell each.
+pub fn page(results: &Results, worst: &[Cell]) -> String {
     let mut page = String::new();
     introduction(&mut page, results);
     for (at, size) in SIZES.iter().enumerate() {
         size_table(&mut page, results, at, *size);
     }
+    worst_table(&mut page, worst);
+    stack_table(&mut page);
     required_form(&mut page, results);
     share_table(&mut page, results);
     growth_table(&mut page, results);
@@ -88,7 +91,7 @@ fn introduction(page: &mut String, results: &Results) {
          converting, the others waiting. What clients are told while tables are filled they have polled. \"Request, marks all\" waits and marks \
          every lock on its name that holds more than NL, in \"full, one name\" half of all locks. \"Request, behind a wait chain\" is for PR where \
          PR is held and others wait: in \"full, one name\" three eighths of all locks, once those that convert are purged, elsewhere one. \
-         \"Break, no deadlock\" searches from every blocked lock in vain. The mixed list is 64 calls one after the other on the same tables: \
+         \"Break, no deadlock\" finds that no blocked lock leads back to itself. The mixed list is 64 calls one after the other on the same tables: \
          requests, conversions, releases, and a few cancels, polls and reads.\n\n\
          The middle of all ratios is **{:.2}**.\n\n\
          ![Ratios and growth](benchmarks.svg)\n",
@@ -113,6 +116,40 @@ fn size_table(page: &mut String, results: &Results, at: usize, size: Size) {
     }
 }
 
+/// Break on the worst tables that were found.
+fn worst_table(page: &mut String, worst: &[Cell]) {
+    let Size { resources, locks } = SIZES[SIZES.len() - 1];
+    let _ = write!(
+        page,
+        "\n## Break on its worst tables\n\n\
+         The sound tables of R {resources}, L {locks} on which break was found to take longest, made by `rust/bench/src/worst.rs`. Break rules out \
+         the locks that lead to none that is left, and those that none that is left leads to, in passes; then it searches from each lock that \
+         is left, in the order of the blocked chain, until one leads back to itself. A \"crowd\" is a client that holds EX on a name, where \
+         another one converts many locks from NL to EX, and that waits there for each other mode twice: a circle of its own, in which ten locks \
+         look at all holders. Flat looks at each lock once, as Tarjan's search does.\n\n\
+         | tables | what is in them | library | flat | ratio |\n|---|---|--:|--:|--:|\n"
+    );
+    for (spec, cell) in WORST.iter().zip(worst) {
+        let _ = writeln!(page, "| {} | {} | {} | {} | {:.2} |", spec.title, spec.what, time(cell.library), time(cell.flat), cell.ratio);
+    }
+}
+
+/// The stack that break takes: measured by another program, so the numbers stand here.
+fn stack_table(page: &mut String) {
+    page.push_str(
+        "\n## Break's stack\n\n\
+         Bytes on x86-64. A level of the recursion is what `deadlock_search::search` pushes, its frame and the return address in the compiled \
+         object, and the same by a run: `tests/stack_test.c` paints a thread's stack and makes the call on tables of two sizes whose search passes \
+         every lock. R-4 made it smaller: lock numbers have 16 bits, and the owners in a lock's way are found by a walk along the holders and no \
+         longer written down in each level. The arrays of the whole search take more than before: they have links and lists now.\n\n\
+         | | before R-4 | now |\n|---|--:|--:|\n\
+         | a level of the recursion | 448 | 176 |\n\
+         | of it arrays | 256 | 0 |\n\
+         | break at its deepest, 1,024 locks that are all blocked | 466,135 | 197,599 |\n\
+         | break that finds no deadlock | 12,711 | 18,807 |\n",
+    );
+}
+
 /// Where the library is behind, and what document 01's table of 384 entries has to do with it.
 fn required_form(page: &mut String, results: &Results) {
     page.push_str("\n## Where the library is behind\n\nRatios above 1.0");
@@ -128,8 +165,8 @@ fn required_form(page: &mut String, results: &Results) {
          Document 01 asks that grants are decided by a constant table of 64 by 6 entries. The language has no constant in memory, so the compiler \
          builds the 384 bytes on the stack at each use. That is 20 to 25 ns a decision, where masks take 2: on the smallest tables more than the \
          library's lead. A request pays it where somebody holds a mode on its name, unless it has to queue behind others; a conversion that is \
-         not down; release, cancel and purge where the sweep finds a head; break in its clearing, for each line on which a lock of a busy \
-         owner holds a mode. Where nobody holds a mode, the table is not asked. The soundness check asks masks.\n",
+         not down; release, cancel and purge where the sweep finds a head, and break where its sweep finds a head. Where nobody holds a mode, the \
+         table is not asked. The soundness check asks masks.\n",
     );
 }
 

@@ -187,6 +187,12 @@ events! {
     BreakBehindWaiters = "break: a cycle through a request that the wait chain alone held up",
     BreakNotFirst = "break: an earlier blocked lock isn't on a cycle",
     BreakBehindCycle = "break: an earlier blocked lock leads to the cycle and isn't on it",
+    BreakBetween = "break: an earlier blocked lock leads to the cycle and a lock on a cycle leads to it",
+    BreakSmall = "break: denies a lock of up to 32 in the tables",
+    BreakMiddle = "break: denies a lock of 33 to 256 in the tables",
+    BreakLarge = "break: denies a lock of more than 256 in the tables",
+    BreakLooksFurther = "break: no deadlock, and the client of a blocked lock holds more than NL where a lock is blocked",
+    BreakOnOneList = "break: two clients that have blocked locks differ by 128",
     BreakSweeps = "break: the sweep grants",
     BreakAgain = "break: a deadlock remains",
     BreakMarked = "break: denies a marked conversion",
@@ -504,10 +510,18 @@ impl Notes<'_> {
 
     fn break_deadlock(&self, found: &mut Vec<Event>) {
         let denied = self.result;
+        note(found, self.on_one_list(), Event::BreakOnOneList);
         if denied == 0 {
             let none = self.before.blocked.is_empty();
+            note(found, self.looks_further(), Event::BreakLooksFurther);
             return found.push(if none { Event::BreakNoneBlocked } else { Event::BreakNoDeadlock });
         }
+        let size = match self.before.most_locks {
+            ..=32 => Event::BreakSmall,
+            33..=256 => Event::BreakMiddle,
+            _ => Event::BreakLarge,
+        };
+        note(found, true, size);
         let converting = self.was(denied).held().is_some();
         note(found, true, if converting { Event::BreakConversion } else { Event::BreakRequest });
         note(found, self.before.blocked.front() != Some(&denied), Event::BreakNotFirst);
@@ -517,6 +531,22 @@ impl Notes<'_> {
             self.cycle(denied, found);
             note(found, self.after.clone().break_deadlock() != 0, Event::BreakAgain);
         }
+    }
+
+    /// Whether two clients that have blocked locks differ by 128: the library looks for both on one list.
+    fn on_one_list(&self) -> bool {
+        let clients = || self.before.blocked.iter().map(|lock| self.was(*lock).client);
+        clients().any(|client| client < 128 && clients().any(|other| other == client + 128))
+    }
+
+    /// Whether the client of a blocked lock holds more than NL on a resource where a lock is blocked: the library makes links then.
+    fn looks_further(&self) -> bool {
+        let blocked = || self.before.blocked.iter().map(|lock| self.was(*lock));
+        self.before.locks.values().any(|lock| {
+            lock.held().is_some_and(|held| held != Mode::Nl)
+                && blocked().any(|other| other.client == lock.client)
+                && blocked().any(|other| other.resource() == lock.resource())
+        })
     }
 
     /// What the shortest way from a lock back to itself is like.
@@ -533,8 +563,11 @@ impl Notes<'_> {
         note(found, resources.len() >= 3, Event::BreakMoreResources);
         note(found, way.len() >= 2 && all_convert && resources.len() == 1, Event::BreakConversionsOnly);
         note(found, way.iter().any(|lock| behind_waiters(self.before, *lock)), Event::BreakBehindWaiters);
-        let mut earlier = self.before.blocked.iter().take_while(|lock| **lock != denied);
-        note(found, earlier.any(|lock| !self.way(*lock, denied).is_empty()), Event::BreakBehindCycle);
+        let earlier = || self.before.blocked.iter().take_while(|lock| **lock != denied);
+        note(found, earlier().any(|lock| !self.way(*lock, denied).is_empty()), Event::BreakBehindCycle);
+        let from_a_cycle =
+            |to: u32| self.before.blocked.iter().any(|lock| !self.way(*lock, *lock).is_empty() && !self.way(*lock, to).is_empty());
+        note(found, earlier().any(|lock| !self.way(*lock, denied).is_empty() && from_a_cycle(*lock)), Event::BreakBetween);
     }
 
     /// A shortest way of one or more steps from one blocked lock to another: the locks stepped to. Empty if there is none.

@@ -242,6 +242,8 @@ fn comes(given: &Given) -> bool {
 fn met(event: &Event) -> bool {
     let too_much = [
         Event::DeepWaitQueue,
+        Event::BreakMiddle,
+        Event::BreakLarge,
         Event::PurgeManyBlocked,
         Event::PurgeManyUnread,
         Event::ConvertStores,

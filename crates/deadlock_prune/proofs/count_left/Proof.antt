@@ -1,6 +1,6 @@
 use Rattle.deadlock_prune.proofs.LocksLeft.{count-laws, Counting}
-use Rattle.tables.specs.Layout.{onward}
 use lib.ListN.{length}
+use Rattle.tables.specs.Layout.{onward}
 use Rattle.deadlock_prune.proofs.count_left.Statement.{statement}
 use Rattle.deadlock_prune.proofs.count_left.Tie as tie
 

@@ -1,4 +1,4 @@
-use Rattle.deadlock_prune.proofs.OwnersInTheWay.{hinders-laws}
+use Rattle.deadlock_prune.proofs.FrontPasses.{hinders-laws}
 use Rattle.deadlock_prune.proofs.hinders.Statement.{statement}
 use Rattle.deadlock_prune.proofs.hinders.Tie as tie
 
@@ -8,6 +8,7 @@ hinders-spec =
     (tie.spec
     (λ c κs. search hinders-laws)
     (λ c. search hinders-laws)
-    (λ c κs. search hinders-laws)
     (λ c. search hinders-laws)
+    (λ c. search hinders-laws)
+    (λ c κs. search hinders-laws)
     (λ c. search hinders-laws))

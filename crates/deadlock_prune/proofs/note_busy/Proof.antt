@@ -1,4 +1,4 @@
-use Rattle.deadlock_prune.proofs.BusyOwners.{note-busy-laws}
+use Rattle.deadlock_prune.proofs.FrontPasses.{note-busy-laws}
 use Rattle.deadlock_prune.proofs.note_busy.Statement.{statement}
 use Rattle.deadlock_prune.proofs.note_busy.Tie as tie
 
@@ -9,6 +9,7 @@ note-busy-spec =
     (λ c. search note-busy-laws)
     (λ c. search note-busy-laws)
     (λ c κs. search note-busy-laws)
+    (λ c. search note-busy-laws)
     (λ c. search note-busy-laws)
     (λ c. search note-busy-laws)
     (λ c. search note-busy-laws))

@@ -1,0 +1,4 @@
+pub mod FirstLocks
+pub mod ListedOwners
+pub mod NumberedLocks
+pub mod NumberedHolders

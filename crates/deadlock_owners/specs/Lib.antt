@@ -1,0 +1,2 @@
+pub mod OwnerLists
+pub mod OwnerNumbers
