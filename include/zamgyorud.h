@@ -73,9 +73,9 @@ extern "C" {
 #endif
 
 /* The version of this header and of the library that comes with it. */
-#define ZAMGYORUD_VERSION "0.5.0"
+#define ZAMGYORUD_VERSION "0.6.0"
 #define ZAMGYORUD_VERSION_MAJOR 0
-#define ZAMGYORUD_VERSION_MINOR 5
+#define ZAMGYORUD_VERSION_MINOR 6
 #define ZAMGYORUD_VERSION_PATCH 0
 
 /* The most that R, L and a client's number can be; the most bytes of a name; the bytes of a value. */
@@ -87,7 +87,7 @@ extern "C" {
 
 /* Lengths, for constant r and l: of the words in words, of the slots and of an image in bytes, of the memory for zamgyorud_tables_in in words. The
  * functions of the same names, below, take any numbers. */
-#define ZAMGYORUD_WORDS_LEN(r, l) (8 + 8 * (size_t)(r) + 10 * (size_t)(l))
+#define ZAMGYORUD_WORDS_LEN(r, l) (8 + 12 * (size_t)(r) + 10 * (size_t)(l))
 #define ZAMGYORUD_SLOTS_LEN(r, l) (96 * (size_t)(r))
 #define ZAMGYORUD_IMAGE_LEN(r, l) (4 * ZAMGYORUD_WORDS_LEN(r, l) + ZAMGYORUD_SLOTS_LEN(r, l))
 #define ZAMGYORUD_MEMORY_LEN(r, l) (ZAMGYORUD_WORDS_LEN(r, l) + ZAMGYORUD_SLOTS_LEN(r, l) / 4)
@@ -96,8 +96,8 @@ extern "C" {
  * the same stack comes on top, and so does the loader, at the first call of a function of the shared library. Load and holder of an image of
  * R 4 and L 8 need no more than the others. */
 #define ZAMGYORUD_STACK_BREAK(l) (20480 + 184 * (size_t)(l)) /* on tables of L locks: 204 KB for 1,024 */
-#define ZAMGYORUD_STACK_LOAD 73728
-#define ZAMGYORUD_STACK_HOLDER 73728
+#define ZAMGYORUD_STACK_LOAD 81920
+#define ZAMGYORUD_STACK_HOLDER 81920
 #define ZAMGYORUD_STACK_OTHERS 8192
 
 /* Modes. */

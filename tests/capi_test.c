@@ -13,16 +13,21 @@
 
 /* The layout: words of the header, of a resource and of a lock, bytes of a slot; where some of these words stand. */
 #define HEADER_WORDS 8
-#define RESOURCE_WORDS 8
+#define RESOURCE_WORDS 12
 #define LOCK_WORDS 10
 #define SLOT_BYTES 96
 #define WORD_BYTES 4
 #define HEADER_NOTICE 6
+#define RESOURCE_COUNTS 6
 #define LOCK_NOTICE 2
+#define LOCK_RESOURCE 3
 #define LOCK_CLIENT 4
 #define LOCK_STATE 5
+#define LOCK_HELD 6
 #define LOCK_COMPLETION 8
 #define LOCK_MARK 9
+
+#define MODES 6
 
 /* One more than document 01 allows. */
 #define TOO_MANY_RESOURCES 257
@@ -34,7 +39,8 @@
 #define IMAGE ZAMGYORUD_IMAGE_LEN(R, L)
 #define MEMORY ZAMGYORUD_MEMORY_LEN(R, L)
 
-/* A number; bytes; an accepted answer, with all its bits; one of poll; one of purge; a refused one; holder's two answers. */
+/* A number; bytes; an accepted answer, with all its bits; one of poll; one of purge; a refused one; holder's two answers; how many locks hold NL to
+ * EX on a resource. */
 #define IS(actual, expected) check(__LINE__, #actual, (actual), (expected))
 #define SAME(a, b, bytes) check(__LINE__, #a " as " #b, memcmp((a), (b), (bytes)) == 0, 1)
 #define GIVES(answer, result, lock) accepted(__LINE__, #answer, (answer), (result), (lock), 0)
@@ -44,6 +50,7 @@
     purged(__LINE__, "purge of client " #client, zamgyorud_tables_purge(&tables, (client)), (count), (blocked), (unread))
 #define REFUSES(answer, refusal) refused(__LINE__, #answer, (answer), (refusal))
 #define HOLDS(answer, refusal, client) holds(__LINE__, #answer, (answer), (refusal), (client))
+#define COUNTS(resource, ...) counts(__LINE__, (resource), (const uint32_t[MODES]){__VA_ARGS__})
 
 static unsigned passed;
 static unsigned failed;
@@ -138,6 +145,30 @@ static uint32_t *lock_word(uint32_t lock, size_t field)
     return tables.words + HEADER_WORDS + RESOURCE_WORDS * R + LOCK_WORDS * (lock - 1) + field;
 }
 
+/* The words of a resource's record that count the locks which hold NL to EX. */
+static uint32_t *count_words(uint32_t resource)
+{
+    return tables.words + HEADER_WORDS + RESOURCE_WORDS * (resource - 1) + RESOURCE_COUNTS;
+}
+
+static void counts(int line, uint32_t resource, const uint32_t *expected)
+{
+    static const char *const names[MODES] = {"NL", "CR", "CW", "PR", "PW", "EX"};
+
+    for (unsigned mode = 0; mode < MODES; mode++)
+        check(line, names[mode], count_words(resource)[mode], expected[mode]);
+}
+
+/* Fresh tables, where locks 1 and 2 hold PR on A. The first asks for EX, the second for a mode that PR is in the way of too: both wait. */
+static void both_convert(uint32_t mode)
+{
+    start_afresh();
+    GIVES(request(1, ZAMGYORUD_MODE_PR, 0, "A"), 1, 1);
+    GIVES(request(2, ZAMGYORUD_MODE_PR, 0, "A"), 1, 2);
+    GIVES(convert(1, 1, ZAMGYORUD_MODE_EX), 2, 0);
+    GIVES(convert(2, 2, mode), 2, 0);
+}
+
 /* Answers taken apart, also ones that no call gives: each part is 16 bits, and of a refusal nothing but its number is told. */
 static void test_answers(void)
 {
@@ -172,8 +203,8 @@ static void test_lengths(void)
     IS(zamgyorud_slots_len(R, L), SLOTS);
     IS(zamgyorud_image_len(R, L), IMAGE);
     IS(zamgyorud_memory_len(R, L), MEMORY);
-    IS(zamgyorud_image_len(1, 1), 200);
-    IS(zamgyorud_image_len(ZAMGYORUD_MOST_RESOURCES, ZAMGYORUD_MOST_LOCKS), 73760);
+    IS(zamgyorud_image_len(1, 1), 216);
+    IS(zamgyorud_image_len(ZAMGYORUD_MOST_RESOURCES, ZAMGYORUD_MOST_LOCKS), 77856);
     for (size_t i = 0; i < sizeof wrong / sizeof *wrong; i++) {
         IS(zamgyorud_words_len(wrong[i][0], wrong[i][1]), 0);
         IS(zamgyorud_slots_len(wrong[i][0], wrong[i][1]), 0);
@@ -415,11 +446,7 @@ static void test_deadlocks(void)
     TELLS(1, 0, 0, 0);
     GIVES(zamgyorud_tables_break(&tables), 0, 0);
 
-    start_afresh();
-    GIVES(request(1, ZAMGYORUD_MODE_PR, 0, "A"), 1, 1);
-    GIVES(request(2, ZAMGYORUD_MODE_PR, 0, "A"), 1, 2);
-    GIVES(convert(1, 1, ZAMGYORUD_MODE_EX), 2, 0);
-    GIVES(convert(2, 2, ZAMGYORUD_MODE_EX), 2, 0);
+    both_convert(ZAMGYORUD_MODE_EX);
     GIVES(zamgyorud_tables_break(&tables), 1, 1);
     TELLS(2, 0, 2, ZAMGYORUD_MODE_EX);
     TELLS(1, ZAMGYORUD_COMPLETION_CONVERSION_DENIED, 1, ZAMGYORUD_MODE_EX);
@@ -479,11 +506,7 @@ static void test_marks(void)
 /* Two locks hold PR, and each asks for more: both are marked while they are converting. */
 static void test_converting_marks(void)
 {
-    start_afresh();
-    GIVES(request(1, ZAMGYORUD_MODE_PR, 0, "A"), 1, 1);
-    GIVES(request(2, ZAMGYORUD_MODE_PR, 0, "A"), 1, 2);
-    GIVES(convert(1, 1, ZAMGYORUD_MODE_EX), 2, 0);
-    GIVES(convert(2, 2, ZAMGYORUD_MODE_PW), 2, 0);
+    both_convert(ZAMGYORUD_MODE_PW);
 
     /* a mark stops no cancel and stays; granted, the other lock has both */
     GIVES(zamgyorud_tables_cancel(&tables, 2, 2), ZAMGYORUD_CANCELLED_CONVERSION, 0);
@@ -652,11 +675,7 @@ static void test_purged_requests(void)
 static void test_purged_conversions(void)
 {
     for (unsigned denied = 0; denied <= 1; denied++) {
-        start_afresh();
-        GIVES(request(1, ZAMGYORUD_MODE_PR, 0, "A"), 1, 1);
-        GIVES(request(2, ZAMGYORUD_MODE_PR, 0, "A"), 1, 2);
-        GIVES(convert(1, 1, ZAMGYORUD_MODE_EX), 2, 0);
-        GIVES(convert(2, 2, ZAMGYORUD_MODE_EX), 2, 0);
+        both_convert(ZAMGYORUD_MODE_EX);
         IS(*lock_word(1, LOCK_MARK), ZAMGYORUD_MODE_EX);
         IS(*lock_word(2, LOCK_MARK), ZAMGYORUD_MODE_EX);
         if (denied) {
@@ -711,6 +730,114 @@ static void test_purged_together(void)
     TELLS(1, 0, 0, 0);
     TELLS(2, 0, 5, ZAMGYORUD_MODE_EX);
     PURGES(2, 1, 0, 0);
+}
+
+/* How many locks hold NL to EX on a name, through every call that changes what is held. */
+static void test_counts(void)
+{
+    start_afresh();
+    for (uint32_t resource = 1; resource <= R; resource++)
+        COUNTS(resource, 0, 0, 0, 0, 0, 0);
+    GIVES(request(1, ZAMGYORUD_MODE_CR, 0, "A"), 1, 1);
+    COUNTS(1, 0, 1, 0, 0, 0, 0);
+    GIVES(request(2, ZAMGYORUD_MODE_CR, 0, "A"), 1, 2);
+    GIVES(request(3, ZAMGYORUD_MODE_PW, 0, "A"), 1, 3);
+    GIVES(request(4, ZAMGYORUD_MODE_NL, 0, "A"), 1, 4);
+    COUNTS(1, 1, 2, 0, 0, 1, 0);
+
+    /* a waiting lock holds nothing, not even NL; a converting one is counted by what it holds, also after a cancel */
+    GIVES(request(5, ZAMGYORUD_MODE_EX, 0, "A"), 2, 5);
+    GIVES(convert(4, 4, ZAMGYORUD_MODE_CW), 2, 0);
+    COUNTS(1, 1, 2, 0, 0, 1, 0);
+    GIVES(zamgyorud_tables_cancel(&tables, 4, 4), ZAMGYORUD_CANCELLED_CONVERSION, 0);
+    GIVES(convert(4, 4, ZAMGYORUD_MODE_CW), 2, 0);
+    COUNTS(1, 1, 2, 0, 0, 1, 0);
+
+    /* another name has counts of its own */
+    GIVES(request(6, ZAMGYORUD_MODE_PR, 0, "B"), 1, 6);
+    COUNTS(1, 1, 2, 0, 0, 1, 0);
+    COUNTS(2, 0, 0, 0, 1, 0, 0);
+
+    /* down in place; a release whose sweep grants the conversion; purges, the second of which grants the request */
+    GIVES(convert(2, 2, ZAMGYORUD_MODE_NL), 1, 0);
+    COUNTS(1, 2, 1, 0, 0, 1, 0);
+    GIVES(release(3, 3, 0), 0, 0);
+    COUNTS(1, 1, 1, 1, 0, 0, 0);
+    PURGES(1, 1, 0, 0);
+    COUNTS(1, 1, 0, 1, 0, 0, 0);
+    PURGES(4, 1, 0, 1);
+    COUNTS(1, 1, 0, 0, 0, 0, 1);
+
+    /* in an image too; a freed resource counts nothing */
+    GIVES(zamgyorud_tables_image(&tables, area, IMAGE), 0, 0);
+    IS(area[WORD_BYTES * (HEADER_WORDS + RESOURCE_COUNTS + ZAMGYORUD_MODE_NL)], 1);
+    IS(area[WORD_BYTES * (HEADER_WORDS + RESOURCE_COUNTS + ZAMGYORUD_MODE_EX)], 1);
+    PURGES(5, 1, 0, 1);
+    COUNTS(1, 1, 0, 0, 0, 0, 0);
+    GIVES(release(2, 2, 0), 0, 0);
+    COUNTS(1, 0, 0, 0, 0, 0, 0);
+    COUNTS(2, 0, 0, 0, 1, 0, 0);
+}
+
+/* What break denies held nothing or keeps what it holds; and all locks there are hold one mode on one name. */
+static void test_counts_after_break(void)
+{
+    both_convert(ZAMGYORUD_MODE_EX);
+    GIVES(zamgyorud_tables_break(&tables), 1, 1);
+    COUNTS(1, 0, 0, 0, 2, 0, 0);
+    PURGES(1, 1, 0, 1);
+    COUNTS(1, 0, 0, 0, 0, 0, 1);
+    TELLS(2, ZAMGYORUD_COMPLETION_GRANTED, 2, ZAMGYORUD_MODE_EX);
+    GIVES(request(2, ZAMGYORUD_MODE_CW, 0, "A"), 2, 1);
+    GIVES(zamgyorud_tables_break(&tables), 1, 1);
+    COUNTS(1, 0, 0, 0, 0, 0, 1);
+
+    start_afresh();
+    for (uint32_t lock = 1; lock <= L; lock++)
+        GIVES(request(lock, ZAMGYORUD_MODE_CW, 0, "A"), 1, lock);
+    COUNTS(1, 0, 0, L, 0, 0, 0);
+}
+
+/* A count that isn't true, by one or by much, and any on a free resource: refused with 1, and nothing changes. An image is refused too. */
+static void test_unsound_counts(void)
+{
+    static const uint32_t more[] = {1, UINT32_MAX, 0x10000, 0x80000000};
+
+    start_afresh();
+    GIVES(request(1, ZAMGYORUD_MODE_CR, 0, "A"), 1, 1);
+    GIVES(request(2, ZAMGYORUD_MODE_PR, 0, "A"), 1, 2);
+    GIVES(request(3, ZAMGYORUD_MODE_EX, 0, "A"), 2, 3);
+    for (uint32_t resource = 1; resource <= 2; resource++)
+        for (unsigned mode = 0; mode < MODES; mode++)
+            for (size_t i = 0; i < sizeof more / sizeof *more; i++) {
+                count_words(resource)[mode] += more[i];
+                keep();
+                IS(zamgyorud_tables_sound(&tables), 0);
+                REFUSES(request(4, ZAMGYORUD_MODE_NL, 0, "A"), ZAMGYORUD_REFUSAL_UNSOUND);
+                REFUSES(convert(1, 1, ZAMGYORUD_MODE_NL), 1);
+                REFUSES(release(2, 2, 0), 1);
+                REFUSES(zamgyorud_tables_purge(&tables, 1), 1);
+                unchanged();
+                count_words(resource)[mode] -= more[i];
+            }
+
+    /* true in sum and not by mode: CR counted as PR, and the two exchanged with NL and EX */
+    count_words(1)[ZAMGYORUD_MODE_CR]--;
+    count_words(1)[ZAMGYORUD_MODE_PR]++;
+    IS(zamgyorud_tables_sound(&tables), 0);
+    count_words(1)[ZAMGYORUD_MODE_PR] = 0;
+    count_words(1)[ZAMGYORUD_MODE_NL] = count_words(1)[ZAMGYORUD_MODE_EX] = 1;
+    IS(zamgyorud_tables_sound(&tables), 0);
+    count_words(1)[ZAMGYORUD_MODE_NL] = count_words(1)[ZAMGYORUD_MODE_EX] = 0;
+    count_words(1)[ZAMGYORUD_MODE_CR] = count_words(1)[ZAMGYORUD_MODE_PR] = 1;
+    IS(zamgyorud_tables_sound(&tables), 1);
+
+    GIVES(zamgyorud_tables_image(&tables, area, IMAGE), 0, 0);
+    memset(other_memory, 0xaa, sizeof other_memory);
+    area[WORD_BYTES * (HEADER_WORDS + RESOURCE_COUNTS + ZAMGYORUD_MODE_CW)] = 1;
+    REFUSES(zamgyorud_tables_load(&other, area, IMAGE), 1);
+    IS(other.words[0], 0xaaaaaaaa);
+    HOLDS(zamgyorud_holder(area, IMAGE, (const uint8_t *)"A", 1), 1, UINT32_MAX);
 }
 
 /* The sum of document 02, R-3: the first of these numbers is the sum of the others. They are kept for each client, of its own calls and locks, and
@@ -822,7 +949,24 @@ static void count_locks(void)
     }
 }
 
-/* After each of many calls the sum holds, for each client and for all. The walk ends where it doesn't. */
+/* Whether each resource counts the locks that hold each mode there: those that are granted or converting. */
+static bool counts_are_true(void)
+{
+    uint32_t held[R + 1][MODES] = {{0}};
+
+    for (uint32_t lock = 1; lock <= L; lock++) {
+        const uint32_t state = *lock_word(lock, LOCK_STATE), resource = *lock_word(lock, LOCK_RESOURCE), mode = *lock_word(lock, LOCK_HELD);
+
+        if ((state == ZAMGYORUD_STATE_GRANTED || state == ZAMGYORUD_STATE_CONVERTING) && resource <= R && mode < MODES)
+            held[resource][mode]++;
+    }
+    for (uint32_t resource = 1; resource <= R; resource++)
+        if (memcmp(count_words(resource), held[resource], sizeof held[resource]) != 0)
+            return false;
+    return true;
+}
+
+/* After each of many calls the sum holds, for each client and for all, and the counts of held modes are true. The walk ends where it isn't so. */
 static void test_heard_once(void)
 {
     const unsigned failed_before = failed;
@@ -831,6 +975,8 @@ static void test_heard_once(void)
     start_afresh();
     for (unsigned call = 1; call <= CALLS && failed == failed_before; call++) {
         make_a_call();
+        snprintf(what, sizeof what, "whether counts are true after call %u", call);
+        check(__LINE__, what, counts_are_true(), true);
         count_locks();
         for (uint32_t client = 0; client <= CLIENTS; client++) {
             uint32_t sum = 0;
@@ -920,6 +1066,9 @@ int main(void)
     test_purged_requests();
     test_purged_conversions();
     test_purged_together();
+    test_counts();
+    test_counts_after_break();
+    test_unsound_counts();
     test_heard_once();
     test_unsound();
     test_nothing_lent();

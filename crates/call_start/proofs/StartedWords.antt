@@ -8,7 +8,10 @@ use lib.ListN.{getD, set, length, drop, replicate, length-set, length-replicate,
 use lib.Seq.{getD-set-other}
 use Rattle.tables.specs.Lists.{from, next}
 use Rattle.tables.specs.State.{no-lock, no-resource, resource, started}
-use Rattle.tables.specs.Layout.{header-width, resource-width, lock-width, Address, of-header, of-resource, of-lock, place, size, flat-map, content, words, slot-width, slot, slots}
+use Rattle.modes.specs.Modes.{NL, CR, CW, PR, PW, EX}
+use Rattle.tables.specs.Grants.{tally, empty}
+use Rattle.tables.proofs.Tallies.{tally-empty}
+use Rattle.tables.specs.Layout.{header-width, resource-width, lock-width, Address, of-header, of-resource, of-lock, place, size, flat-map, content, words-with, slot-width, slot, slots}
 use Rattle.tables.proofs.Cases.{by-equal}
 use Rattle.tables.proofs.Blocks.{flat-map-same}
 use Rattle.tables.proofs.Links.{next-here, next-past, next-last}
@@ -82,13 +85,22 @@ module _ (r l : ℕ) where
   header-zero (suc (suc zero)) = next-last 0 0
   header-zero (suc (suc (suc f))) = refl
 
+  none-holds : (k m : ℕ) → tally (started r l) k m ≡ 0
+  none-holds k m = tally-empty (started r l) k m (unfold empty in rw (started-resource r l k))
+
   resource-zero : (k f : ℕ) → content (started r l) (of-resource k (suc f)) ≡ 0
   resource-zero k zero = rw (started-resource r l k) (next-last 0 0)
   resource-zero k (suc zero) = rw (started-resource r l k) (next-last 0 0)
   resource-zero k (suc (suc zero)) = rw (started-resource r l k) (next-last 0 0)
   resource-zero k (suc (suc (suc zero))) = rw (started-resource r l k)
   resource-zero k (suc (suc (suc (suc zero)))) = rw (started-resource r l k)
-  resource-zero k (suc (suc (suc (suc (suc f))))) = refl
+  resource-zero k (suc (suc (suc (suc (suc zero))))) = none-holds k NL
+  resource-zero k (suc (suc (suc (suc (suc (suc zero)))))) = none-holds k CR
+  resource-zero k (suc (suc (suc (suc (suc (suc (suc zero))))))) = none-holds k CW
+  resource-zero k (suc (suc (suc (suc (suc (suc (suc (suc zero)))))))) = none-holds k PR
+  resource-zero k (suc (suc (suc (suc (suc (suc (suc (suc (suc zero))))))))) = none-holds k PW
+  resource-zero k (suc (suc (suc (suc (suc (suc (suc (suc (suc (suc zero)))))))))) = none-holds k EX
+  resource-zero k (suc (suc (suc (suc (suc (suc (suc (suc (suc (suc (suc f))))))))))) = refl
 
   lock-zero : (k f : ℕ) → content (started r l) (of-lock k (suc f)) ≡ 0
   lock-zero k zero = unfold started in next-last k 0
@@ -187,7 +199,7 @@ module _ (r l : ℕ) where
     is-content (of-lock k f) h = is-lock k f (h .0) (h .1) (h .2)
 
     pub started-words : left ≡ fresh-words r l
-    unfolding words
+    unfolding words-with
     started-words = is-written r l (content (started r l)) left left-long is-content ∙ sym (rw (resource-count, lock-count))
 
 -- the slots are zeros

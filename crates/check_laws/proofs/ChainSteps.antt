@@ -17,7 +17,7 @@ use Rattle.tables.proofs.Links.{distinct-count, absent-count}
 use Rattle.tables.proofs.FollowedChains.{ends-zero, follow-zero, ends-none, ends-step, follow-step, follow-turn, ends-agree, follow-agree, ends-runs, runs-distinct, runs-no-zero}
 use Rattle.check_laws.proofs.RecordPass.{count-one}
 use Rattle.check_laws.proofs.HeldModes.{four}
-use Rattle.check_laws.specs.Check.{steps, noticed-of, home-on, HolderCount, fitting, gather, holder-steps, mode-steps, fits-beside, tail-steps, convert-fit, other-modes, convert-from}
+use Rattle.check_laws.specs.Check.{steps, noticed-of, home-on, sum-over, HolderCount, fitting, gather, digit, digits-of, too-many, holder-steps, mode-steps, fits-beside, tail-steps, convert-fit, other-modes, convert-from}
 
 -- the chain of g from a ends in n steps, and each on it passes
 pub record Passed (g : ℕ → ℕ) (test : ℕ → Bool) (n a : ℕ) : Type 0 where
@@ -70,85 +70,108 @@ module _ (link : ℕ → ℕ) (test : ℕ → Bool) where
 
 -- HOLDERS: the same, where the modes are tested along the whole list
 abbrev pub one-more : HolderCount → HolderCount
-one-more x = record { met = suc (x .met); modes = x .modes; noticed = x .noticed }
+one-more x = record { met = suc (x .met); modes = x .modes; noticed = x .noticed; digits = x .digits }
+
+-- what is said of holders that pass
+abbrev pub counted : List ℕ → (List ℕ → ℕ) → List ℕ → HolderCount
+counted ws modes ks = record { met = length ks; modes = modes ks; noticed = noticed-of ws ks; digits = digits-of ws ks }
 
 module _ (ws : List ℕ) (s r : ℕ) (fits : List ℕ → Bool) (modes : List ℕ → ℕ) where
   module _ (g : ℕ → ℕ) (agree : (k : ℕ) → lock-link ws 0 (suc k) ≡ g (suc k)) (n a : ℕ) where
-    pub passed-holders : Passed g (home-on ws s r) n a → fits (follow g n a) ≡ true →
-        holder-steps ws s r fits modes n a 0 ≡ record { met = length (follow g n a); modes = modes (follow g n a); noticed = noticed-of ws (follow g n a) }
+    pub passed-holders : Passed g (home-on ws s r) n a → fits (follow g n a) ≡ true → holder-steps ws s r fits modes n a 0 0 ≡ counted ws modes (follow g n a)
     unfolding holder-steps
     passed-holders p f =
         let z : 0 + noticed-of ws (follow g n a) ≡ noticed-of ws (follow g n a) = omega arith in
-        rw (ends-agree (lock-link ws 0) g agree n a, follow-agree (lock-link ws 0) g agree n a, p .ended, p .tested, f, z)
+        let y : 0 + digits-of ws (follow g n a) ≡ digits-of ws (follow g n a) = omega arith in
+        rw (ends-agree (lock-link ws 0) g agree n a, follow-agree (lock-link ws 0) g agree n a, p .ended, p .tested, f, z, y)
 
-    pub holders-passed : holder-steps ws s r fits modes n a 0 .met ≤ n → Passed g (home-on ws s r) n a × (fits (follow g n a) ≡ true)
+    pub holders-passed : holder-steps ws s r fits modes n a 0 0 .met ≤ n → Passed g (home-on ws s r) n a × (fits (follow g n a) ≡ true)
     unfolding holder-steps
     holders-passed h =
         by-cases (ends g n a && (all (home-on ws s r) (follow g n a) && fits (follow g n a)))
         (λ p. (record { ended = search parts; tested = search parts }, search parts))
         (λ p. absurd (omega (arith, rw (ends-agree (lock-link ws 0) g agree n a, follow-agree (lock-link ws 0) g agree n a, p) at h)))
 
-  pub holders-zero : (n c : ℕ) → fits [] ≡ true → holder-steps ws s r fits modes n 0 c ≡ record { met = 0; modes = modes []; noticed = c }
-  unfolding holder-steps all keep
-  holders-zero n c f = let z : c + 0 ≡ c = omega arith in rw (ends-zero (lock-link ws 0) n, follow-zero (lock-link ws 0) n, f, z)
+  module _ (c d : ℕ) where
+    pub holders-zero : (n : ℕ) → fits [] ≡ true → holder-steps ws s r fits modes n 0 c d ≡ record { met = 0; modes = modes []; noticed = c; digits = d }
+    unfolding holder-steps all keep sum-over
+    holders-zero n f =
+        let z : c + 0 ≡ c = omega arith in
+        let y : d + 0 ≡ d = omega arith in
+        rw (ends-zero (lock-link ws 0) n, follow-zero (lock-link ws 0) n, f, z, y)
 
-  pub holders-none : (k c : ℕ) → k ≢ 0 → holder-steps ws s r fits modes 0 k c ≡ record { met = 1; modes = 0; noticed = 0 }
-  unfolding holder-steps
-  holders-none k c m = rw (ends-none (lock-link ws 0) k m)
+    pub holders-none : (k : ℕ) → k ≢ 0 → holder-steps ws s r fits modes 0 k c d ≡ too-many 0
+    unfolding holder-steps
+    holders-none k m = rw (ends-none (lock-link ws 0) k m)
 
-  -- a turn: b is what the modes' test says of the first, and the rest have a test and a set of their own
-  pub holders-turn : (n k c : ℕ) (b : Bool) (rest-fit : List ℕ → Bool) (rest-modes : List ℕ → ℕ) → 1 ≤ n → k ≢ 0 →
-      ((ks : List ℕ) → fits (k ∷ ks) ≡ (b && rest-fit ks)) → ((ks : List ℕ) → modes (k ∷ ks) ≡ rest-modes ks) →
-      holder-steps ws s r fits modes n k c
-      ≡ cond (home-on ws s r k && b) (one-more (holder-steps ws s r rest-fit rest-modes (n - 1) (lock-link ws 0 k) (c + bit (noticed (read-lock ws k))))) (record { met = suc n; modes = 0; noticed = 0 })
-  unfolding holder-steps all keep
-  holders-turn n k c b rest-fit rest-modes h m f g =
-      let ks = follow (lock-link ws 0) (n - 1) (lock-link ws 0 k) in
-      let z : suc (n - 1) ≡ n = omega arith in
-      rw (
-        ends-step (lock-link ws 0) n k h m,
-        follow-step (lock-link ws 0) n k h m,
-        f,
-        g,
-        four (home-on ws s r k) (all (home-on ws s r) ks) b (rest-fit ks),
-        count-one (noticed (read-lock ws k)) k (keep (λ k. noticed (read-lock ws k)) ks) c,
-        z,
-      )
-      (one-turn one-more (ends (lock-link ws 0) (n - 1) (lock-link ws 0 k)) (home-on ws s r k && b) (all (home-on ws s r) ks && rest-fit ks)
-      (record { met = length ks; modes = rest-modes ks; noticed = c + bit (noticed (read-lock ws k)) + noticed-of ws ks }) (record { met = n; modes = 0; noticed = 0 }))
+    -- a turn: b is what the modes' test says of the first, and the rest have a test and a set of their own
+    pub holders-turn : (n k : ℕ) (b : Bool) (rest-fit : List ℕ → Bool) (rest-modes : List ℕ → ℕ) → 1 ≤ n → k ≢ 0 →
+        ((ks : List ℕ) → fits (k ∷ ks) ≡ (b && rest-fit ks)) → ((ks : List ℕ) → modes (k ∷ ks) ≡ rest-modes ks) →
+        holder-steps ws s r fits modes n k c d
+        ≡ cond (home-on ws s r k && b)
+        (one-more (holder-steps ws s r rest-fit rest-modes (n - 1) (lock-link ws 0 k) (c + bit (noticed (read-lock ws k))) (d + digit (held-in ws k))))
+        (too-many n)
+    unfolding holder-steps all keep sum-over
+    holders-turn n k b rest-fit rest-modes h m f g =
+        let ks = follow (lock-link ws 0) (n - 1) (lock-link ws 0 k) in
+        let z : suc (n - 1) ≡ n = omega arith in
+        let y : d + (digit (held-in ws k) + digits-of ws ks) ≡ d + digit (held-in ws k) + digits-of ws ks = omega arith in
+        rw (
+          ends-step (lock-link ws 0) n k h m,
+          follow-step (lock-link ws 0) n k h m,
+          f,
+          g,
+          four (home-on ws s r k) (all (home-on ws s r) ks) b (rest-fit ks),
+          count-one (noticed (read-lock ws k)) k (keep (λ k. noticed (read-lock ws k)) ks) c,
+          y,
+          z,
+        )
+        (one-turn one-more (ends (lock-link ws 0) (n - 1) (lock-link ws 0 k)) (home-on ws s r k && b) (all (home-on ws s r) ks && rest-fit ks)
+        (record {
+          met = length ks;
+          modes = rest-modes ks;
+          noticed = c + bit (noticed (read-lock ws k)) + noticed-of ws ks;
+          digits = d + digit (held-in ws k) + digits-of ws ks;
+        })
+        (record { met = n; modes = 0; noticed = 0; digits = 0 }))
 
 -- so each held mode is tested with the set of those before it
-module _ (ws : List ℕ) (s r : ℕ) (fit : ℕ → ℕ → Bool) where
-  pub modes-zero : (n set c : ℕ) → mode-steps ws s r fit n 0 set c ≡ record { met = 0; modes = set; noticed = c }
+module _ (ws : List ℕ) (s r : ℕ) (fit : ℕ → ℕ → Bool) (set c d : ℕ) where
+  pub modes-zero : (n : ℕ) → mode-steps ws s r fit n 0 set c d ≡ record { met = 0; modes = set; noticed = c; digits = d }
   unfolding mode-steps fitting gather
-  modes-zero n set c = holders-zero ws s r (fitting fit (held-in ws) set) (gather (held-in ws) set) n c refl
+  modes-zero n = holders-zero ws s r (fitting fit (held-in ws) set) (gather (held-in ws) set) c d n refl
 
-  pub modes-none : (k set c : ℕ) → k ≢ 0 → mode-steps ws s r fit 0 k set c ≡ record { met = 1; modes = 0; noticed = 0 }
+  pub modes-none : (k : ℕ) → k ≢ 0 → mode-steps ws s r fit 0 k set c d ≡ too-many 0
   unfolding mode-steps
-  modes-none k set c = holders-none ws s r (fitting fit (held-in ws) set) (gather (held-in ws) set) k c
+  modes-none k = holders-none ws s r (fitting fit (held-in ws) set) (gather (held-in ws) set) c d k
 
-  pub modes-turn : (n k set c : ℕ) → 1 ≤ n → k ≢ 0 →
-      mode-steps ws s r fit n k set c
-      ≡ cond (home-on ws s r k && fit set (held-in ws k)) (one-more (mode-steps ws s r fit (n - 1) (lock-link ws 0 k) (with-mode set (held-in ws k)) (c + bit (noticed (read-lock ws k))))) (record { met = suc n; modes = 0; noticed = 0 })
+  pub modes-turn : (n k : ℕ) → 1 ≤ n → k ≢ 0 →
+      mode-steps ws s r fit n k set c d
+      ≡ cond (home-on ws s r k && fit set (held-in ws k))
+      (one-more (mode-steps ws s r fit (n - 1) (lock-link ws 0 k) (with-mode set (held-in ws k)) (c + bit (noticed (read-lock ws k))) (d + digit (held-in ws k))))
+      (too-many n)
   unfolding mode-steps fitting gather
-  modes-turn n k set c h m =
-      holders-turn ws s r (fitting fit (held-in ws) set) (gather (held-in ws) set) n k c (fit set (held-in ws k))
+  modes-turn n k h m =
+      holders-turn ws s r (fitting fit (held-in ws) set) (gather (held-in ws) set) c d n k (fit set (held-in ws k))
       (fitting fit (held-in ws) (with-mode set (held-in ws k))) (gather (held-in ws) (with-mode set (held-in ws k))) h m (λ ks. refl) (λ ks. refl)
 
 -- and a convert head with the granted modes
 module _ (ws : List ℕ) (r set : ℕ) where
-  pub convert-zero : convert-from ws r 0 set ≡ record { met = 0; modes = set; noticed = 0 }
+  pub convert-zero : convert-from ws r 0 set ≡ record { met = 0; modes = set; noticed = 0; digits = 0 }
   unfolding convert-from convert-fit other-modes
-  convert-zero = holders-zero ws 2 r (convert-fit (held-in ws) set) (other-modes (held-in ws) set) (locks-in ws) 0 refl
+  convert-zero = holders-zero ws 2 r (convert-fit (held-in ws) set) (other-modes (held-in ws) set) 0 0 (locks-in ws) refl
 
   pub convert-turn : (c : ℕ) → 1 ≤ locks-in ws → c ≢ 0 →
       convert-from ws r c set
-      ≡ cond (home-on ws 2 r c && fits-set set (held-in ws c)) (one-more (tail-steps ws r (held-in ws c) (locks-in ws - 1) (lock-link ws 0 c) set (bit (noticed (read-lock ws c))))) (record { met = suc (locks-in ws); modes = 0; noticed = 0 })
+      ≡ cond (home-on ws 2 r c && fits-set set (held-in ws c))
+      (one-more (tail-steps ws r (held-in ws c) (locks-in ws - 1) (lock-link ws 0 c) set (bit (noticed (read-lock ws c)))))
+      (too-many (locks-in ws))
   unfolding convert-from convert-fit other-modes mode-steps
   convert-turn c h m =
       let z : 0 + bit (noticed (read-lock ws c)) ≡ bit (noticed (read-lock ws c)) = omega arith in
-      rw z at
-      (holders-turn ws 2 r (convert-fit (held-in ws) set) (other-modes (held-in ws) set) (locks-in ws) c 0 (fits-set set (held-in ws c))
+      let y : 0 + digit (held-in ws c) ≡ digit (held-in ws c) = omega arith in
+      rw (z, y) at
+      (holders-turn ws 2 r (convert-fit (held-in ws) set) (other-modes (held-in ws) set) 0 0 (locks-in ws) c (fits-set set (held-in ws c))
       (fitting (fits-beside (held-in ws c)) (held-in ws) set) (gather (held-in ws) set) h m (λ ks. refl) (λ ks. refl))
 
 -- the first of a chain that passes is 0 or passes

@@ -128,7 +128,7 @@ module _ (ws ss : List ℕ) (r : ℕ) (from-one : 1 ≤ r) (to-last : r ≤ reso
   waits-read = ap (λ (x : Resource). x .wait) (resource-of ws ss r from-one to-last)
 
   module _ (some : 1 ≤ locks-in ws) (modes : ModesLow ws) (g : Right ws r grants 1) (c : Right ws r converts 2) (w : Right ws r waits 3) where
-    held-low : (q : Queue) (s : ℕ) → Right ws r q s → Low (held-in ws) (queue-in ws r q)
+    pub held-low : (q : Queue) (s : ℕ) → Right ws r q s → Low (held-in ws) (queue-in ws r q)
     held-low q s p = each-counted (λ k. held-in ws k ≤ 5) (queue-in ws r q) (λ k m. let i = queue-member ws r q s p k m in modes k (i .0) (i .1) .0)
 
     asked-low : (q : Queue) (s : ℕ) → Right ws r q s → Low (asked-in ws) (queue-in ws r q)
@@ -146,13 +146,13 @@ module _ (ws ss : List ℕ) (r : ℕ) (from-one : 1 ≤ r) (to-last : r ≤ reso
         (λ e. omega (arith, queue-once ws r grants 1 g j))
         (λ m. absurd (apart j (omega arith) (omega arith)))))
 
-    holder-lock : (j : ℕ) → 1 ≤ count j (queue-in ws r grants ++ queue-in ws r converts) → lock (read ws ss) j ≡ read-lock ws j
+    pub holder-lock : (j : ℕ) → 1 ≤ count j (queue-in ws r grants ++ queue-in ws r converts) → lock (read ws ss) j ≡ read-lock ws j
     holder-lock j m =
         by-append j (queue-in ws r grants) (queue-in ws r converts) m
         (λ a. let i = queue-member ws r grants 1 g j a in lock-of ws ss j (i .0) (i .1))
         (λ a. let i = queue-member ws r converts 2 c j a in lock-of ws ss j (i .0) (i .1))
 
-    holders-read : holders (read ws ss) r ≡ queue-in ws r grants ++ queue-in ws r converts
+    pub holders-read : holders (read ws ss) r ≡ queue-in ws r grants ++ queue-in ws r converts
     unfolding holders
     holders-read = rw (grants-read, converts-read)
 

@@ -1,8 +1,10 @@
 pub mod RecordPass
 pub mod ChainSteps
 pub mod HeldModes
+pub mod CountedModes
 pub mod ResourceWalk
 pub mod Heads
+pub mod TrueCounts
 pub mod RecordTests
 pub mod Sides
 pub mod Homes

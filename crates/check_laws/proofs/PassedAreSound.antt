@@ -7,12 +7,13 @@ use native.Mathlib.Omega.{arith}
 use lib.ListN.{length}
 use lib.Dec.{eqb, leb}
 use borrow.Author.Tests.{not-true, eqb-true, eq-eqb, leb-true, le-leb}
+use Rattle.modes.proofs.Laws.{all-modes-intro}
 use Rattle.tables.specs.Lists.{count, bit, all, from}
-use Rattle.tables.specs.State.{resource, blocked-lock, noticed, Queue, grants, converts, waits, LockChain, free-locks, denied, blocked, notices, queue, free-resources, of-locks, chain, belongs}
-use Rattle.tables.specs.Layout.{of-header, of-resource, of-lock, slot-width, resources-in, locks-in, word-in, link-in, read-chain, read-lock, read}
-use Rattle.tables.specs.Grants.{no-grantable-head}
-use Rattle.tables.specs.Sound.{sizes-right, zeros-right, resource-index, lock-index, indices-right, chain-ends, chains-end, resource-right, stands-right, home-right, fields-right, lock-right, linked-right, holders-compatible, state-right, sound}
-use Rattle.tables.proofs.Cases.{by-cases, eqb-same, and-left, and-right, and-intro, parts}
+use Rattle.tables.specs.State.{most-locks, resource, blocked-lock, noticed, Queue, grants, converts, waits, LockChain, free-locks, denied, blocked, notices, queue, free-resources, of-locks, chain, belongs}
+use Rattle.tables.specs.Layout.{of-header, of-resource, of-lock, slot-width, resources-in, locks-in, word-in, link-in, read-chain, read-lock, read, count-in}
+use Rattle.tables.specs.Grants.{tally, no-grantable-head}
+use Rattle.tables.specs.Sound.{sizes-right, zeros-right, resource-index, lock-index, indices-right, chain-ends, chains-end, resource-right, stands-right, home-right, fields-right, lock-right, linked-right, holders-compatible, counts-right, state-right, sound}
+use Rattle.tables.proofs.Cases.{by-cases, eqb-same, and-left, and-intro, parts}
 use Rattle.tables.specs.Validity.{used, Place}
 use Rattle.tables.proofs.StateCases.{StateOk}
 use Rattle.tables.proofs.ReadState.{resources-read, lock-of, used-in}
@@ -24,6 +25,7 @@ use Rattle.check_laws.specs.Check.{row-in, used-row, row-fine, resource-
 use Rattle.check_laws.proofs.ChainSteps.{first-low, links-low}
 use Rattle.check_laws.proofs.ResourceWalk.{link-of, head-of, queue-in}
 use Rattle.check_laws.proofs.Heads.{home-low, ModesLow, grants-read, converts-read, waits-read, fit-is, heads-are}
+use Rattle.check_laws.proofs.TrueCounts.{fine-true}
 use Rattle.check_laws.proofs.RecordTests.{fields-same, fine-right, names-unique}
 use Rattle.check_laws.proofs.Sides.{side-first, side-link, Spare, Blocked, Noticed, spare-side, blocked-side, notice-side}
 use Rattle.check_laws.proofs.Homes.{free-in, denied-in, homes-in, Homes, homes-met}
@@ -58,6 +60,10 @@ module _ (ws ss : List ℕ) (h : check ws ss ≡ true) where
   some : 1 ≤ locks-in ws
   unfolding sizes-right
   some = let z = sizes in leb-true 1 (locks-in ws) (search parts depth 20)
+
+  few : locks-in ws ≤ most-locks
+  unfolding sizes-right
+  few = let z = sizes in leb-true (locks-in ws) most-locks (search parts depth 20)
 
   sized : length ss ≡ slot-width * resources-in ws
   unfolding sizes-right
@@ -105,11 +111,8 @@ module _ (ws ss : List ℕ) (h : check ws ss ≡ true) where
 
   -- 1. WORDS GIVEN AS ZERO, INDICES, CHAINS
   zeros : zeros-right ws ≡ true
-  unfolding zeros-right resource-fine row-fine row-in
-  zeros =
-      and-intro _ _ header-zero
-      (each-intro (λ r. eqb (word-in ws (of-resource r 6)) 0 && eqb (word-in ws (of-resource r 7)) 0) (resources-in ws)
-      (λ r p q. let z = each-at (resource-fine ws ss) (resources-in ws) resources-fine r p q in search (and-intro, and-left, and-right) depth 20))
+  unfolding zeros-right
+  zeros = header-zero
 
   named-bytes : (r : ℕ) → named ws r ≡ true → eqb (word-in ws (of-resource r 4)) 0 ≡ false
   unfolding named
@@ -255,12 +258,21 @@ module _ (ws ss : List ℕ) (h : check ws ss ≡ true) where
       (sym (fit-is ws ss r p q some modes (w .granted) (w .converting) (w .waiting)) ∙ and-intro _ _ (w .fit) (w .beyond))
       (sym (heads-are ws ss r p q some modes (w .granted) (w .converting) (w .waiting)) ∙ w .heads)
 
+  -- COUNTS
+  counts-are : (r : ℕ) → 1 ≤ r → r ≤ resources-in ws → counts-right ws (read ws ss) r ≡ true
+  unfolding counts-right
+  counts-are r p q =
+      let w = met .0 .walked r p q in
+      all-modes-intro (λ m. eqb (count-in ws r m) (tally (read ws ss) r m))
+      (λ m l. eq-eqb (count-in ws r m) (tally (read ws ss) r m) (fine-true ws ss r p q some modes (w .granted) (w .converting) (w .waiting) few (w .counts) m l))
+
   pub check-sound : sound ws ss ≡ true
   unfolding sound state-right
   check-sound =
       and-intro _ _ (and-intro _ _ (and-intro _ _ (and-intro _ _ sizes zeros) indices) endings)
-      (and-intro _ _ (and-intro _ _ (and-intro _ _
+      (and-intro _ _ (and-intro _ _ (and-intro _ _ (and-intro _ _
       (each-intro (resource-right ws ss (read ws ss)) (resources-in ws) resource-is)
       (each-intro (lock-right (read ws ss)) (locks-in ws) lock-is))
       (each-intro (λ k. linked-right ws (read ws ss) blocked k && linked-right ws (read ws ss) notices k) (locks-in ws) links-are))
       (each-intro (λ r. holders-compatible (read ws ss) r && no-grantable-head (read ws ss) r) (resources-in ws) modes-are))
+      (each-intro (counts-right ws (read ws ss)) (resources-in ws) counts-are))

@@ -7,24 +7,41 @@ use native.Mathlib.Omega.{arith}
 use lib.ListN.{length, take}
 use lib.Dec.{eqb, leb}
 use borrow.Author.Tests.{eqb-true, eq-eqb, ne-eqb, leb-true, leb-false, le-leb, not-true}
+use Rattle.modes.specs.Modes.{NL, CR, CW, PR, PW, EX}
 use Rattle.tables.specs.declared.Lock.{Lock}
 use Rattle.tables.specs.Lists.{within, count, bit, from, null, same}
 use Rattle.tables.specs.State.{Resource, resource}
-use Rattle.tables.specs.Layout.{of-resource, slot-width, resources-in, locks-in, word-in, slot-in, read-resource, read}
+use Rattle.tables.specs.Layout.{of-resource, slot-width, resources-in, locks-in, word-in, slot-in, read-resource, read, count-in}
+use Rattle.tables.specs.Grants.{tally}
 use Rattle.tables.specs.Sound.{free-resource-right, name-unique, used-resource-right, resource-right, on-resource, fields-right}
 use Rattle.tables.proofs.Cases.{by-cases, by-equal, clash, and-left, and-right, and-intro, or-left, or-right, parts}
 use Rattle.tables.proofs.Counts.{within-le, le-within, all-at, all-intro, from-has, from-below, from-above, same-refl, same-eq}
 use Rattle.tables.proofs.Valid.{absent}
 use Rattle.tables.proofs.ReadState.{resources-read, resource-of, slot-in-length}
 use Rattle.tables.proofs.Conditions.{each-at, each-intro}
+use Rattle.tables.proofs.Tallies.{tally-empty}
 use Rattle.tables.proofs.PaperWords.{heads-zero}
 use Rattle.table_names.specs.Names.{named, slot-fine, name-in, apart, apart-after, names-differ}
-use Rattle.check_laws.specs.Check.{row-in, free-row, used-row, row-fine, resource-fine, on-named, fields-fine}
+use Rattle.check_laws.specs.Check.{row-in, unheld, free-row, used-row, row-fine, resource-fine, on-named, fields-fine, digit, total, digits-in, counts-fine}
 
 null-take : (n : ℕ) (xs : List ℕ) → 1 ≤ length xs → null (take n xs) ≡ eqb n 0
 null-take zero xs h = refl
 null-take (suc n) [] h = absurd (omega arith)
 null-take (suc n) (x ∷ xs) h = rw (ne-eqb (suc n) 0 (omega arith))
+
+-- six zeros are true where nobody holds a mode
+pub unheld-fine : (ws : List ℕ) (r : ℕ) → unheld ws r ≡ true → counts-fine ws r 0 0 ≡ true
+unfolding counts-fine total digits-in digit unheld
+unheld-fine ws r h =
+    let none : (m : ℕ) → eqb (count-in ws r m) 0 ≡ true → count-in ws r m ≡ 0 = λ m. eqb-true (count-in ws r m) 0 in
+    rw (
+      none NL (search parts depth 20),
+      none CR (search parts depth 20),
+      none CW (search parts depth 20),
+      none PR (search parts depth 20),
+      none PW (search parts depth 20),
+      none EX (search parts depth 20),
+    )
 
 module _ (ws ss : List ℕ) (sized : length ss ≡ slot-width * resources-in ws) where
   -- LOCKS
@@ -85,11 +102,19 @@ module _ (ws ss : List ℕ) (sized : length ss ≡ slot-width * resources-in ws)
         let a2 : count r (read ws ss .free-resources) ≡ 0 = a ∙ (rw z) in
         rw (z, heads-zero ws ss some r low high, a2, b (rw z)) (search (and-intro, and-left, and-right) depth 20))
 
-    pub right-fine : eqb (word-in ws (of-resource r 6)) 0 ≡ true → eqb (word-in ws (of-resource r 7)) 0 ≡ true → resource-right ws ss (read ws ss) r ≡ true → resource-fine ws ss r ≡ true
+    -- no lock holds a mode on a free resource, so its counts are zero if they are true
+    free-unheld : ((m : ℕ) → m ≤ 5 → count-in ws r m ≡ tally (read ws ss) r m) → free-resource-right ws ss (read ws ss) r ≡ true → unheld ws r ≡ true
+    unfolding free-resource-right unheld
+    free-unheld c h =
+        let none : (m : ℕ) → m ≤ 5 → eqb (count-in ws r m) 0 ≡ true = λ m l. eq-eqb (count-in ws r m) 0 (c m l ∙ tally-empty (read ws ss) r m (search parts depth 20)) in
+        rw (none NL (omega arith), none CR (omega arith), none CW (omega arith), none PR (omega arith), none PW (omega arith), none EX (omega arith))
+
+    pub right-fine : ((m : ℕ) → m ≤ 5 → count-in ws r m ≡ tally (read ws ss) r m) → resource-right ws ss (read ws ss) r ≡ true → resource-fine ws ss r ≡ true
     unfolding resource-right free-resource-right used-resource-right resource-fine row-fine slot-fine named free-row used-row row-in
-    right-fine a b h =
+    right-fine c h =
         by-cases (eqb (word-in ws (of-resource r 4)) 0)
-        (λ z. let h2 = rw (z, heads-zero ws ss some r low high) at h in
+        (λ z. let none = free-unheld c (rw z at h) in
+        let h2 = rw (z, heads-zero ws ss some r low high) at h in
         rw z (search (and-intro, and-left, and-right) depth 20))
         (λ z. let h2 = rw (z, heads-zero ws ss some r low high) at h in
         rw z (search (and-intro, and-left, and-right) depth 20))

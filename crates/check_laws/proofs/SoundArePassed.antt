@@ -20,13 +20,14 @@ use Rattle.tables.proofs.StateCases.{StateOk, ok-named}
 use Rattle.tables.proofs.Valid.{ok-at, modes-low}
 use Rattle.tables.specs.Threads.{Within}
 use Rattle.tables.proofs.ReadState.{lock-of, used-in}
-use Rattle.tables.proofs.Conditions.{each-at, each-intro, state, locks-low, slots-sized, header-zero, resource-zeros, chain-ended, chain-inside, fields-tested, stands-as, blocked-off, notice-off, compatible-tested, heads-tested}
+use Rattle.tables.proofs.Conditions.{each-at, each-intro, state, locks-low, slots-sized, header-zero, counts-true, chain-ended, chain-inside, fields-tested, stands-as, blocked-off, notice-off, compatible-tested, heads-tested}
 use Rattle.tables.proofs.Fields.{fields-are}
 use Rattle.tables.proofs.ChainMembers.{on-queue}
 use Rattle.check_laws.specs.Check.{resource-fine, on-named, fields-fine, links-fine, lock-fine, stands, home-on, fitting, check}
 use Rattle.check_laws.proofs.ChainSteps.{Passed}
 use Rattle.check_laws.proofs.ResourceWalk.{queue-in, Right, Walked}
 use Rattle.check_laws.proofs.Heads.{ModesLow, grants-read, converts-read, waits-read, fit-is, heads-are}
+use Rattle.check_laws.proofs.TrueCounts.{true-fine}
 use Rattle.check_laws.proofs.RecordTests.{fields-same, right-fine, right-spare, right-unique, unique-names}
 use Rattle.check_laws.proofs.Sides.{Spare, Blocked, Noticed, side-spare, side-blocked, side-notice}
 use Rattle.check_laws.proofs.Homes.{free-in, denied-in, Homes, homes-are}
@@ -62,7 +63,7 @@ module _ (ws ss : List ℕ) (h : sound ws ss ≡ true) where
   resources-pass : all (resource-fine ws ss) (from 1 (resources-in ws)) ≡ true
   resources-pass =
       each-intro (resource-fine ws ss) (resources-in ws)
-      (λ r p q. let z = resource-zeros ws ss h r p q in right-fine ws ss sized some r p q (eq-eqb _ 0 (z .0)) (eq-eqb _ 0 (z .1)) (resource-is r p q))
+      (λ r p q. right-fine ws ss sized some r p q (counts-true ws ss h r p q) (resource-is r p q))
 
   fields : (k : ℕ) → 1 ≤ k → k ≤ locks-in ws → fields-right (read ws ss) (read-lock ws k) (read-lock ws k .state) ≡ true
   fields k p q = rw (lock-of ws ss k p q) at (fields-tested ws ss h k p q)
@@ -178,6 +179,7 @@ module _ (ws ss : List ℕ) (h : sound ws ss ≡ true) where
           waiting = w;
           fit = and-left (fitting fits-set (held-in ws) 0 (queue-in ws r grants)) _ fits;
           beyond = and-right (fitting fits-set (held-in ws) 0 (queue-in ws r grants)) _ fits;
+          counts = true-fine ws ss r low high some modes g c w (counts-true ws ss h r low high);
           heads = heads-are ws ss r low high some modes g c w ∙ heads-tested ws ss h r low high;
         }
 

@@ -2,12 +2,13 @@
 use mathlib.Core.Path.{_≡_, refl, sym, _∙_}
 use mathlib.Core.Bool.{Bool, true, false, not, cond, _&&_, _||_}
 use mathlib.Core.List.{List}
-use Prim.Native.Nat.{ℕ, suc, _+_, _-_, _≤_, _<_}
+use Prim.Native.Nat.{ℕ, suc, _+_, _-_, _*_, _/_, _%_, _^_, _≤_, _<_}
 use native.Mathlib.Nat.{sub-zero}
 use native.Mathlib.Omega.{arith}
-use lib.Dec.{eqb}
+use lib.Dec.{eqb, leb}
 use borrow.Author.Tests.{not-true, not-false, le-leb, lt-leb, leb-true, eqb-true}
 use Rattle.modes.specs.Sets.{fits-set, with-mode}
+use Rattle.modes.proofs.Table.{below}
 use Rattle.tables.specs.declared.Lock.{Lock}
 use Rattle.tables.specs.Lists.{bit}
 use Rattle.tables.specs.State.{noticed}
@@ -15,7 +16,7 @@ use Rattle.tables.specs.Layout.{of-resource, of-lock, locks-in, word-in, read-l
 use Rattle.tables.specs.Sound.{modes-right, client-right, granted-completion}
 use Rattle.tables.proofs.Cases.{and-left, and-right, parts}
 use Rattle.check_laws.specs.declared.HolderCount.{HolderCount}
-use Rattle.check_laws.specs.Check.{on-named, fields-fine, links-fine, lock-fine, stands, home-on, mode-steps, fits-beside, tail-steps, grant-walk}
+use Rattle.check_laws.specs.Check.{on-named, fields-fine, links-fine, lock-fine, stands, home-on, digit, too-many, mode-steps, fits-beside, tail-steps, grant-walk}
 use Rattle.check_laws.proofs.ChainSteps.{one-more, modes-zero, modes-none, modes-turn}
 use Rattle.check_queues.specs.QueueWalks.{modes-left, over, Walked}
 
@@ -73,36 +74,49 @@ pub held-read : (ws : List ℕ) (k : ℕ) {h : ℕ} → h ≡ word-in ws (of-loc
 unfolding read-lock
 held-read ws k e = e
 
+-- the code's shifts give the mode's digit
+pub digit-shifts : (h : ℕ) → h < 6 → 1 * 2 ^ (12 * h) % 18446744073709551616 / 4096 ≡ digit h
+unfolding digit
+digit-shifts h l =
+    eqb-true (1 * 2 ^ (12 * h) % 18446744073709551616 / 4096) (digit h)
+    (below (λ h. eqb (1 * 2 ^ (12 * h) % 18446744073709551616 / 4096) (digit h)) 6 refl h l)
+
+pub digit-small : (h : ℕ) → h < 6 → digit h ≤ 2 ^ 48
+unfolding digit
+digit-small h l = leb-true (digit h) (2 ^ 48) (below (λ h. leb (digit h) (2 ^ 48)) 6 refl h l)
+
 -- STEPS along holders: the chain ends; it is too long; it leaves the table; it meets another lock; a mode that doesn't fit; it goes on
 pub walked-over : {n : ℕ} {whole x : HolderCount} → x ≡ over n → over n ≡ whole → Walked n whole x
 unfolding over
-walked-over e w = record { is = e ∙ w; short = rw e (omega arith); small = rw e (omega arith); few = rw e (omega arith) }
+walked-over e w = record { is = e ∙ w; short = rw e (omega arith); small = rw e (omega arith); few = rw e (omega arith); light = rw e (omega arith) }
 
 module _ (ws : List ℕ) (s r : ℕ) (fit : ℕ → ℕ → Bool) where
-  modes-at : (n m k set c : ℕ) → (k ≡ 0 → ⊥) → m < n →
-      mode-steps ws s r fit (n - m) k set c
-      ≡ cond (home-on ws s r k && fit set (held-in ws k)) (one-more (mode-steps ws s r fit (n - (m + 1)) (word-in ws (of-lock k 0)) (with-mode set (held-in ws k)) (c + bit (noticed (read-lock ws k))))) (record { met = suc (n - m); modes = 0; noticed = 0 })
-  modes-at n m k set c e h = let z : n - m - 1 ≡ n - (m + 1) = omega arith in rw (modes-turn ws s r fit (n - m) k set c (omega arith) e, z)
+  modes-at : (n m k set c d : ℕ) → (k ≡ 0 → ⊥) → m < n →
+      mode-steps ws s r fit (n - m) k set c d
+      ≡ cond (home-on ws s r k && fit set (held-in ws k))
+      (one-more (mode-steps ws s r fit (n - (m + 1)) (word-in ws (of-lock k 0)) (with-mode set (held-in ws k)) (c + bit (noticed (read-lock ws k))) (d + digit (held-in ws k))))
+      (too-many (n - m))
+  modes-at n m k set c d e h = let z : n - m - 1 ≡ n - (m + 1) = omega arith in rw (modes-turn ws s r fit set c d (n - m) k (omega arith) e, z)
 
-  pub modes-end : (n : ℕ) {m k set c : ℕ} {whole : HolderCount} → whole ≡ modes-left ws s r fit n m k set c → k ≡ 0 → m ≤ n → set < 64 → c ≤ m + 1 → Walked n whole (record { met = m; modes = set; noticed = c })
+  pub modes-end : (n : ℕ) {m k set c d : ℕ} {whole : HolderCount} → whole ≡ modes-left ws s r fit n m k set c d → k ≡ 0 → m ≤ n → set < 64 → c ≤ m + 1 → d ≤ (m + 1) * 2 ^ 48 → Walked n whole (record { met = m; modes = set; noticed = c; digits = d })
   unfolding modes-left
-  modes-end n {m} {k} {set} {c} i e l h f =
+  modes-end n {m} {k} {set} {c} {d} i e l h f g =
       let z : m + 0 ≡ m = omega arith in
-      record { is = sym (i ∙ rw (e, modes-zero ws s r fit (n - m) set c, z)); short = omega arith; small = h; few = omega arith }
+      record { is = sym (i ∙ rw (e, modes-zero ws s r fit set c d (n - m), z)); short = omega arith; small = h; few = omega arith; light = omega arith }
 
-  module _ (set c : ℕ) {n m k : ℕ} {whole : HolderCount} (i : whole ≡ modes-left ws s r fit n m k set c) (e : k ≡ 0 → ⊥) where
+  module _ (set c d : ℕ) {n m k : ℕ} {whole : HolderCount} (i : whole ≡ modes-left ws s r fit n m k set c d) (e : k ≡ 0 → ⊥) where
     pub modes-long : {x : HolderCount} → m ≤ n → n ≤ m → x ≡ over n → Walked n whole x
     unfolding modes-left over
     modes-long l h o =
         let z : n - m ≡ 0 = omega arith in
         let w : m + 1 ≡ n + 1 = omega arith in
-        walked-over o (sym (i ∙ rw (z, modes-none ws s r fit k set c e, w)))
+        walked-over o (sym (i ∙ rw (z, modes-none ws s r fit set c d k e, w)))
 
     modes-fail : {x : HolderCount} → m < n → (home-on ws s r k && fit set (held-in ws k)) ≡ false → x ≡ over n → Walked n whole x
     unfolding modes-left over
     modes-fail h f o =
         let w : m + suc (n - m) ≡ n + 1 = omega arith in
-        walked-over o (sym (i ∙ rw (modes-at n m k set c e h, f, w)))
+        walked-over o (sym (i ∙ rw (modes-at n m k set c d e h, f, w)))
 
     pub modes-off : {x : HolderCount} → m < n → locks-in ws < k → x ≡ over n → Walked n whole x
     unfolding home-on
@@ -113,25 +127,26 @@ module _ (ws : List ℕ) (s r : ℕ) (fit : ℕ → ℕ → Bool) where
       unfolding home-on
       modes-other f = modes-fail h (rw (le-leb k (locks-in ws) b, ← t, not-true a f))
 
-      module _ {l : ℕ} {d : Bool} (f : not a ≡ false) (g : l ≡ word-in ws (of-lock k 6)) (u : d ≡ fit set l) where
-        pub modes-clash : {x : HolderCount} → not d ≡ true → x ≡ over n → Walked n whole x
+      module _ {l : ℕ} {u : Bool} (f : not a ≡ false) (g : l ≡ word-in ws (of-lock k 6)) (v : u ≡ fit set l) where
+        pub modes-clash : {x : HolderCount} → not u ≡ true → x ≡ over n → Walked n whole x
         unfolding home-on
-        modes-clash v = modes-fail h (rw (le-leb k (locks-in ws) b, ← t, not-false a f, ← held-read ws k g, ← u, not-true d v))
+        modes-clash w = modes-fail h (rw (le-leb k (locks-in ws) b, ← t, not-false a f, ← held-read ws k g, ← v, not-true u w))
 
-        pub modes-on : {y q j : ℕ} → not d ≡ false → y ≡ with-mode set l → q ≡ bit (noticed (read-lock ws k)) → j ≡ word-in ws (of-lock k 0) → whole ≡ modes-left ws s r fit n (m + 1) j y (c + q)
+        pub modes-on : {y q p j : ℕ} → not u ≡ false → y ≡ with-mode set l → q ≡ bit (noticed (read-lock ws k)) → p ≡ digit l → j ≡ word-in ws (of-lock k 0) → whole ≡ modes-left ws s r fit n (m + 1) j y (c + q) (d + p)
         unfolding modes-left home-on
-        modes-on {y} {q} {j} v z o w =
-            let p : m + suc (mode-steps ws s r fit (n - (m + 1)) j y (c + q) .met) ≡ m + 1 + mode-steps ws s r fit (n - (m + 1)) j y (c + q) .met = omega arith in
-            i ∙ rw (modes-at n m k set c e h, le-leb k (locks-in ws) b, ← t, not-false a f, ← held-read ws k g, ← u, not-false d v, ← z, ← o, ← w, p)
+        modes-on {y} {q} {p} {j} w ey eq ep ej =
+            let rest = mode-steps ws s r fit (n - (m + 1)) j y (c + q) (d + p) .met in
+            let more : m + suc rest ≡ m + 1 + rest = omega arith in
+            i ∙ rw (modes-at n m k set c d e h, le-leb k (locks-in ws) b, ← t, not-false a f, ← held-read ws k g, ← v, not-false u w, ← ey, ← eq, ← ep, ← ej, more)
 
-  modes-start : (n k set c : ℕ) → mode-steps ws s r fit n k set c ≡ modes-left ws s r fit n 0 k set c
+  modes-start : (n k set c d : ℕ) → mode-steps ws s r fit n k set c d ≡ modes-left ws s r fit n 0 k set c d
   unfolding modes-left
-  modes-start n k set c = let z : 0 + mode-steps ws s r fit n k set c .met ≡ mode-steps ws s r fit n k set c .met = omega arith in rw (sub-zero n, z)
+  modes-start n k set c d = let z : 0 + mode-steps ws s r fit n k set c d .met ≡ mode-steps ws s r fit n k set c d .met = omega arith in rw (sub-zero n, z)
 
 -- the walks along the grant chain and behind the convert head are two such
-pub grant-start : (ws : List ℕ) (r : ℕ) {k : ℕ} → k ≡ word-in ws (of-resource r 1) → grant-walk ws r ≡ modes-left ws 1 r fits-set (locks-in ws) 0 k 0 0
+pub grant-start : (ws : List ℕ) (r : ℕ) {k : ℕ} → k ≡ word-in ws (of-resource r 1) → grant-walk ws r ≡ modes-left ws 1 r fits-set (locks-in ws) 0 k 0 0 0
 unfolding grant-walk
-grant-start ws r e = rw e (modes-start ws 1 r fits-set (locks-in ws) (word-in ws (of-resource r 1)) 0 0)
+grant-start ws r e = rw e (modes-start ws 1 r fits-set (locks-in ws) (word-in ws (of-resource r 1)) 0 0 0)
 
-pub tail-start : (ws : List ℕ) (r h n k set c : ℕ) → tail-steps ws r h n k set c ≡ modes-left ws 2 r (fits-beside h) n 0 k set c
-tail-start ws r h n k set c = modes-start ws 2 r (fits-beside h) n k set c
+pub tail-start : (ws : List ℕ) (r h n k set c : ℕ) {d : ℕ} → d ≡ digit h → tail-steps ws r h n k set c ≡ modes-left ws 2 r (fits-beside h) n 0 k set c d
+tail-start ws r h n k set c e = rw e (modes-start ws 2 r (fits-beside h) n k set c (digit h))

@@ -1,4 +1,5 @@
-// One resource's queues: each lock on them is fine, the held modes are compatible, and no head can be granted.
+// One resource's queues: each lock on them is fine, the held modes are compatible, the counts of the modes are true, and no
+// head can be granted.
 use check_chains::WAIT_CHAIN;
 use check_chains::met;
 use check_laws::HolderCount;
@@ -12,21 +13,27 @@ use table_fields::RESOURCE_CONVERT;
 use table_fields::RESOURCE_GRANT;
 use table_fields::RESOURCE_WAIT;
 use table_fields::bit;
+use table_fields::counts_at;
 use table_fields::is_noticed;
 use table_fields::lock_at;
 use table_fields::lock_word;
 use table_fields::resource_word;
 ghost use mathlib.Core.Path.{_≡_};
 ghost use mathlib.Core.Bool.{true};
-ghost use Prim.Native.Nat.{_+_, _-_, _<_, _≤_};
+ghost use Prim.Native.Nat.{_+_, _-_, _*_, _^_, _<_, _≤_};
 ghost use Rattle.tables.specs.Lists.{bit};
 ghost use Rattle.tables.specs.State.{noticed, «state-waiting», «most-locks»};
 ghost use Rattle.tables.specs.Layout.{«of-resource», «word-in», «resources-in», «locks-in», «read-lock»};
 ghost use Rattle.table_fields.specs.Sizes.{Sized};
 ghost use Rattle.table_names.specs.Names.{named};
-ghost use Rattle.check_laws.specs.Check.{«home-steps», «fits-beside», «tail-steps», «grant-walk», «convert-from», «convert-walk», «heads-wait»};
+ghost use Rattle.check_laws.specs.Check.{«home-steps», digit, «fits-beside», «tail-steps», «grant-walk», «convert-from», «convert-walk», «heads-wait», «counts-fine»};
 ghost use Rattle.check_resources.specs.Passes.{Fine};
-ghost use Rattle.check_queues.specs.QueueWalks.{over, «queues-over», Walked, Heads, Counted};
+ghost use Rattle.check_queues.specs.QueueWalks.{over, «queues-over», Walked, HoldersWalked, Heads, Counted};
+
+// The held modes are added up as digits of so many bits. There are fewer locks than such a digit can count.
+const DIGIT_BITS: u32 = 12;
+
+const DIGIT: u64 = 1 << DIGIT_BITS;
 
 // What the walks along a resource's queues find: how many locks, or more than there are if something is wrong; how many
 // of them belong on the blocked chain, and how many on the notice chain.
@@ -45,6 +52,7 @@ fn over(n: u32) -> HolderCount
         met: n + 1,
         modes: 0,
         noticed: 0,
+        digits: 0,
     }
 }
 
@@ -68,6 +76,14 @@ fn notice_bit(words: &[u32], k: u32) -> u32
     bit(is_noticed(lock_at(words, k)))
 }
 
+// The held mode as a number to add up: a digit for each mode from CR on. NL adds nothing.
+fn digit(held: u32) -> u64
+    requires { ⌜ held < 6 ⌝ }
+    ensures { λ x. ⌜ (x ≡ digit held) × (x ≤ 2 ^ 48) ⌝ }
+{
+    (1u64 << (DIGIT_BITS * held)) >> DIGIT_BITS
+}
+
 // Walks along a resource's grant chain: each held mode must fit those before it.
 fn grant_walk(words: &[u32], r: u32) -> HolderCount
     requires { ⌜ Fine (now words) ⌝ }
@@ -80,6 +96,7 @@ fn grant_walk(words: &[u32], r: u32) -> HolderCount
     let mut met = 0;
     let mut set = 0;
     let mut noticed = 0;
+    let mut digits = 0;
     while k != 0 {
         if n <= met {
             return over(n);
@@ -96,6 +113,7 @@ fn grant_walk(words: &[u32], r: u32) -> HolderCount
         }
         set = modes::with_mode(set, held);
         noticed += notice_bit(words, k);
+        digits += digit(held);
         k = lock_word(words, k, LOCK_NEXT);
         met += 1;
     }
@@ -103,6 +121,7 @@ fn grant_walk(words: &[u32], r: u32) -> HolderCount
         met: met,
         modes: set,
         noticed: noticed,
+        digits: digits,
     }
 }
 
@@ -117,7 +136,8 @@ fn fits_beside(head: u32, set: u32, mode: u32) -> bool
 }
 
 // Walks along the locks behind the convert head: each held mode must fit those before it, the granted ones and the
-// head's. The set that is answered leaves the head's mode out. `before` is 1 if the head belongs on the notice chain.
+// head's. The set that is answered leaves the head's mode out, the sum does not. `before` is 1 if the head belongs on
+// the notice chain.
 fn tail_walk(words: &[u32], r: u32, head: u32, first: u32, granted: u32, before: u32) -> HolderCount
     requires { ⌜ Fine (now words) ⌝ }
     requires { ⌜ (1 ≤ r) × (r ≤ resources-in (now words)) ⌝ }
@@ -133,6 +153,7 @@ fn tail_walk(words: &[u32], r: u32, head: u32, first: u32, granted: u32, before:
     let mut met = 0;
     let mut set = granted;
     let mut noticed = before;
+    let mut digits = digit(head);
     while k != 0 {
         if n <= met {
             return over(n);
@@ -149,6 +170,7 @@ fn tail_walk(words: &[u32], r: u32, head: u32, first: u32, granted: u32, before:
         }
         set = modes::with_mode(set, held);
         noticed += notice_bit(words, k);
+        digits += digit(held);
         k = lock_word(words, k, LOCK_NEXT);
         met += 1;
     }
@@ -156,6 +178,7 @@ fn tail_walk(words: &[u32], r: u32, head: u32, first: u32, granted: u32, before:
         met: met,
         modes: set,
         noticed: noticed,
+        digits: digits,
     }
 }
 
@@ -185,6 +208,7 @@ fn convert_from(words: &[u32], r: u32, c: u32, granted: u32) -> HolderCount
         met: rest.met + 1,
         modes: rest.modes,
         noticed: rest.noticed,
+        digits: rest.digits,
     }
 }
 
@@ -201,6 +225,7 @@ fn convert_walk(words: &[u32], r: u32, granted: u32) -> HolderCount
             met: 0,
             modes: granted,
             noticed: 0,
+            digits: 0,
         };
     }
     convert_from(words, r, c, granted)
@@ -238,22 +263,35 @@ fn heads_wait(words: &[u32], r: u32, granted: u32, others: u32) -> bool
     !modes::fits_by_masks(granted, lock_word(words, w, LOCK_ASKED))
 }
 
-// The locks on the three queues of a resource in use.
-pub fn resource_walk(words: &[u32], r: u32) -> Census
+// The counts of r are true, where `met` locks hold a mode and `digits` is their modes added up: they are as many in all,
+// and the same as digits. If they are as many in all, none is too large for a digit.
+fn counts_fine(words: &[u32], r: u32, met: u32, digits: u64) -> bool
+    requires { ⌜ Sized (now words) ⌝ }
+    requires { ⌜ (1 ≤ r) × (r ≤ resources-in (now words)) ⌝ }
+    requires { ⌜ met ≤ 2 * most-locks ⌝ }
+    ensures { λ x. ⌜ x ≡ counts-fine (now (words .entry)) r met digits ⌝ }
+{
+    let x = counts_at(words, r);
+    let cr = x.cr as u64;
+    let cw = x.cw as u64;
+    let pr = x.pr as u64;
+    let pw = x.pw as u64;
+    let ex = x.ex as u64;
+    if (x.nl as u64) + cr + cw + pr + pw + ex != (met as u64) {
+        return false;
+    }
+    cr + DIGIT * (cw + DIGIT * (pr + DIGIT * (pw + DIGIT * ex))) == digits
+}
+
+// What is found of a resource whose granted and converting locks are as g and c say.
+fn wait_part(words: &[u32], r: u32, g: HolderCount, c: HolderCount) -> Census
     requires { ⌜ Fine (now words) ⌝ }
     requires { ⌜ (1 ≤ r) × (r ≤ resources-in (now words)) ⌝ }
     requires { ⌜ named (now words) r ≡ true ⌝ }
+    requires { ⌜ HoldersWalked (now words) r g c ⌝ }
     ensures { λ x. ⌜ Counted (now (words .entry)) r x ⌝ }
 {
     let n = words[LOCKS];
-    let g = grant_walk(words, r);
-    if n < g.met {
-        return queues_over(n);
-    }
-    let c = convert_walk(words, r, g.modes);
-    if n < c.met {
-        return queues_over(n);
-    }
     let w = waiting_met(words, r);
     if n < w {
         return queues_over(n);
@@ -266,4 +304,39 @@ pub fn resource_walk(words: &[u32], r: u32) -> Census
         blocked: c.met + w,
         noticed: g.noticed + c.noticed,
     }
+}
+
+// What is found of a resource whose granted locks are as g says.
+fn convert_part(words: &[u32], r: u32, g: HolderCount) -> Census
+    requires { ⌜ Fine (now words) ⌝ }
+    requires { ⌜ (1 ≤ r) × (r ≤ resources-in (now words)) ⌝ }
+    requires { ⌜ named (now words) r ≡ true ⌝ }
+    requires { ⌜ Walked (locks-in (now words)) (grant-walk (now words) r) g ⌝ }
+    requires { ⌜ g .met ≤ locks-in (now words) ⌝ }
+    ensures { λ x. ⌜ Counted (now (words .entry)) r x ⌝ }
+{
+    let n = words[LOCKS];
+    let c = convert_walk(words, r, g.modes);
+    if n < c.met {
+        return queues_over(n);
+    }
+    if !counts_fine(words, r, g.met + c.met, g.digits + c.digits) {
+        return queues_over(n);
+    }
+    wait_part(words, r, g, c)
+}
+
+// The locks on the three queues of a resource in use.
+pub fn resource_walk(words: &[u32], r: u32) -> Census
+    requires { ⌜ Fine (now words) ⌝ }
+    requires { ⌜ (1 ≤ r) × (r ≤ resources-in (now words)) ⌝ }
+    requires { ⌜ named (now words) r ≡ true ⌝ }
+    ensures { λ x. ⌜ Counted (now (words .entry)) r x ⌝ }
+{
+    let n = words[LOCKS];
+    let g = grant_walk(words, r);
+    if n < g.met {
+        return queues_over(n);
+    }
+    convert_part(words, r, g)
 }

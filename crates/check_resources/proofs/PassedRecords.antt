@@ -52,9 +52,9 @@ module _ (ws ss : List ℕ) {a : Bool} (e : a ≡ sizes-right ws ss) (f : not a 
     fine-at : (r : ℕ) → 1 ≤ r → r ≤ resources-in ws → resource-fine ws ss r ≡ true
     fine-at = each-at (resource-fine ws ss) (resources-in ws) g
 
-    rows : (r : ℕ) → 1 ≤ r → r ≤ resources-in ws → row-fine (row-in ws r) ≡ true
+    rows : (r : ℕ) → 1 ≤ r → r ≤ resources-in ws → row-fine ws r ≡ true
     unfolding resource-fine
-    rows r l h = and-left (row-fine (row-in ws r)) (slot-fine ws ss r) (fine-at r l h)
+    rows r l h = and-left (row-fine ws r) (slot-fine ws ss r) (fine-at r l h)
 
     short-at : (r : ℕ) → 1 ≤ r → r ≤ resources-in ws → word-in ws (of-resource r 4) ≤ name-width
     unfolding resource-fine row-fine used-row row-in
@@ -73,5 +73,5 @@ module _ (ws ss : List ℕ) {a : Bool} (e : a ≡ sizes-right ws ss) (f : not a 
     tidy =
         record {
           named = record { slotted = slotted; lengths = record { sized = sized; short = short-at } };
-          fine = λ r l h. and-right (row-fine (row-in ws r)) (slot-fine ws ss r) (fine-at r l h);
+          fine = λ r l h. and-right (row-fine ws r) (slot-fine ws ss r) (fine-at r l h);
         }

@@ -11,9 +11,11 @@ use borrow.Author.Tests.{not-true, not-false, eq-eqb, ne-eqb}
 use Rattle.tables.specs.State.{most-resources, most-locks}
 use Rattle.tables.specs.Layout.{header-width, resource-width, size, resources-in, locks-in}
 use Rattle.tables.specs.Sound.{sizes-right}
+use Rattle.table_fields.specs.declared.ModeCounts.{ModeCounts}
+use Rattle.table_fields.specs.Records.{read-counts}
 use Rattle.table_names.specs.Names.{slot-fine}
 use Rattle.check_laws.specs.declared.ResourceRow.{ResourceRow}
-use Rattle.check_laws.specs.Check.{row-in, free-row, used-row, row-fine, resource-fine}
+use Rattle.check_laws.specs.Check.{row-in, unheld, free-row, used-row, row-fine, resource-fine}
 
 -- SIZES. Words that lack a header are not as long as they say
 pub short-words : (ws ss : List ℕ) → length ws < header-width → false ≡ sizes-right ws ss
@@ -29,32 +31,35 @@ pub row-read : (ws : List ℕ) (r : ℕ) {x : ℕ} → x ≡ header-width + reso
   wait = getD ws (x + 3) 0;
   bytes = getD ws (x + 4) 0;
   valid = getD ws (x + 5) 0;
-  zero = getD ws (x + 6) 0;
-  last = getD ws (x + 7) 0;
 } ≡ row-in ws r
 unfolding row-in
 row-read ws r e = rw e
 
-module _ (x : ResourceRow) where
-  pub row-nonzero : not (eqb (x .zero) 0 && eqb (x .last) 0) ≡ true → false ≡ row-fine x
-  unfolding row-fine
-  row-nonzero f = rw (not-true (eqb (x .zero) 0 && eqb (x .last) 0) f)
+pub none-held : (ws : List ℕ) (r : ℕ) {x : ModeCounts} → x ≡ read-counts ws r → (eqb (x .nl) 0 && eqb (x .cr) 0 && eqb (x .cw) 0 && eqb (x .pr) 0 && eqb (x .pw) 0 && eqb (x .ex) 0) ≡ unheld ws r
+unfolding unheld read-counts
+none-held ws r e = rw e
 
-  pub row-free : {b : Bool} → not (eqb (x .zero) 0 && eqb (x .last) 0) ≡ false → x .bytes ≡ 0 → b ≡ free-row x → b ≡ row-fine x
+module _ (ws : List ℕ) (r : ℕ) {x : ResourceRow} (e : x ≡ row-in ws r) where
+  pub row-used : {b : Bool} → (x .bytes ≡ 0 → ⊥) → b ≡ used-row x → b ≡ row-fine ws r
   unfolding row-fine
-  row-free f e w = rw (not-false (eqb (x .zero) 0 && eqb (x .last) 0) f, eq-eqb (x .bytes) 0 e) w
+  row-used n w = rw (← e, ne-eqb (x .bytes) 0 n) w
 
-  pub row-used : {b : Bool} → not (eqb (x .zero) 0 && eqb (x .last) 0) ≡ false → (x .bytes ≡ 0 → ⊥) → b ≡ used-row x → b ≡ row-fine x
-  unfolding row-fine
-  row-used f e w = rw (not-false (eqb (x .zero) 0 && eqb (x .last) 0) f, ne-eqb (x .bytes) 0 e) w
+  module _ {f : Bool} (z : x .bytes ≡ 0) (g : f ≡ free-row x) where
+    pub row-stop : not f ≡ true → false ≡ row-fine ws r
+    unfolding row-fine
+    row-stop t = rw (← e, eq-eqb (x .bytes) 0 z, ← g, not-true f t)
 
-module _ (ws ss : List ℕ) (r : ℕ) {x : ResourceRow} {f : Bool} (e : x ≡ row-in ws r) (g : f ≡ row-fine x) where
+    pub row-free : {b : Bool} → not f ≡ false → b ≡ unheld ws r → b ≡ row-fine ws r
+    unfolding row-fine
+    row-free t w = rw (← e, eq-eqb (x .bytes) 0 z, ← g, not-false f t) w
+
+module _ (ws ss : List ℕ) (r : ℕ) {f : Bool} (g : f ≡ row-fine ws r) where
   pub resource-stop : not f ≡ true → false ≡ resource-fine ws ss r
   unfolding resource-fine
-  resource-stop t = rw (← e, ← g, not-true f t)
+  resource-stop t = rw (← g, not-true f t)
 
   pub resource-go : {b : Bool} → not f ≡ false → b ≡ slot-fine ws ss r → b ≡ resource-fine ws ss r
   unfolding resource-fine
-  resource-go t w = rw (← e, ← g, not-false f t) w
+  resource-go t w = rw (← g, not-false f t) w
 
-pub ruleset records = (needs, short-words, row-read, row-nonzero, row-free, row-used, resource-stop, resource-go)
+pub ruleset records = (needs, short-words, row-read, none-held, row-used, row-stop, row-free, resource-stop, resource-go)

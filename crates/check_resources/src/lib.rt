@@ -13,9 +13,8 @@ use table_fields::RESOURCE_NEXT;
 use table_fields::RESOURCE_VALID;
 use table_fields::RESOURCE_WAIT;
 use table_fields::RESOURCE_WORDS;
-use table_fields::RESOURCE_ZERO;
-use table_fields::RESOURCE_ZERO_TOO;
 use table_fields::RESOURCES;
+use table_fields::counts_at;
 use table_fields::resource_start;
 use table_fields::resource_word;
 use table_fields::wide;
@@ -29,7 +28,7 @@ ghost use Rattle.tables.specs.Sound.{«sizes-right»};
 ghost use Rattle.table_fields.specs.Sizes.{Sized};
 ghost use Rattle.table_names.specs.Names.{named};
 ghost use Rattle.table_names.specs.Contracts.{Slotted};
-ghost use Rattle.check_laws.specs.Check.{«row-in», «free-row», «used-row», «row-fine», «resource-fine»};
+ghost use Rattle.check_laws.specs.Check.{«row-in», unheld, «free-row», «used-row», «row-fine», «resource-fine»};
 
 // The tables have 1 to 256 resources and 1 to 1024 locks, and are as long as these say.
 pub fn sizes_right(words: &[u32], slots: &[u8]) -> bool
@@ -56,7 +55,8 @@ pub fn header_fine(words: &[u32]) -> bool
     words[HEADER_ZERO] == 0
 }
 
-// The words of resource r.
+// The words of resource r before its counts. Those are read where they are tested, so that they do not take up registers
+// in the walks.
 pub fn row_at(words: &[u32], r: u32) -> ResourceRow
     requires { ⌜ Sized (now words) ⌝ }
     requires { ⌜ (1 ≤ r) × (r ≤ resources-in (now words)) ⌝ }
@@ -70,8 +70,6 @@ pub fn row_at(words: &[u32], r: u32) -> ResourceRow
         wait: words[start + RESOURCE_WAIT],
         bytes: words[start + RESOURCE_NAME_LENGTH],
         valid: words[start + RESOURCE_VALID],
-        zero: words[start + RESOURCE_ZERO],
-        last: words[start + RESOURCE_ZERO_TOO],
     }
 }
 
@@ -90,17 +88,30 @@ fn used_row(x: ResourceRow) -> bool
     (x.next == 0) & (wide(x.bytes) <= NAME_BYTES) & (x.valid <= 1) & !idle
 }
 
-// A resource is in use exactly if it has a name.
-fn row_fine(x: ResourceRow) -> bool
-    ensures { λ b. ⌜ b ≡ row-fine x ⌝ }
+// Nobody holds a mode on resource r.
+fn unheld(words: &[u32], r: u32) -> bool
+    requires { ⌜ Sized (now words) ⌝ }
+    requires { ⌜ (1 ≤ r) × (r ≤ resources-in (now words)) ⌝ }
+    ensures { λ b. ⌜ b ≡ unheld (now (words .entry)) r ⌝ }
 {
-    if !((x.zero == 0) & (x.last == 0)) {
+    let x = counts_at(words, r);
+    (x.nl == 0) & (x.cr == 0) & (x.cw == 0) & (x.pr == 0) & (x.pw == 0) & (x.ex == 0)
+}
+
+// A resource is in use exactly if it has a name. Its words are x.
+fn row_fine(words: &[u32], r: u32, x: ResourceRow) -> bool
+    requires { ⌜ Sized (now words) ⌝ }
+    requires { ⌜ (1 ≤ r) × (r ≤ resources-in (now words)) ⌝ }
+    requires { ⌜ x ≡ row-in (now words) r ⌝ }
+    ensures { λ b. ⌜ b ≡ row-fine (now (words .entry)) r ⌝ }
+{
+    if x.bytes != 0 {
+        return used_row(x);
+    }
+    if !free_row(x) {
         return false;
     }
-    if x.bytes == 0 {
-        return free_row(x);
-    }
-    used_row(x)
+    unheld(words, r)
 }
 
 // A resource's words, which are x, and its slot.
@@ -110,7 +121,7 @@ pub fn resource_fine(words: &[u32], slots: &[u8], r: u32, x: ResourceRow) -> boo
     requires { ⌜ x ≡ row-in (now words) r ⌝ }
     ensures { λ b. ⌜ b ≡ resource-fine (now (words .entry)) (now (slots .entry)) r ⌝ }
 {
-    if !row_fine(x) {
+    if !row_fine(words, r, x) {
         return false;
     }
     table_names::slot_fine(words, slots, r)

@@ -12,7 +12,8 @@ use Rattle.tables.proofs.Cases.{and-left, and-right, parts}
 use Rattle.tables.proofs.FollowedChains.{follow-zero}
 use Rattle.table_names.specs.Names.{named, slot-fine}
 use Rattle.check_laws.specs.declared.ResourceRow.{ResourceRow}
-use Rattle.check_laws.specs.Check.{row-in, free-row, row-fine, resource-fine, home-on, home-steps, grant-walk, convert-walk, heads-wait, wait-part, convert-part, resource-walk, blocked-at, noticed-at}
+use Rattle.check_laws.specs.Check.{row-in, unheld, free-row, row-fine, resource-fine, home-on, home-steps, grant-walk, convert-walk, heads-wait, wait-part, convert-part, resource-walk, blocked-at, noticed-at}
+use Rattle.check_laws.proofs.RecordTests.{unheld-fine}
 use Rattle.check_laws.proofs.ChainSteps.{steps-zero, modes-zero, convert-zero}
 use Rattle.check_queues.specs.QueueWalks.{Counted}
 
@@ -39,12 +40,9 @@ module _ (ws ss : List ℕ) (r : ℕ) (fine : resource-fine ws ss r ≡ true) (f
       go true h = refl
       go false h = sym h
 
-  row : free-row (row-in ws r) ≡ true
+  row : (free-row (row-in ws r) && unheld ws r) ≡ true
   unfolding resource-fine row-fine row-in
-  row =
-      let z = and-left (row-fine (row-in ws r)) (slot-fine ws ss r) fine in
-      let f = and-right (eqb (word-in ws (of-resource r 6)) 0 && eqb (word-in ws (of-resource r 7)) 0) _ z in
-      rw no-name at f
+  row = rw no-name at (and-left (row-fine ws r) (slot-fine ws ss r) fine)
 
   no-grant : word-in ws (of-resource r 1) ≡ 0
   unfolding free-row row-in
@@ -61,7 +59,16 @@ module _ (ws ss : List ℕ) (r : ℕ) (fine : resource-fine ws ss r ≡ true) (f
   no-walk : resource-walk ws r ≡ 0
   unfolding resource-walk convert-part wait-part convert-walk heads-wait grant-walk home-steps
   no-walk =
-      rw (no-grant, no-convert, no-wait, modes-zero ws 1 r _ (locks-in ws) 0 0, convert-zero ws r 0, steps-zero (lock-link ws 0) (home-on ws 3 r) (locks-in ws), le-leb 0 (locks-in ws) (omega arith))
+      rw (
+        no-grant,
+        no-convert,
+        no-wait,
+        modes-zero ws 1 r _ 0 0 0 (locks-in ws),
+        convert-zero ws r 0,
+        unheld-fine ws r (and-right (free-row (row-in ws r)) (unheld ws r) row),
+        steps-zero (lock-link ws 0) (home-on ws 3 r) (locks-in ws),
+        le-leb 0 (locks-in ws) (omega arith),
+      )
 
   no-queue : (f : ℕ) → word-in ws (of-resource r f) ≡ 0 → onward ws 0 (word-in ws (of-resource r f)) ≡ []
   unfolding onward

@@ -26,7 +26,6 @@ use Rattle.table_names.proofs.StateNames.{sound-named, sound-find}
 use Rattle.table_chains.specs.Contracts.{Some, Tells, Resourced}
 use Rattle.table_chains.specs.Walking.{first-with}
 use Rattle.table_chains.proofs.ChainWalks.{walk-sized, walk-low, walk-high, walk-less, seeking-starts, seeking-found, seeking-on, seeking-ends, queue-onward, here-sized, here-low, here-high, here-grants, here-converts}
-use Rattle.queues.proofs.QueueReads.{held-there}
 use Rattle.entry_holder.specs.Contracts.{ex-lock}
 
 -- the first that passes a test on two lists in a row
@@ -50,12 +49,16 @@ pub ruleset seeking = (needs, walk-sized, walk-low, walk-high, walk-less, seekin
 
 -- ex_lock: the queues of a resource of a state, by its words
 module _ (ws : List ℕ) (r : ℕ) (t : Tables) (p : Resourced r t) (is : ws ≡ words t) where
+  held-there : (j : ℕ) → 1 ≤ count j (holders t r) → held-in ws j ≡ lock t j .held
+  unfolding read-lock
+  held-there j m = word-is t ws is (of-lock j 6) (let i = holder-range t (p .core .linked) r j m in (i .0, i .1, omega arith))
+
   -- the first that holds EX on a queue whose locks hold a mode there
   queue-ex : (q : Queue) (x : ℕ) → x ≡ word-in ws (of-resource r (queue-head q)) → ((j : ℕ) → 1 ≤ count j (queue-of q (resource t r)) → 1 ≤ count j (holders t r)) → first-with ws 0 6 ex x ≡ first-that (λ k. eqb (lock t k .held) ex) (queue-of q (resource t r))
   unfolding first-with read-lock
   queue-ex q x e h =
       ap (λ (i : ℕ). first-that (λ k. eqb (held-in ws k) ex) (onward ws 0 i)) e ∙ ap (first-that (λ k. eqb (held-in ws k) ex)) (queue-onward r t p q ws is)
-      ∙ first-cong _ _ (queue-of q (resource t r)) (λ j m. ap (λ (i : ℕ). eqb i ex) (held-there r t p ws is j (h j m)))
+      ∙ first-cong _ _ (queue-of q (resource t r)) (λ j m. ap (λ (i : ℕ). eqb i ex) (held-there j (h j m)))
 
   granted-ex : (x : ℕ) → x ≡ word-in ws (of-resource r 1) → first-with ws 0 6 ex x ≡ first-that (λ k. eqb (lock t k .held) ex) (resource t r .grant)
   granted-ex x e = queue-ex grants x e (λ j m. unfold holders in rw count-append (omega arith))

@@ -1,3 +1,4 @@
 pub mod ToldLocks
 pub mod MarkedWords
 pub mod ToldQueues
+pub mod NobodyTold

@@ -11,14 +11,15 @@ use borrow.Author.Tests.{ne-eqb}
 use Rattle.tables.specs.declared.Lock.{Lock}
 use Rattle.tables.specs.Lists.{within}
 use Rattle.tables.specs.State.{Tables, with-notice, lock, unread, noticed, blocked-lock, shift, move, notices, of-locks}
+use Rattle.tables.specs.Grants.{holds-mode, tally}
 use Rattle.tables.specs.Layout.{place, cell, header-width, resource-width, lock-width, words, resources-in, locks-in, read-lock}
-use Rattle.tables.specs.Stores.{cell-holding, cell-place, join-cells, stays, shift-cells, set-cells}
+use Rattle.tables.specs.Stores.{cell-holding, cell-place, join-cells, stays, shift-cells, set-cells, side-cells}
 use Rattle.tables.specs.Threads.{Absent}
 use Rattle.tables.specs.Validity.{Core}
 use Rattle.tables.proofs.Cases.{eqb-same, or-right}
 use Rattle.tables.proofs.Links.{holder, holder-past}
 use Rattle.tables.proofs.WordChanges.{no-zero, holding}
-use Rattle.tables.proofs.ChainWalk.{walk-holds}
+use Rattle.tables.proofs.ChainWalk.{walk-holds-with}
 use Rattle.tables.proofs.ReadBack.{chain-most}
 use Rattle.tables.proofs.ThreadedChains.{core-threaded}
 use Rattle.rules.specs.Calls.{larger, mark-lock}
@@ -27,12 +28,12 @@ use Rattle.rules.proofs.MarkLaws.{larger-first, mark-chain}
 use Rattle.table_fields.specs.Sizes.{Sized, Kept}
 use Rattle.table_fields.proofs.StateWords.{resources-is, locks-is, core-sized, lock-low, lock-high, lock-is}
 use Rattle.table_chains.specs.declared.Cells.{Cells}
-use Rattle.table_chains.specs.Cells.{cell-of, cells-at, lock-cells, side-cells, Walks}
+use Rattle.table_chains.specs.Cells.{cell-of, cells-at, lock-cells, Walks}
 use Rattle.table_chains.specs.Contracts.{Some, Turns, Movable, Moved}
 use Rattle.table_chains.proofs.CellWalks.{found-inside, joined-kept}
 use Rattle.table_chains.proofs.ChainWalks.{some-sized}
 use Rattle.table_chains.proofs.ChainCells.{kept-trans, notice-cells, by-cells, chain-joins}
-use Rattle.table_chains.proofs.LockMoves.{moved-at-home}
+use Rattle.table_chains.proofs.LockMoves.{moved-uncounted}
 use Rattle.marks.specs.Telling.{notices-end}
 use Rattle.marks.specs.Contracts.{Markable}
 
@@ -47,13 +48,13 @@ module _ (t : Tables) (core : Core t) (ws : List ℕ) (is : ws ≡ words t) wher
   unfolding holding
   end-cell =
       let h = core-threaded t core (of-locks notices) (omega arith) in
-      end-placed ws ∙ rw (resources-is t ws is, locks-is t ws is, is) (walk-holds t (of-locks notices) h 0 (length (t .locks)) (chain-most t (of-locks notices) h) (λ z a. z refl))
+      end-placed ws ∙ rw (resources-is t ws is, locks-is t ws is, is) (walk-holds-with (tally t) t (of-locks notices) h 0 (length (t .locks)) (chain-most t (of-locks notices) h) (λ z a. z refl))
 
   no-end : Absent 0 (t .notices)
   no-end = no-zero t (of-locks notices) (core-threaded t core (of-locks notices) (omega arith))
 
   end-walks : Walks ws (cells-at (of-locks notices) ws) 0
-  end-walks = chain-joins t ws is (of-locks notices) (core-threaded t core (of-locks notices) (omega arith)) (cells-at (of-locks notices) ws) refl (core-sized t ws is core)
+  end-walks = chain-joins (tally t) t ws is (of-locks notices) (core-threaded t core (of-locks notices) (omega arith)) (cells-at (of-locks notices) ws) refl (core-sized t ws is core)
 
 -- notices_end
 module _ (ws : List ℕ) where
@@ -91,6 +92,10 @@ module _ (m : ℕ) (low : 1 ≤ m) (l : Lock) where
   marked-stays : stays l n ≡ true
   unfolding stays
   marked-stays = rw (eqb-same (l .state), eqb-same (l .resource))
+
+  marked-holds : (s h : ℕ) → holds-mode l s h ≡ holds-mode n s h
+  unfolding holds-mode
+  marked-holds s h = refl
 
 shifted-same : (b : Bool) (f : ℕ → ℕ) (n k : ℕ) (ws : List ℕ) → shift-cells b b f n k ws ≡ ws
 unfolding shift-cells
@@ -194,7 +199,7 @@ module _ (j m : ℕ) (a : List ℕ) where
       pub mark-raised : Turns (Markable j m) (mark-lock m j) a e
       mark-raised =
           turned e
-          (λ low. moved-at-home j l (n m low l) a el a (sym (side-kept j m low a l (sym ex ∙ h))) true (sym (marked-stays m low l)) e refl
+          (λ low. moved-uncounted j l (n m low l) a el (marked-holds m low l) a (sym (side-kept j m low a l (sym ex ∙ h))) true (sym (marked-stays m low l)) e refl
           (ee ∙ ap (λ (z : Lock). set-cells (resources-in a) j z a) eo))
 
       pub raised-end : Some (Markable j m) a → Kept a e → (end : ℕ) → end ≡ notices-end a → end ≡ notices-end e
@@ -208,7 +213,7 @@ module _ (j m : ℕ) (a : List ℕ) where
       pub mark-joined : Turns (Markable j m) (mark-lock m j) a e
       mark-joined =
           turned e
-          (λ low. moved-at-home j l (n m low l) a el (set a end j) (ap (λ (z : ℕ). set a z j) q ∙ sym (side-joined j m low a l (sym ex ∙ h))) true (sym (marked-stays m low l)) e refl
+          (λ low. moved-uncounted j l (n m low l) a el (marked-holds m low l) (set a end j) (ap (λ (z : ℕ). set a z j) q ∙ sym (side-joined j m low a l (sym ex ∙ h))) true (sym (marked-stays m low l)) e refl
           (ee ∙ ap (λ (z : Lock). set-cells (resources-in (set a end j)) j z (set a end j)) eo))
 
       pub joined-end : Some (Markable j m) a → (y : ℕ) → y ≡ header-width + resource-width * resources-in e + lock-width * (j - 1) → y + 2 ≡ notices-end e

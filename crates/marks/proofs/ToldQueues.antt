@@ -261,7 +261,7 @@ module _ (k : ℕ) (t : Tables) (p : Begun k t) where
   abbrev r : ℕ
   r = lock t k .resource
 
-  begun-place : (within (length (t .locks)) k ≡ true) × (within (length (t .resources)) r ≡ true)
+  pub begun-place : (within (length (t .locks)) k ≡ true) × (within (length (t .resources)) r ≡ true)
   begun-place =
       let b = blocked-place t (p .core) r k (line-has t (p .core) k (p .is-blocked)) in
       (b .2, used-within t r (b .0 .in-use))

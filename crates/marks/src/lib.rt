@@ -8,6 +8,7 @@ use table_fields::LOCK_RESOURCE;
 use table_fields::NOTICES;
 use table_fields::RESOURCE_CONVERT;
 use table_fields::RESOURCE_GRANT;
+use table_fields::counts_at;
 use table_fields::is_noticed;
 use table_fields::lock_at;
 use table_fields::lock_start;
@@ -16,10 +17,11 @@ use table_fields::put_lock;
 use table_fields::resource_word;
 use tables::Lock;
 ghost use mathlib.Core.Path.{_≡_};
-ghost use Rattle.tables.specs.State.{«with-notice»};
+ghost use Rattle.tables.specs.State.{«with-notice», lock};
+ghost use Rattle.tables.specs.Grants.{fits};
 ghost use Rattle.rules.specs.Calls.{larger, «mark-lock», «tell-obstacles»};
 ghost use Rattle.tables.specs.Validity.{Core};
-ghost use Rattle.table_chains.specs.Contracts.{Some, Turns};
+ghost use Rattle.table_chains.specs.Contracts.{Some, Turns, Tells};
 ghost use Rattle.table_fields.specs.Sizes.{Kept};
 ghost use Rattle.marks.specs.Telling.{tell, «notices-end»};
 ghost use Rattle.marks.specs.Contracts.{Markable, Tellable, Hearing, Heard, Begun};
@@ -102,8 +104,8 @@ fn notices_end(words: &[u32]) -> usize
     table_chains::holding(words, cells, 0)
 }
 
-// The lock k has begun to wait: whoever is in its way is told, those granted there first, then those converting.
-pub fn tell_obstacles(words: &mut [u32], k: u32)
+// Whoever is in the way of the lock k is told, those granted there first, then those converting.
+fn tell_all(words: &mut [u32], k: u32)
     requires { ⌜ Some (Begun k) (now words) ⌝ }
     ensures { λ _. ⌜ Turns (Begun k) (tell-obstacles k) (now (words .entry)) (now (words .exit)) ⌝ }
 {
@@ -113,4 +115,28 @@ pub fn tell_obstacles(words: &mut [u32], k: u32)
     let last = tell_each(words, k, granted, end);
     let converting = resource_word(words, r, RESOURCE_CONVERT);
     tell_each(words, k, converting, last);
+}
+
+// Whether what the lock k asks for is compatible with every mode that another holds there, by the counts. It grants
+// nothing, so the masks tell it, in less time than the table.
+fn unhindered(words: &[u32], k: u32) -> bool
+    requires { ⌜ Some (Begun k) (now words) ⌝ }
+    ensures { λ x. ⌜ Tells (Begun k) (λ t. fits t (lock t k .resource) k (lock t k .asked)) (now (words .entry)) x ⌝ }
+{
+    let l = lock_at(words, k);
+    modes::fits_by_masks(
+        queues::modes_of_others(counts_at(words, l.resource), l),
+        l.asked,
+    )
+}
+
+// The lock k has begun to wait, and whoever is in its way is told. Nobody is if it waits only because others do.
+pub fn tell_obstacles(words: &mut [u32], k: u32)
+    requires { ⌜ Some (Begun k) (now words) ⌝ }
+    ensures { λ _. ⌜ Turns (Begun k) (tell-obstacles k) (now (words .entry)) (now (words .exit)) ⌝ }
+{
+    if unhindered(words, k) {
+        return;
+    }
+    tell_all(words, k);
 }

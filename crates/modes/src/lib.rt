@@ -196,7 +196,7 @@ const AGAINST: [u32; 6] = [
     0b11_1110, // EX: all but NL
 ];
 
-// The same as `fits`, in less time: for the soundness check, which asks at every lock.
+// The same as `fits`, in less time: for what grants nothing, above all the soundness check, which asks at every lock.
 pub fn fits_by_masks(set: u32, asked: u32) -> bool
     requires { ⌜ set < 64 ⌝ }
     requires { ⌜ asked < 6 ⌝ }

@@ -11,7 +11,7 @@ use Rattle.tables.specs.declared.Lock.{Lock}
 use Rattle.tables.specs.Lists.{count, first}
 use Rattle.tables.specs.State.{Tables, no-lock, lock, resource, move, converts, waits, queue, of-locks}
 use Rattle.tables.specs.Layout.{words, locks-in, read-chain, read-lock}
-use Rattle.tables.specs.Grants.{fits, convert-grantable, grantable-head}
+use Rattle.tables.specs.Grants.{convert-grantable, grantable-head}
 use Rattle.tables.proofs.Cases.{clash}
 use Rattle.tables.proofs.Counts.{within-le, count-same}
 use Rattle.tables.proofs.ReadBack.{lock-read, chain-read}
@@ -20,11 +20,16 @@ use Rattle.tables.proofs.Valid.{resources-length}
 use Rattle.tables.proofs.ChainMembers.{blocked-place}
 use Rattle.rules.specs.Queues.{granted-lock, grant-lock, grant-while, sweep, free-lock}
 use Rattle.rules.proofs.SweepLaws.{grant-core, grant-line, sweep-line, sweep-is-line}
+use Rattle.table_fields.specs.declared.ModeCounts.{ModeCounts}
+use Rattle.table_fields.specs.Records.{read-counts}
 use Rattle.table_fields.proofs.StateWords.{locks-is}
 use Rattle.table_chains.specs.Contracts.{Some, Turns, Tells, Answers, Movable, Moving, Moved, Resourced}
-use Rattle.table_chains.proofs.ChainWalks.{here-sized}
+use Rattle.table_chains.proofs.ChainWalks.{here-sized, here-low, here-high}
+use Rattle.table_chains.proofs.LockLimits.{asked-few}
+use Rattle.queues.specs.Decisions.{admits-head}
 use Rattle.queues.specs.Contracts.{Locked, ready, advance}
 use Rattle.queues.proofs.QueueReads.{threaded}
+use Rattle.queues.proofs.Decisions.{head-told}
 
 -- STATES. The line of r has a head or not
 module _ (r : ℕ) (t : Tables) where
@@ -159,11 +164,11 @@ module _ (r k : ℕ) (a : List ℕ) (up : Tells (Resourced r) (λ t. first (line
             is = s .is;
           }
 
-      module _ (x : Bool) (ex : Tells (Resourced r) (λ t. fits t r k (l .asked)) a x) where
+      module _ (c : ModeCounts) (ec : c ≡ read-counts a r) (x : Bool) (ex : x ≡ admits-head c l) where
         x-is : (t : Tables) → Resourced r t → a ≡ words t → x ≡ ready r t
-        unfolding convert-grantable
         x-is t p is =
-            ex .then t p is ∙ ap (λ (o : Lock). fits t r k (o .asked)) (l-is t p is) ∙ sym (ready-head r t k (ahead t p is .0) (ahead t p is .1))
+            ex ∙ ap₂ admits-head ec (l-is t p is) ∙ head-told r t p a is k (counted t p is) (asked-few t (p .core) k)
+            ∙ sym (ready-head r t k (ahead t p is .0) (ahead t p is .1))
 
         pub grant-refused : not x ≡ true → Answers (Resourced r) (ready r) (advance r) a a false
         grant-refused q = record {
@@ -185,7 +190,7 @@ module _ (r k : ℕ) (a : List ℕ) (up : Tells (Resourced r) (λ t. first (line
               );
         }
 
-pub ruleset grant-laws = (needs, here-sized, grant-none, grant-low, grant-high, grant-mode, grant-refused, grant-moving, grant-made)
+pub ruleset grant-laws = (needs, here-sized, here-low, here-high, grant-none, grant-low, grant-high, grant-mode, grant-refused, grant-moving, grant-made)
 
 -- sweep: from the words a to the words b, what is left to do has stayed the same
 pub record Goes (r : ℕ) (b : List ℕ) (t : Tables) : Type 0 where

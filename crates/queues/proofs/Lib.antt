@@ -1,6 +1,6 @@
-pub mod HeldSets
-pub mod HolderWalk
+pub mod HeldModes
 pub mod QueueReads
+pub mod Decisions
 pub mod GrantTurns
 pub mod ResourceRecord
 pub mod StateAfter

@@ -1,21 +1,32 @@
--- The set of the modes that locks hold, on a state and as code finds it by walking a chain.
-use mathlib.Core.Bool.{cond}
-use mathlib.Core.List.{List, [], _∷_}
+-- The set of the modes that locks hold on a resource, one of them left out, from the counts of its record.
+use mathlib.Core.Bool.{Bool, cond}
 use Prim.Native.Nat.{ℕ}
-use lib.Dec.{eqb}
-use Rattle.modes.specs.Sets.{with-mode}
-use Rattle.tables.specs.State.{Tables, lock}
-use Rattle.tables.specs.Grants.{holders}
+use lib.Dec.{eqb, ltb}
+use Rattle.modes.specs.Modes.{NL, CR, CW, PR, PW, EX}
+use Rattle.modes.specs.Sets.{with-mode, fits-set}
+use Rattle.tables.specs.declared.Lock.{Lock}
+use Rattle.tables.specs.Lists.{bit}
+use Rattle.tables.specs.State.{converting}
+use Rattle.table_fields.specs.declared.ModeCounts.{ModeCounts}
 
--- the set with the mode that the lock j holds, unless j is k; the same for each lock of a list
-unfoldable pub with-holder : (ℕ → ℕ) → ℕ → ℕ → ℕ → ℕ
-with-holder held k set j = cond (eqb j k) set (with-mode set (held j))
+-- one lock may be left out: `own` is the mode that it holds, or this number, which is no mode
+abbrev pub no-mode : ℕ
+no-mode = 6
 
-unfoldable pub with-holders : (ℕ → ℕ) → ℕ → ℕ → List ℕ → ℕ
-unfolding with-holder
-with-holders held k set [] = set
-with-holders held k set (j ∷ js) = with-holders held k (with-holder held k set j) js
+-- the set with the mode h, which c locks hold, if more hold it than the one that is left out, which holds `own`
+unfoldable pub with-held : ℕ → ℕ → ℕ → ℕ → ℕ
+with-held own c h set = cond (ltb (bit (eqb h own)) c) (with-mode set h) set
 
--- ON A STATE: the modes that locks other than k hold on r
-unfoldable pub others : ℕ → ℕ → Tables → ℕ
-others r k t = with-holders (λ j. lock t j .held) k 0 (holders t r)
+-- the set of the modes that are held beside that one
+unfoldable pub modes-beside : ModeCounts → ℕ → ℕ
+modes-beside c own =
+    with-held own (c .ex) EX (with-held own (c .pw) PW (with-held own (c .pr) PR
+    (with-held own (c .cw) CW (with-held own (c .cr) CR (with-held own (c .nl) NL 0)))))
+
+-- what a blocked lock leaves out: a converting lock is not in its own way, a waiting one holds nothing
+unfoldable pub own-mode : Lock → ℕ
+own-mode l = cond (converting l) (l .held) no-mode
+
+-- the mode m is compatible with each of them
+unfoldable pub goes-beside : ModeCounts → ℕ → ℕ → Bool
+goes-beside c own m = fits-set (modes-beside c own) m

@@ -1,2 +1,3 @@
 pub mod Holders
+pub mod Decisions
 pub mod Contracts

@@ -1,6 +1,7 @@
-// The parts of the calls' changes, in place on the lent words and slots: who holds a mode on a resource, granting,
-// freeing, settling.
-use table_fields::lock_word;
+// The parts of the calls' changes, in place on the lent words and slots: deciding what is granted, granting, freeing,
+// settling.
+use modes::Mode;
+use table_fields::ModeCounts;
 use table_fields::resource_word;
 use tables::Lock;
 ghost use mathlib.Core.Path.{_≡_};
@@ -8,94 +9,137 @@ ghost use mathlib.Core.Bool.{true, false};
 ghost use Prim.Native.Nat.{_<_};
 ghost use Rattle.tables.specs.Lists.{first};
 ghost use Rattle.tables.specs.State.{«no-resource», resource, «move-resource»};
-ghost use Rattle.tables.specs.Layout.{onward, «held-in»};
-ghost use Rattle.tables.specs.Grants.{fits, empty};
+ghost use Rattle.tables.specs.Grants.{empty};
 ghost use Rattle.tables.specs.Validity.{line};
 ghost use Rattle.rules.specs.Queues.{«granted-lock», sweep, «free-lock», settle};
 ghost use Rattle.rules.specs.Calls.{«granted-at-once», «in-place», «leave-value», «new-resource»};
 ghost use Rattle.table_chains.specs.Contracts.{Some, Turns, Tells, Answers, Changes, Resourced};
-ghost use Rattle.table_chains.specs.Walking.{At, Walking};
-ghost use Rattle.queues.specs.Holders.{«with-holder», «with-holders», others};
+ghost use Rattle.queues.specs.Holders.{«with-held», «modes-beside», «goes-beside», «own-mode»};
+ghost use Rattle.queues.specs.Decisions.{«admits-request», «admits-conversion», «admits-head», «read-occupancy»};
 ghost use Rattle.queues.specs.Contracts.{Locked, GrantedLock, ready, advance, SomeTables, Vacant, Takes, Valued};
 
-// The set with the mode that lock j holds, unless j is k.
-fn with_holder(words: &[u32], set: u32, j: u32, k: u32) -> u32
-    requires { ⌜ At (now words) j ⌝ }
+// What a request or a conversion is decided from, all of it in the resource's record: the first lock on the convert
+// chain and on the wait chain, or 0, and how many locks hold each mode.
+struct Occupancy {
+    pub convert: u32,
+    pub wait: u32,
+    pub counts: ModeCounts,
+}
+
+// A number that is no mode: with it no lock is left out.
+const NO_MODE: u32 = 6;
+
+// The set with the mode, which `count` locks hold, if more hold it than the one that is left out, which holds `own`.
+fn with_held(set: u32, mode: u32, count: u32, own: u32) -> u32
     requires { ⌜ set < 64 ⌝ }
-    ensures { λ x. ⌜ x ≡ with-holder (held-in (now (words .entry))) k set j ⌝ }
+    requires { ⌜ mode < 6 ⌝ }
+    ensures { λ x. ⌜ (x ≡ with-held own count mode set) × (x < 64) ⌝ }
 {
-    if j == k {
+    if count <= table_fields::bit(mode == own) {
         return set;
     }
-    modes::with_mode(set, lock_word(words, j, table_fields::LOCK_HELD))
+    modes::with_mode(set, mode)
 }
 
-// The set with the modes that locks other than k hold, from the first on along its chain.
-fn with_holders(words: &[u32], set: u32, first: u32, k: u32) -> u32
-    requires { ⌜ Walking (now words) 0 first ⌝ }
-    requires { ⌜ set < 64 ⌝ }
-    ensures { λ x. ⌜ x ≡ with-holders (held-in (now (words .entry))) k set (onward (now (words .entry)) 0 first) ⌝ }
+// The set of the modes that are held beside that one.
+fn modes_beside(counts: ModeCounts, own: u32) -> u32
+    ensures { λ x. ⌜ (x ≡ modes-beside counts own) × (x < 64) ⌝ }
 {
-    let mut held = set;
-    let mut j = first;
-    while j != 0 {
-        held = with_holder(words, held, j, k);
-        j = lock_word(words, j, table_fields::LOCK_NEXT);
-    }
-    held
+    let nl = with_held(0, Mode::NL.0, counts.nl, own);
+    let cr = with_held(nl, Mode::CR.0, counts.cr, own);
+    let cw = with_held(cr, Mode::CW.0, counts.cw, own);
+    let pr = with_held(cw, Mode::PR.0, counts.pr, own);
+    let pw = with_held(pr, Mode::PW.0, counts.pw, own);
+    with_held(pw, Mode::EX.0, counts.ex, own)
 }
 
-// The set of the modes that locks other than k hold on r. No lock has the number 0: with k = 0 none is left out.
-pub fn others(words: &[u32], r: u32, k: u32) -> u32
-    requires { ⌜ Some (Resourced r) (now words) ⌝ }
-    ensures { λ x. ⌜ Tells (Resourced r) (others r k) (now (words .entry)) x ⌝ }
-{
-    let granted = resource_word(words, r, table_fields::RESOURCE_GRANT);
-    let held = with_holders(words, 0, granted, k);
-    let converting = resource_word(words, r, table_fields::RESOURCE_CONVERT);
-    with_holders(words, held, converting, k)
-}
-
-// The mode is compatible with every mode that a lock other than k holds on r.
-pub fn fits(words: &[u32], r: u32, k: u32, mode: u32) -> bool
-    requires { ⌜ Some (Resourced r) (now words) ⌝ }
+// The mode is compatible with each of them.
+fn goes_beside(counts: ModeCounts, own: u32, mode: u32) -> bool
     requires { ⌜ mode < 6 ⌝ }
-    ensures { λ x. ⌜ Tells (Resourced r) (λ t. fits t r k mode) (now (words .entry)) x ⌝ }
+    ensures { λ x. ⌜ x ≡ goes-beside counts own mode ⌝ }
 {
-    modes::fits(others(words, r, k), mode)
+    modes::fits(modes_beside(counts, own), mode)
 }
 
-// A new request of the mode is granted at once on r: no conversion waits there and, unless it is for NL, no request;
-// and the mode is compatible with every held mode.
+// A new request of the mode is granted at once: no conversion waits there and, unless it is for NL, no request; and the
+// mode is compatible with every held mode.
+fn admits_request(s: Occupancy, mode: u32) -> bool
+    requires { ⌜ mode < 6 ⌝ }
+    ensures { λ x. ⌜ x ≡ admits-request s mode ⌝ }
+{
+    if s.convert != 0 {
+        return false;
+    }
+    if (mode != Mode::NL.0) & (s.wait != 0) {
+        return false;
+    }
+    goes_beside(s.counts, NO_MODE, mode)
+}
+
+// A granted lock that holds `own` takes the mode where it stands: the conversion is down, or no conversion waits there
+// and the mode fits the other holders.
+fn admits_conversion(s: Occupancy, own: u32, mode: u32) -> bool
+    requires { ⌜ own < 6 ⌝ }
+    requires { ⌜ mode < 6 ⌝ }
+    ensures { λ x. ⌜ x ≡ admits-conversion s own mode ⌝ }
+{
+    if modes::down(own, mode) {
+        return true;
+    }
+    if s.convert != 0 {
+        return false;
+    }
+    goes_beside(s.counts, own, mode)
+}
+
+// The set of the modes that others hold where the lock l is blocked. A converting lock is not in its own way; a waiting
+// one holds nothing.
+pub fn modes_of_others(counts: ModeCounts, l: Lock) -> u32
+    ensures { λ x. ⌜ (x ≡ modes-beside counts (own-mode l)) × (x < 64) ⌝ }
+{
+    if l.state == table_fields::STATE_CONVERTING {
+        return modes_beside(counts, l.held);
+    }
+    modes_beside(counts, NO_MODE)
+}
+
+// A lock at the head of the line gets what it asks for.
+fn admits_head(counts: ModeCounts, l: Lock) -> bool
+    requires { ⌜ l .asked < 6 ⌝ }
+    ensures { λ x. ⌜ x ≡ admits-head counts l ⌝ }
+{
+    modes::fits(modes_of_others(counts, l), l.asked)
+}
+
+// That of r, from its record.
+fn occupancy_at(words: &[u32], r: u32) -> Occupancy
+    requires { ⌜ Some (Resourced r) (now words) ⌝ }
+    ensures { λ x. ⌜ x ≡ read-occupancy (now (words .entry)) r ⌝ }
+{
+    Occupancy {
+        convert: resource_word(words, r, table_fields::RESOURCE_CONVERT),
+        wait: resource_word(words, r, table_fields::RESOURCE_WAIT),
+        counts: table_fields::counts_at(words, r),
+    }
+}
+
+// A new request of the mode is granted at once on r.
 pub fn granted_at_once(words: &[u32], r: u32, mode: u32) -> bool
     requires { ⌜ Some (Resourced r) (now words) ⌝ }
     requires { ⌜ mode < 6 ⌝ }
     ensures { λ x. ⌜ Tells (Resourced r) (λ t. granted-at-once t r mode) (now (words .entry)) x ⌝ }
 {
-    if resource_word(words, r, table_fields::RESOURCE_CONVERT) != 0 {
-        return false;
-    }
-    if (mode != modes::Mode::NL.0) & (resource_word(words, r, table_fields::RESOURCE_WAIT) != 0) {
-        return false;
-    }
-    fits(words, r, 0, mode)
+    admits_request(occupancy_at(words, r), mode)
 }
 
-// Whether the granted lock k can take the mode in place: the conversion is down, or no conversion waits there and the
-// mode fits the other holders.
+// Whether the granted lock k can take the mode in place.
 pub fn in_place(words: &[u32], k: u32, mode: u32) -> bool
     requires { ⌜ Some (GrantedLock k) (now words) ⌝ }
     requires { ⌜ mode < 6 ⌝ }
     ensures { λ x. ⌜ Tells (GrantedLock k) (in-place k mode) (now (words .entry)) x ⌝ }
 {
     let lock = table_fields::lock_at(words, k);
-    if modes::down(lock.held, mode) {
-        return true;
-    }
-    if resource_word(words, lock.resource, table_fields::RESOURCE_CONVERT) != 0 {
-        return false;
-    }
-    fits(words, lock.resource, k, mode)
+    admits_conversion(occupancy_at(words, lock.resource), lock.held, mode)
 }
 
 // The lock that is next to be granted on r, or 0: the convert head, or else the wait head.
@@ -131,7 +175,7 @@ fn grant_next(words: &mut [u32], r: u32) -> bool
         return false;
     }
     let l = table_fields::lock_at(words, k);
-    if !fits(words, r, k, l.asked) {
+    if !admits_head(table_fields::counts_at(words, r), l) {
         return false;
     }
     table_chains::move_lock(words, k, granted(l));

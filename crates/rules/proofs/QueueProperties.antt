@@ -1,5 +1,5 @@
 -- The words of a valid state hold what the queue theorem says of the words after every list of calls.
-use mathlib.Core.Path.{_≡_, refl, ap, _∙_}
+use mathlib.Core.Path.{_≡_, refl, sym, ap, _∙_}
 use mathlib.Core.Logic.{_≢_}
 use mathlib.Core.Bool.{Bool, true, false, _&&_, _||_, not, and-false}
 use mathlib.Core.List.{List, [], _∷_, _++_}
@@ -9,13 +9,14 @@ use lib.ListN.{length}
 use lib.Dec.{eqb, ltb}
 use borrow.Author.Tests.{eq-eqb, ne-eqb, ltb-true, ltb-false, lt-ltb, le-ltb, not-true}
 use Rattle.modes.specs.Modes.{compatible}
-use Rattle.tables.specs.Lists.{within, count, bit, any, first, from}
-use Rattle.tables.specs.State.{Tables, lock, resource, holds, Queue, queue-of, grants, converts, waits, LockChain, free-locks, denied, blocked, notices, queue, of-locks, chain, belongs}
-use Rattle.tables.specs.Layout.{of-resource, queue-head, resources-in, locks-in, word-in, link-in, read-chain, read-lock, words, slots}
-use Rattle.tables.specs.Grants.{fits, convert-grantable}
+use Rattle.tables.specs.Lists.{within, count, bit, any, first, keep, from}
+use Rattle.tables.specs.declared.Lock.{Lock}
+use Rattle.tables.specs.State.{Tables, last-mode, lock, resource, holds, Queue, queue-of, grants, converts, waits, LockChain, free-locks, denied, blocked, notices, queue, of-locks, chain, belongs}
+use Rattle.tables.specs.Layout.{resource-width, of-resource, queue-head, count-field, resources-in, locks-in, word-in, link-in, read-chain, read-lock, word-value, words, slots}
+use Rattle.tables.specs.Grants.{holds-mode, tally, fits, convert-grantable}
 use Rattle.tables.specs.Sound.{ends, chain-ends, chains-end, sound}
 use Rattle.tables.proofs.Cases.{by-cases, by-equal, clash, parts}
-use Rattle.tables.proofs.Counts.{within-le, le-within, count-same, count-from, all-at, any-intro}
+use Rattle.tables.proofs.Counts.{within-le, le-within, count-same, count-from, from-in, all-at, any-intro, keep-cong}
 use Rattle.tables.specs.Threads.{Present}
 use Rattle.tables.proofs.Written.{valid-readable, valid-sound}
 use Rattle.tables.proofs.ReadBack.{resources-word, locks-word, word-read, chain-read, lock-read}
@@ -24,7 +25,9 @@ use Rattle.tables.proofs.StateCases.{StateOk, ok-numbered}
 use Rattle.tables.proofs.Valid.{used-within}
 use Rattle.tables.proofs.ChainMembers.{true-fits, on-chain, holder-within, on-queue, three-queues}
 use Rattle.tables.proofs.Links.{next-here}
-use Rattle.rules.specs.Theorem.{IsLock, IsResource, IsChain, queue-count, home-count, keeps-out, kept-out, convert-head, wait-head, conversion-waits, in-use, QueuesHold}
+use Rattle.tables.proofs.Tallies.{count-word}
+use Rattle.tables.proofs.CountedLocks.{tally-locks}
+use Rattle.rules.specs.Theorem.{IsLock, IsResource, IsChain, queue-count, home-count, keeps-out, kept-out, convert-head, wait-head, conversion-waits, locks-that, QueuesHold}
 
 -- res is one of 1..r + 1 exactly if it is one of 1..r, or r + 1
 bits : (q : Bool) (r res : ℕ) → bit (q && within r res) + bit (q && eqb res (suc r)) ≡ bit (q && within (suc r) res)
@@ -42,6 +45,16 @@ within-none : (s : ℕ) → within 0 s ≡ false
 within-none zero = refl
 within-none (suc s) = le-ltb s 0 (omega arith)
 
+-- locks counted in the words are those of the state
+pub locks-kept : (p : Lock → Bool) (t : Tables) → locks-that p (words t) ≡ length (keep (λ k. p (lock t k)) (from 1 (length (t .locks))))
+unfolding locks-that
+locks-kept p t =
+    rw (locks-word t)
+    (ap length (keep-cong (λ k. p (read-lock (words t) k)) (λ k. p (lock t k)) (from 1 (length (t .locks))) same-lock))
+  where
+    same-lock : (k : ℕ) → 1 ≤ count k (from 1 (length (t .locks))) → p (read-lock (words t) k) ≡ p (lock t k)
+    same-lock k m = let w = from-in (length (t .locks)) k m in rw (lock-read t k (w .0) (w .1))
+
 module _ (t : Tables) (val : Valid t) where
   ok : sound (words t) (slots t) ≡ true
   ok = valid-sound t val
@@ -55,7 +68,7 @@ module _ (t : Tables) (val : Valid t) where
   pub lock-is : (k : ℕ) → IsLock (words t) k → read-lock (words t) k ≡ lock t k
   lock-is k i = lock-read t k (i .low) (lock-high k i)
 
-  queue-present : (r : ℕ) → IsResource (words t) r → (f : ℕ) → f < 8 → (1 ≤ r) × (r ≤ length (t .resources)) × (f < 8)
+  queue-present : (r : ℕ) → IsResource (words t) r → (f : ℕ) → f < resource-width → (1 ≤ r) × (r ≤ length (t .resources)) × (f < resource-width)
   queue-present r i f p = (i .low, resource-high r i, p)
 
   present : (c : LockChain) → IsChain (words t) c → Present t (of-locks c)
@@ -193,6 +206,14 @@ module _ (t : Tables) (val : Valid t) where
           rw (lock-is k (is-lock k w))
           (kept r k 0 (lock t k .asked) (λ j m v q. let p = within-le (length (t .locks)) j v in omega arith) (line-head r k ks (rw (f, e))))
 
+  -- R-5
+  counts-hold : (r : ℕ) → IsResource (words t) r → (m : ℕ) → m ≤ last-mode → word-in (words t) (of-resource r (count-field m)) ≡ locks-that (λ l. holds-mode l r m) (words t)
+  counts-hold r i m h =
+      word-read t (of-resource r (count-field m)) (i .low, resource-high r i, omega arith)
+      ∙ ap (word-value (tally t) t) (count-word t r m h)
+      ∙ tally-locks t (val .core) r m
+      ∙ sym (locks-kept (λ l. holds-mode l r m) t)
+
   pub queues-hold : QueuesHold (words t) (slots t)
   queues-hold =
       record {
@@ -202,4 +223,5 @@ module _ (t : Tables) (val : Valid t) where
         chains-end = chain-ended;
         convert-heads = convert-barred;
         wait-heads = wait-barred;
+        true-counts = counts-hold;
       }

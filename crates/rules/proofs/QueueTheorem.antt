@@ -3,18 +3,16 @@ use mathlib.Core.Path.{_≡_, refl, sym, ap, ap₂, _∙_}
 use mathlib.Core.Logic.{_≢_}
 use mathlib.Core.Bool.{Bool, true, false, _&&_, not, cond}
 use mathlib.Core.List.{List, [], _∷_}
-use Prim.Native.Nat.{ℕ, zero, suc, _+_, _≤_}
+use Prim.Native.Nat.{ℕ, zero, suc, _+_}
 use native.Mathlib.Omega.{arith}
-use lib.ListN.{length}
 use lib.Dec.{eqb}
 use borrow.Author.Tests.{leb-true}
 use Rattle.tables.specs.declared.Lock.{Lock}
-use Rattle.tables.specs.Lists.{count, bit, from}
-use Rattle.tables.specs.State.{Tables, no-lock, lock, blocked-lock, unread, started, most-resources, most-locks}
-use Rattle.tables.specs.Layout.{read-lock, words, slots}
+use Rattle.tables.specs.Lists.{bit}
+use Rattle.tables.specs.State.{Tables, no-lock, blocked-lock, unread, started, most-resources, most-locks}
+use Rattle.tables.specs.Layout.{words, slots}
 use Rattle.tables.proofs.Cases.{parts}
-use Rattle.tables.proofs.Counts.{from-in, keep-cong}
-use Rattle.tables.proofs.ReadBack.{locks-word, lock-read, tables-read}
+use Rattle.tables.proofs.ReadBack.{tables-read}
 use Rattle.tables.specs.Validity.{Valid}
 use Rattle.tables.proofs.Written.{valid-readable, valid-sound}
 use Rattle.rules.specs.Calls.{Said, refused, Step}
@@ -22,7 +20,7 @@ use Rattle.rules.specs.Entries.{Lent, lent-of, outcome, written, written
 use Rattle.rules.specs.Theorem.{lent-after-calls, sum-of, requests-accepted, releases-accepted, requests-cancelled, locks-purged, polled-denials, answers-2, polled-completions, cancels-accepted, purged-blocked, purged-unread, locks-that, client-of, HeardSum, Demand, QueueTheorem}
 use Rattle.rules.proofs.LockWeights.{weight, weight-bits, used-bit, owes, steady-owes, weight-owes}
 use Rattle.rules.proofs.EveryCall.{Kept, stepped, started-valid, started-none}
-use Rattle.rules.proofs.QueueProperties.{queues-hold}
+use Rattle.rules.proofs.QueueProperties.{locks-kept, queues-hold}
 
 unfoldable pub play : List Call → Tables → Tables
 play [] t = t
@@ -99,15 +97,9 @@ module _ (who : ℕ → Bool) where
         heard cs (step-of c t .tables) (stepped c t val .valid),
       ))
 
--- locks counted in the words are those of the state
+-- as a weight, the locks that are counted in the words
 pub locks-are : (p : Lock → Bool) (t : Tables) → locks-that p (words t) ≡ weight (λ l. bit (p l)) t
-unfolding locks-that
-locks-are p t =
-    rw (locks-word t)
-    (ap length (keep-cong (λ k. p (read-lock (words t) k)) (λ k. p (lock t k)) (from 1 (length (t .locks))) same-lock) ∙ weight-bits p t)
-  where
-    same-lock : (k : ℕ) → 1 ≤ count k (from 1 (length (t .locks))) → p (read-lock (words t) k) ≡ p (lock t k)
-    same-lock k m = let w = from-in (length (t .locks)) k m in rw (lock-read t k (w .0) (w .1))
+locks-are p t = locks-kept p t ∙ weight-bits p t
 
 demand : (cs : List Call) (t : Tables) → Valid t → ((f : Lock → ℕ) → f no-lock ≡ 0 → weight f t ≡ 0) → Demand cs (lent-of t)
 demand cs t val none =

@@ -11,9 +11,9 @@ use Rattle.modes.specs.Modes.{NL, CR, EX, matrix, compatible, all-modes, down}
 use Rattle.tables.specs.declared.Lock.{Lock}
 use Rattle.tables.specs.Lists.{from, count, remove, all, any, keep, first-that, next, same}
 use Rattle.tables.specs.State.{Tables, no-value, lock, resource, started, blocked-lock, unread, shift, shift-front, relist, move, move-resource, grants, converts, waits, free-locks, denied, blocked, notices, queue}
-use Rattle.tables.specs.Layout.{rows, sheet, by-address, words, slot, slots, follow, read-chain, read-lock, slot-in, read-resource, read}
-use Rattle.tables.specs.Grants.{holders, fits, convert-grantable, wait-grantable, grantable-head, no-grantable-head, empty}
-use Rattle.tables.specs.Sound.{sizes-right, zeros-right, resource-index, lock-index, indices-right, ends, chain-ends, chains-end, all-zero, free-resource-right, name-unique, used-resource-right, resource-right, stands-right, home-right, client-right, modes-right, on-resource, fields-right, lock-right, linked-right, holders-compatible, state-right, sound}
+use Rattle.tables.specs.Layout.{rows, sheet, by-address, words, words-with, slot, slots, follow, read-chain, read-lock, slot-in, read-resource, read}
+use Rattle.tables.specs.Grants.{holders, holds-mode, tally, fits, convert-grantable, wait-grantable, grantable-head, no-grantable-head, empty}
+use Rattle.tables.specs.Sound.{sizes-right, zeros-right, resource-index, lock-index, indices-right, ends, chain-ends, chains-end, all-zero, free-resource-right, name-unique, used-resource-right, resource-right, stands-right, home-right, client-right, modes-right, on-resource, fields-right, lock-right, linked-right, holders-compatible, counts-right, state-right, sound}
 use Rattle.tables.specs.Validity.{Valid}
 use Rattle.rules.specs.Queues.{granted-lock, grant-lock, grant-while, grant-converts, grant-waits, sweep, free-lock, settle, find}
 use Rattle.rules.specs.Deadlock.{in-the-way, obstacles}
@@ -36,7 +36,7 @@ abbrev three-left : Lent
 three-left =
     lent
     (1 ∷ 3 ∷ 0 ∷ 0 ∷ 0 ∷ 2 ∷ 1 ∷ 0
-    ∷ 0 ∷ 1 ∷ 2 ∷ 3 ∷ 1 ∷ 1 ∷ 0 ∷ 0
+    ∷ 0 ∷ 1 ∷ 2 ∷ 3 ∷ 1 ∷ 1 ∷ 1 ∷ 1 ∷ 0 ∷ 0 ∷ 0 ∷ 0
     ∷ 0 ∷ 0 ∷ 0 ∷ 1 ∷ 1 ∷ 1 ∷ CR ∷ 0 ∷ 0 ∷ EX
     ∷ 0 ∷ 3 ∷ 0 ∷ 1 ∷ 2 ∷ 2 ∷ NL ∷ EX ∷ 0 ∷ 0
     ∷ 0 ∷ 0 ∷ 0 ∷ 1 ∷ 3 ∷ 3 ∷ 0 ∷ CR ∷ 0 ∷ 0 ∷ [])
@@ -49,11 +49,14 @@ none p = absurd (omega arith)
 past-3 : {A : Type 0} (k : ℕ) → suc (suc (suc (suc k))) ≤ 3 → A
 past-3 k p = absurd (omega arith)
 
+past-5 : {A : Type 0} (m : ℕ) → suc (suc (suc (suc (suc (suc m))))) ≤ 5 → A
+past-5 m p = absurd (omega arith)
+
 past-1 : {A : Type 0} (r : ℕ) → suc (suc r) ≤ 1 → A
 past-1 r p = absurd (omega arith)
 
 three-hold : QueuesHold (three-left .words) (three-left .slots)
-unfolding queue-count home-count kept-out follow read-chain read-lock slot-in read-resource read lock resource count all any same holders fits convert-grantable wait-grantable grantable-head no-grantable-head empty sizes-right zeros-right resource-index lock-index indices-right ends chain-ends chains-end all-zero free-resource-right name-unique used-resource-right resource-right stands-right home-right client-right modes-right on-resource fields-right lock-right linked-right holders-compatible state-right sound matrix compatible
+unfolding queue-count home-count kept-out locks-that holds-mode keep follow read-chain read-lock slot-in read-resource read lock resource count all any same holders tally fits convert-grantable wait-grantable grantable-head no-grantable-head empty sizes-right zeros-right resource-index lock-index indices-right ends chain-ends chains-end all-zero free-resource-right name-unique used-resource-right resource-right stands-right home-right client-right modes-right on-resource fields-right lock-right linked-right holders-compatible counts-right state-right sound matrix compatible all-modes
 three-hold =
     record {
       sound-tables = refl;
@@ -102,6 +105,19 @@ three-hold =
       ];
       convert-heads = elim [ zero ↦ λ p n. none (p .low) | suc zero ↦ λ p n. refl | suc (suc r) ↦ λ p n. past-1 r (p .high) ];
       wait-heads = elim [ zero ↦ λ p n. none (p .low) | suc zero ↦ λ p n. refl | suc (suc r) ↦ λ p n. past-1 r (p .high) ];
+      true-counts = elim [
+        | zero ↦ λ p. none (p .low)
+        | suc zero ↦ λ p. elim [
+          | zero ↦ λ h. refl
+          | suc zero ↦ λ h. refl
+          | suc (suc zero) ↦ λ h. refl
+          | suc (suc (suc zero)) ↦ λ h. refl
+          | suc (suc (suc (suc zero))) ↦ λ h. refl
+          | suc (suc (suc (suc (suc zero)))) ↦ λ h. refl
+          | suc (suc (suc (suc (suc (suc m))))) ↦ λ h. past-5 m h
+        ]
+        | suc (suc r) ↦ λ p. past-1 r (p .high)
+      ];
     }
 
 -- the terms of the sums: three locks are in use, the two that hold a mode and the one that waits; a cancel that answers 1 took a conversion back, and
@@ -115,7 +131,7 @@ conversion-taken-back = refl
 
 -- THE DEMAND of these calls: they leave `three-left`, and their answers add up
 pub three-locks-hold : Demand three-locks (lent-of (started 1 3))
-unfolding lent-after-calls sum-of begins-to-wait locks-that call-entry entry if-sound written-back started no-value lock resource shift shift-front relist move move-resource rows sheet by-address words slot slots follow read-chain read-lock slot-in read-resource read count remove all any keep first-that next same holders fits convert-grantable wait-grantable grantable-head no-grantable-head empty sizes-right zeros-right resource-index lock-index indices-right ends chain-ends chains-end all-zero free-resource-right name-unique used-resource-right resource-right stands-right home-right client-right modes-right on-resource fields-right lock-right linked-right holders-compatible state-right sound granted-lock grant-lock grant-while grant-converts grant-waits sweep free-lock settle find unless refused-or stores spoils no-queue request-flags convert-flags name-right value-right own strong with-value leave-value in-the-way obstacles larger mark-lock mark-locks tell-obstacles resource-for with-resource granted-at-once request-on request-change at-once request-refusal request in-place convert-change convert-refusal convert cancel-change cancel-refusal cancel matrix compatible all-modes down
+unfolding lent-after-calls sum-of begins-to-wait locks-that call-entry entry if-sound written-back started no-value lock resource shift shift-front relist move move-resource rows sheet by-address words-with slot slots follow read-chain read-lock slot-in read-resource read count remove all any keep first-that next same holders tally fits convert-grantable wait-grantable grantable-head no-grantable-head empty sizes-right zeros-right resource-index lock-index indices-right ends chain-ends chains-end all-zero free-resource-right name-unique used-resource-right resource-right stands-right home-right client-right modes-right on-resource fields-right lock-right linked-right holders-compatible counts-right state-right sound granted-lock grant-lock grant-while grant-converts grant-waits sweep free-lock settle find unless refused-or stores spoils no-queue request-flags convert-flags name-right value-right own strong with-value leave-value in-the-way obstacles larger mark-lock mark-locks tell-obstacles resource-for with-resource granted-at-once request-on request-change at-once request-refusal request in-place convert-change convert-refusal convert cancel-change cancel-refusal cancel matrix compatible all-modes down
 three-locks-hold = record { queues = three-hold; sums = record { balance = refl; heard-once = refl; heard-by-each = by-each } }
   where
     by-each : (i : ℕ) → HeardSum (λ term. sum-of (by-client i term) three-locks (lent-of (started 1 3))) (λ p. locks-of-client i p (three-left .words))

@@ -1,5 +1,5 @@
--- The queue theorem (document 01's demand 3, and R-3 of document 02): what holds of the words and slots after every list of the seven calls from fresh
--- tables, and how the answers add up.
+-- The queue theorem (document 01's demand 3, and R-3 and R-5 of document 02): what holds of the words and slots after every list of the seven calls
+-- from fresh tables, and how the answers add up.
 use mathlib.Core.Path.{_≡_}
 use mathlib.Core.Logic.{_≢_}
 use mathlib.Core.Bool.{Bool, true, _&&_, _||_, not, cond}
@@ -10,8 +10,9 @@ use lib.Dec.{eqb}
 use Rattle.modes.specs.Modes.{compatible}
 use Rattle.tables.specs.Lists.{count, bit, any, keep, from}
 use Rattle.tables.specs.declared.Lock.{Lock}
-use Rattle.tables.specs.State.{holds, blocked-lock, unread, grants, converts, waits, LockChain, free-locks, denied, blocked, notices, queue, of-locks, state-free, completion-none, completion-denied}
-use Rattle.tables.specs.Layout.{of-resource, resources-in, locks-in, word-in, link-in, read-chain, read-lock}
+use Rattle.tables.specs.State.{holds, blocked-lock, unread, grants, converts, waits, LockChain, free-locks, denied, blocked, notices, queue, of-locks, state-free, last-mode, completion-none, completion-denied}
+use Rattle.tables.specs.Layout.{of-resource, resources-in, locks-in, word-in, count-in, link-in, read-chain, read-lock}
+use Rattle.tables.specs.Grants.{holds-mode}
 use Rattle.tables.specs.Sound.{ends, sound}
 use Rattle.rules.specs.Calls.{Said}
 use Rattle.rules.specs.Entries.{Lent, Call, to-request, to-convert, to-release, to-cancel, to-purge, to-break, to-poll, Kind, kind, same-kind, a-request, a-convert, a-release, a-cancel, a-purge, a-poll, call-entry, start-entry}
@@ -154,6 +155,8 @@ pub record QueuesHold (ws ss : List ℕ) : Type 0 where
   -- (d) no head waits that the rules would grant: a convert head is kept out by another lock's mode, a wait head by a conversion or such a mode
   pub convert-heads : (r : ℕ) → IsResource ws r → convert-head ws r ≢ 0 → kept-out ws r (convert-head ws r) (read-lock ws (convert-head ws r) .asked) ≡ true
   pub wait-heads : (r : ℕ) → IsResource ws r → wait-head ws r ≢ 0 → (conversion-waits ws r || kept-out ws r 0 (read-lock ws (wait-head ws r) .asked)) ≡ true
+  -- R-5: "words 6 to 11 counting the locks that hold NL to EX"
+  pub true-counts : (r : ℕ) → IsResource ws r → (m : ℕ) → m ≤ last-mode → count-in ws r m ≡ locks-that (λ l. holds-mode l r m) ws
 
 -- THE SUMS. `sum` is a term summed over the answers of a list, `locks` how many locks are so after it.
 -- R-3: "answers 2 from request and convert = locks now blocked + completions unread + polls with a completion + accepted cancels + the two purge counts

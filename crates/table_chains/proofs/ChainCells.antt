@@ -4,23 +4,22 @@ use mathlib.Core.Logic.{_≢_}
 use mathlib.Core.List.{List}
 use Prim.Native.Nat.{ℕ, _+_, _*_, _-_, _<_, _≤_}
 use native.Mathlib.Omega.{arith}
-use lib.ListN.{length}
+use lib.ListN.{getD, length}
 use Rattle.tables.specs.State.{Tables, free-locks, denied, blocked, notices, queue, Chain, free-resources, of-locks, chain-of}
-use Rattle.tables.specs.Layout.{Address, place, head, link, cell, words, resources-in, locks-in, most}
+use Rattle.tables.specs.Layout.{Address, place, head, link, cell, Counts, words-with, resources-in, locks-in, most}
 use Rattle.tables.specs.Threads.{Absent}
 use Rattle.tables.proofs.Links.{each-on}
 use Rattle.tables.specs.Threads.{Within}
 use Rattle.tables.proofs.Grid.{place-size}
 use Rattle.tables.specs.Threads.{In}
 use Rattle.tables.specs.Threads.{Stands, Threaded}
-use Rattle.tables.proofs.WordChanges.{length-words}
+use Rattle.tables.proofs.WordChanges.{length-words-with}
 use Rattle.tables.specs.Stores.{Safe}
-use Rattle.tables.proofs.ChainWalk.{walk-safe}
-use Rattle.tables.proofs.ReadBack.{resources-word, chain-most}
+use Rattle.tables.proofs.ChainWalk.{walk-safe-with}
+use Rattle.tables.proofs.ReadBack.{resources-word-with, locks-word-with, chain-most}
 use Rattle.tables.specs.Stores.{cell-place}
 use Rattle.tables.proofs.WordSteps.{cells-are}
 use Rattle.table_fields.specs.Sizes.{Sized, Kept}
-use Rattle.table_fields.proofs.StateWords.{resources-is, locks-is}
 use Rattle.table_chains.specs.declared.Cells.{Cells}
 use Rattle.table_chains.specs.Cells.{cell-of, cells-at, lock-cells, Walks, Leaves, Pushes}
 use Rattle.table_chains.proofs.CellWalks.{cell-positive}
@@ -75,22 +74,28 @@ module _ (c : Chain) (ws : List ℕ) (cs : Cells) (e : cs ≡ cells-at c ws) whe
   unfolding cells-at
   cells-first-past = rw e (first-past (resources-in ws) c)
 
--- the words of a state
-module _ (t : Tables) (ws : List ℕ) (is : ws ≡ words t) where
+-- the words of a state, whatever their counts
+module _ (ct : Counts) (t : Tables) (ws : List ℕ) (is : ws ≡ words-with ct t) where
+  pub resources-with : resources-in ws ≡ length (t .resources)
+  resources-with = ap (λ (x : List ℕ). getD x 0 0) is ∙ resources-word-with ct t
+
+  pub locks-with : locks-in ws ≡ length (t .locks)
+  locks-with = ap (λ (x : List ℕ). getD x 1 0) is ∙ locks-word-with ct t
+
   -- an address of the state, by what the words say
   pub within-words : (a : Address) → In t a → Within (resources-in ws) (locks-in ws) a
-  within-words a h = rw (resources-is t ws is, locks-is t ws is) h
+  within-words a h = rw (resources-with, locks-with) h
 
   inside : (a : Address) → In t a → place (resources-in ws) a < length ws
-  inside a h = rw (is, length-words t) (rw (resources-word t) (place-size (length (t .resources)) (length (t .locks)) a h))
+  inside a h = rw (is, length-words-with ct t) (rw (resources-word-with ct t) (place-size (length (t .resources)) (length (t .locks)) a h))
 
   module _ (c : Chain) (h : Threaded t c) (cs : Cells) (e : cs ≡ cells-at c ws) (sized : Sized ws) where
     walk-at : (k : ℕ) → (k ≢ 0 → Absent k (chain-of c t) → ⊥) → Safe ws (cell-of cs) k (cs .most) (cs .head)
     walk-at k o =
-        let bound : length (chain-of c t) ≤ cs .most = omega (arith, chain-most t c h, most-now c ws cs e ∙ ap₂ (λ (r l : ℕ). most r l c) (resources-is t ws is) (locks-is t ws is)) in
-        let cells : cell-of cs ≡ cell-place (length (t .resources)) c = cells-now c ws cs e ∙ ap (λ (r : ℕ). cell-place r c) (resources-is t ws is) in
+        let bound : length (chain-of c t) ≤ cs .most = omega (arith, chain-most t c h, most-now c ws cs e ∙ ap₂ (λ (r l : ℕ). most r l c) resources-with locks-with) in
+        let cells : cell-of cs ≡ cell-place (length (t .resources)) c = cells-now c ws cs e ∙ ap (λ (r : ℕ). cell-place r c) resources-with in
         subst (λ (x : List ℕ). Safe x (cell-of cs) k (cs .most) (cs .head)) (sym is)
-        (subst (λ (f : ℕ → ℕ). Safe (words t) f k (cs .most) (f 0)) (sym cells) (walk-safe t c h k (cs .most) bound o))
+        (subst (λ (f : ℕ → ℕ). Safe (words-with ct t) f k (cs .most) (f 0)) (sym cells) (walk-safe-with ct t c h k (cs .most) bound o))
 
     pub chain-walks : (k : ℕ) → (k ≢ 0 → Absent k (chain-of c t) → ⊥) → Walks ws cs k
     chain-walks k o = record { sized = sized; head-past = cells-head-past c ws cs e; first-past = cells-first-past c ws cs e; walk = walk-at k o }

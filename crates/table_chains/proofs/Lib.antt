@@ -4,6 +4,7 @@ pub mod ChainCells
 pub mod FoundSound
 pub mod ChainWalks
 pub mod LockLimits
+pub mod LockCounts
 pub mod LockMoves
 pub mod ResourceWords
 pub mod MoveByResource

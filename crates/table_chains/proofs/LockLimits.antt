@@ -1,22 +1,18 @@
 -- The limits that every lock keeps to, whatever its state, and what the words say of one.
-use mathlib.Core.Path.{_≡_, refl, _∙_, ap}
+use mathlib.Core.Path.{_≡_, _∙_, ap}
 use mathlib.Core.List.{List}
 use Prim.Native.Nat.{ℕ, suc, _<_}
 use native.Mathlib.Omega.{arith}
 use Rattle.tables.specs.declared.Lock.{Lock}
 use Rattle.tables.specs.State.{Tables, lock, last-client, last-mode}
-use Rattle.tables.specs.Layout.{of-lock, word-in, onward, read-lock}
-use Rattle.tables.specs.Threads.{Each}
+use Rattle.tables.specs.Layout.{of-lock, word-in, read-lock}
 use Rattle.tables.specs.Validity.{used, Core}
 use Rattle.tables.proofs.StateCases.{ok-numbered}
 use Rattle.tables.proofs.Valid.{modes-low, client-low}
-use Rattle.tables.proofs.Links.{each-map}
 use Rattle.table_fields.specs.Sizes.{Sized}
-use Rattle.table_fields.proofs.StateWords.{lock-record}
-use Rattle.table_chains.specs.Walking.{At, Walking}
-use Rattle.table_fields.proofs.StateWords.{locks-is}
+use Rattle.table_chains.specs.Walking.{At}
+use Rattle.table_fields.proofs.StateWords.{locks-is, lock-record}
 use Rattle.table_chains.proofs.ChainWalks.{some-sized}
-use Rattle.tables.specs.declared.Lock.{Lock}
 
 module _ (t : Tables) (core : Core t) (k : ℕ) where
   pub client-few : lock t k .client < suc last-client
@@ -46,7 +42,3 @@ module _ (ws : List ℕ) (k : ℕ) (a : At ws k) where
   pub asked-mode : (x : ℕ) → x ≡ word-in ws (of-lock k 7) → x < 6
   unfolding read-lock
   asked-mode x e = rw (e ∙ ap (λ (l : Lock). l .asked) lock-told) (asked-few (a .some .state) (a .some .good) k)
-
--- so are those of all locks that a walk meets
-pub walk-modes : (ws : List ℕ) (f k : ℕ) → Walking ws f k → Each (λ j. word-in ws (of-lock j 6) < 6) (onward ws f k)
-walk-modes ws f k w = each-map _ _ (λ j i. held-mode ws j (record { some = w .some; low = i .0; high = i .1 }) _ refl) (onward ws f k) (w .met)

@@ -4,13 +4,11 @@ use mathlib.Core.Bool.{Bool, true}
 use mathlib.Core.List.{List}
 use Prim.Native.Nat.{ℕ, _+_, _-_, _*_, _<_, _≤_}
 use lib.ListN.{length}
-use Rattle.tables.specs.declared.Lock.{Lock}
-use Rattle.tables.specs.State.{blocked-lock, noticed, blocked, notices, Chain, of-locks, home-at}
+use Rattle.tables.specs.State.{Chain, of-locks, home-at}
 use Rattle.tables.specs.Layout.{of-lock, place, head, link, lock-width, resources-in, locks-in, most}
 use Rattle.tables.specs.Threads.{Within}
 use Rattle.tables.specs.Stores.{cell-at, Safe}
-use Rattle.tables.specs.Stores.{stride, cell-place}
-use Rattle.tables.specs.Stores.{shift-cells}
+use Rattle.tables.specs.Stores.{stride}
 use Rattle.table_fields.specs.Sizes.{Sized}
 use Rattle.table_chains.specs.declared.Cells.{Cells}
 
@@ -71,8 +69,3 @@ pub record Housed (s r : ℕ) (ws : List ℕ) : Type 0 where
   pub sized : Sized ws
   pub some-lock : 1 ≤ locks-in ws
   pub inside : Within (resources-in ws) (locks-in ws) (head (of-locks (home-at s r)))
-
--- what happens on the blocked chain and then on the notice chain when the lock k, which is o, becomes m
-unfoldable pub side-cells : ℕ → ℕ → ℕ → Lock → Lock → List ℕ → List ℕ
-side-cells r l k o m ws =
-    shift-cells (noticed o) (noticed m) (cell-place r (of-locks notices)) l k (shift-cells (blocked-lock o) (blocked-lock m) (cell-place r (of-locks blocked)) l k ws)

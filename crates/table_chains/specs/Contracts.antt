@@ -3,15 +3,13 @@ use mathlib.Core.Path.{_≡_}
 use mathlib.Core.Bool.{true}
 use mathlib.Core.List.{List}
 use Prim.Native.Nat.{ℕ, _≤_}
-use lib.ListN.{length}
+use lib.ListN.{getD, length}
 use Rattle.tables.specs.declared.Lock.{Lock}
 use Rattle.tables.specs.Lists.{within}
-use Rattle.tables.specs.State.{Resource, Tables, lock, resource, Queue, queue-of, of-locks, chain-of, home, move, move-resource}
-use Rattle.tables.specs.Layout.{words, slots, locks-in}
-use Rattle.tables.specs.Threads.{Absent}
-use Rattle.tables.specs.Threads.{Present}
-use Rattle.tables.specs.Threads.{Sane}
-use Rattle.tables.specs.Threads.{Whole}
+use Rattle.tables.specs.State.{Resource, Tables, last-mode, lock, resource, holds, Queue, queue-of, of-locks, chain-of, home, move, move-resource}
+use Rattle.tables.specs.Layout.{Counts, words, words-with, slots, resources-in, locks-in}
+use Rattle.tables.specs.Threads.{Absent, Present, Sane, Whole}
+use Rattle.tables.specs.Stores.{count-place}
 use Rattle.tables.specs.Validity.{used, LockOk, Core, Near}
 use Rattle.table_fields.specs.Sizes.{Sized}
 
@@ -73,7 +71,15 @@ pub record Refilled (r n v : ℕ) (x : Resource) (t : Tables) : Type 0 where
 pub record ResourceMoved (r n v : ℕ) (a b : List ℕ) : Type 0 where
   pub then : (t : Tables) (x : Resource) → Refilled r n v x t → a ≡ words t → b ≡ words (move-resource r x t)
 
--- STEPS of a move. The lock k is o and may become m: every lock stands where its record says
+-- COUNTS. If the lock l holds a mode, it is counted in a word of the tables, of which P holds
+pub record Counting (P : ℕ → Type 0) (l : Lock) (ws : List ℕ) : Type 0 where
+  pub sized : Sized ws
+  pub low : holds l ≡ true → 1 ≤ l .resource
+  pub high : holds l ≡ true → l .resource ≤ resources-in ws
+  pub mode : holds l ≡ true → l .held ≤ last-mode
+  pub number : holds l ≡ true → P (getD ws (count-place (resources-in ws) l) 0)
+
+-- STEPS of a move. The lock k is o and may become m: every lock stands where its record says. The counts may be those of another state
 pub record Sided (k : ℕ) (o m : Lock) (ws : List ℕ) : Type 0 where
   pub sized : Sized ws
   pub low : 1 ≤ k
@@ -82,7 +88,8 @@ pub record Sided (k : ℕ) (o m : Lock) (ws : List ℕ) : Type 0 where
   pub whole : Whole (length (state .resources)) (length (state .locks)) state
   pub here : lock state k ≡ o
   pub new : Present state (of-locks (home m))
-  pub is : ws ≡ words state
+  pub counts : Counts
+  pub is : ws ≡ words-with counts state
 
 -- k stands on the home of o and may go to that of m
 pub record Homing (k : ℕ) (o m : Lock) (ws : List ℕ) : Type 0 where
@@ -95,4 +102,5 @@ pub record Homing (k : ℕ) (o m : Lock) (ws : List ℕ) : Type 0 where
   pub old : Present state (of-locks (home o))
   pub on-home : Absent k (chain-of (of-locks (home o)) state) → ⊥
   pub new : Present state (of-locks (home m))
-  pub is : ws ≡ words state
+  pub counts : Counts
+  pub is : ws ≡ words-with counts state

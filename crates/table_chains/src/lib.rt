@@ -1,6 +1,7 @@
 // Changes of the words in place: the cells of a chain, a lock that becomes another, the words of a resource.
 use table_fields::ResourceFields;
 use table_fields::is_blocked;
+use table_fields::is_holding;
 use table_fields::is_noticed;
 use table_fields::put_lock;
 use table_fields::wide;
@@ -8,15 +9,14 @@ use tables::Lock;
 ghost use mathlib.Core.Path.{_≡_};
 ghost use mathlib.Core.Bool.{false};
 ghost use Prim.Native.Nat.{_+_, _*_, _-_, _<_, _≤_};
-ghost use Rattle.tables.specs.State.{home, «home-at», blocked, notices, «free-resources», «of-locks»};
+ghost use Rattle.tables.specs.State.{«most-locks», «last-mode», home, «home-at», blocked, notices, «free-resources», «of-locks»};
 ghost use Rattle.tables.specs.Layout.{place, head, «lock-width», «resources-in», «locks-in»};
-ghost use Rattle.tables.specs.Stores.{«cell-holding»};
-ghost use Rattle.tables.specs.Stores.{«push-cells», «leave-cells», «join-cells»};
-ghost use Rattle.tables.specs.Stores.{stays, «shift-cells», «arrive-cells», «resettle-cells»};
-ghost use Rattle.tables.specs.Stores.{«front-cells»};
+ghost use Rattle.tables.specs.Stores.{«cell-holding», «push-cells», «leave-cells», «join-cells», «front-cells»};
+ghost use Rattle.tables.specs.Stores.{stays, «shift-cells», «arrive-cells», «resettle-cells», «side-cells», «move-cells»};
+ghost use Rattle.tables.specs.Stores.{«count-place», «lower-count», «raise-count»};
 ghost use Rattle.table_fields.specs.Sizes.{Sized, Kept};
-ghost use Rattle.table_chains.specs.Cells.{«cell-of», «cells-at», «lock-cells», «side-cells», Walks, Leaves, Pushes, Shifts, Fronts, Arrives, Housed};
-ghost use Rattle.table_chains.specs.Contracts.{Some, Moving, Moved, Resourced, ResourceMoved, Sided, Homing};
+ghost use Rattle.table_chains.specs.Cells.{«cell-of», «cells-at», «lock-cells», Walks, Leaves, Pushes, Shifts, Fronts, Arrives, Housed};
+ghost use Rattle.table_chains.specs.Contracts.{Some, Moving, Moved, Resourced, ResourceMoved, Counting, Sided, Homing};
 
 // The cells of a chain: each names the record that follows, the last one 0. The fields are the place of the head, the
 // place of record 1's cell, how far apart the records' cells stand, and how many records there can be.
@@ -218,19 +218,66 @@ fn rehome(words: &mut [u32], k: u32, o: Lock, m: Lock)
     arrive(words, new, m.state == table_fields::STATE_FREE, k);
 }
 
-// The lock k becomes m: it leaves each chain on which it no longer belongs, and joins each on which it now belongs.
-pub fn move_lock(words: &mut [u32], k: u32, m: Lock)
-    requires { ⌜ Moving k m (now words) ⌝ }
-    ensures { λ _. ⌜ Moved k m (now (words .entry)) (now (words .exit)) ⌝ }
+// The lock k, which is o, becomes m but for the counts: it leaves each chain on which it no longer belongs, and joins
+// each on which it now belongs.
+fn relink(words: &mut [u32], k: u32, o: Lock, m: Lock)
+    requires { ⌜ Sided k o m (now words) ⌝ }
+    ensures { λ _. ⌜ now (words .exit) ≡ move-cells (resources-in (now (words .entry))) (locks-in (now (words .entry))) k o m (now (words .entry)) ⌝ }
     ensures { λ _. ⌜ Kept (now (words .entry)) (now (words .exit)) ⌝ }
 {
-    let o = table_fields::lock_at(words, k);
     shift_sides(words, k, o, m);
     if keeps_home(o, m) {
         put_lock(words, k, m);
     } else {
         rehome(words, k, o, m);
     }
+}
+
+// The place of the count of those that hold the mode of l on its resource.
+fn count_place(words: &[u32], l: Lock) -> usize
+    requires { ⌜ Sized (now words) ⌝ }
+    requires { ⌜ (1 ≤ l .resource) × (l .resource ≤ resources-in (now words)) ⌝ }
+    requires { ⌜ l .held ≤ last-mode ⌝ }
+    ensures { λ x. ⌜ x ≡ count-place (resources-in (now (words .entry))) l ⌝ }
+{
+    table_fields::resource_start(words, l.resource) + table_fields::RESOURCE_NL + wide(l.held)
+}
+
+// The lock l is no longer counted among those that hold its mode, if it holds one.
+fn uncount(words: &mut [u32], l: Lock)
+    requires { ⌜ Counting (λ n. 1 ≤ n) l (now words) ⌝ }
+    ensures { λ _. ⌜ now (words .exit) ≡ lower-count (resources-in (now (words .entry))) l (now (words .entry)) ⌝ }
+    ensures { λ _. ⌜ Kept (now (words .entry)) (now (words .exit)) ⌝ }
+{
+    if is_holding(l) {
+        let at = count_place(words, l);
+        words[at] -= 1;
+    }
+}
+
+// The lock l is counted among them. The grant and the convert queue have at most as many locks each as there are.
+fn count(words: &mut [u32], l: Lock)
+    requires { ⌜ Counting (λ n. n ≤ 2 * most-locks) l (now words) ⌝ }
+    ensures { λ _. ⌜ now (words .exit) ≡ raise-count (resources-in (now (words .entry))) l (now (words .entry)) ⌝ }
+    ensures { λ _. ⌜ Kept (now (words .entry)) (now (words .exit)) ⌝ }
+{
+    if is_holding(l) {
+        let at = count_place(words, l);
+        words[at] += 1;
+    }
+}
+
+// The lock k becomes m: what it held is no longer counted, what it now holds is, and it goes from chain to chain. No call
+// changes a count but through this.
+pub fn move_lock(words: &mut [u32], k: u32, m: Lock)
+    requires { ⌜ Moving k m (now words) ⌝ }
+    ensures { λ _. ⌜ Moved k m (now (words .entry)) (now (words .exit)) ⌝ }
+    ensures { λ _. ⌜ Kept (now (words .entry)) (now (words .exit)) ⌝ }
+{
+    let o = table_fields::lock_at(words, k);
+    uncount(words, o);
+    count(words, m);
+    relink(words, k, o, m);
 }
 
 // The resource r gets another name length and flag. A length of 0 means that it is free: it leaves the free resources

@@ -11,7 +11,7 @@ use Rattle.tables.specs.Layout.{header-width, resource-width, lock-width, of-re
 use Rattle.tables.specs.Stores.{set-cells}
 use Rattle.table_fields.specs.Sizes.{Sized, Kept}
 use Rattle.table_fields.specs.declared.ResourceFields.{ResourceFields}
-use Rattle.table_fields.specs.Records.{read-fields, with-fields}
+use Rattle.table_fields.specs.Records.{read-fields, with-fields, read-counts}
 
 pub kept-set : (ws vs : List ℕ) (i v : ℕ) → 2 ≤ i → Kept ws vs → Kept ws (set vs i v)
 kept-set ws vs i v h k =
@@ -44,6 +44,17 @@ module _ (ws : List ℕ) (s : Sized ws) where
     pub fields-kept : (a b : ℕ) → Kept ws (set (set ws (x + 4) a) (x + 5) b)
     fields-kept a b = kept-set ws _ (x + 5) b (omega arith) (kept-set ws ws (x + 4) a (omega arith) (kept-all ws s))
 
+    pub counts-read : record {
+      nl = getD ws (x + 6) 0;
+      cr = getD ws (x + 7) 0;
+      cw = getD ws (x + 8) 0;
+      pr = getD ws (x + 9) 0;
+      pw = getD ws (x + 10) 0;
+      ex = getD ws (x + 11) 0;
+    } ≡ read-counts ws r
+    unfolding read-counts
+    counts-read = rw e
+
   module _ (k x : ℕ) (e : x ≡ header-width + resource-width * resources-in ws + lock-width * (k - 1)) where
     pub lock-word-read : (f : ℕ) → getD ws (x + f) 0 ≡ word-in ws (of-lock k f)
     lock-word-read f = rw e
@@ -74,4 +85,4 @@ module _ (ws : List ℕ) (s : Sized ws) where
         let k₅ = kept-set ws _ (x + 8) g (omega arith) k₄ in
         kept-set ws _ (x + 9) h (omega arith) k₅
 
-pub ruleset field-laws = (needs, resource-read, fields-read, fields-stored, fields-kept, lock-word-read, lock-read, lock-stored, lock-kept)
+pub ruleset field-laws = (needs, resource-read, fields-read, fields-stored, fields-kept, counts-read, lock-word-read, lock-read, lock-stored, lock-kept)

@@ -1,4 +1,4 @@
--- The words of a state, as code reads them: the counts, a word at an address, the record of a lock.
+-- The words of a state, as code reads them: how many records there are, a word at an address, the record of a lock, the counts of a resource.
 use mathlib.Core.Path.{_≡_, sym, _∙_, ap, ap₂}
 use mathlib.Core.Bool.{true}
 use mathlib.Core.List.{List}
@@ -7,14 +7,18 @@ use native.Mathlib.Omega.{arith}
 use lib.ListN.{getD, length}
 use Rattle.tables.specs.declared.Lock.{Lock}
 use Rattle.tables.specs.Lists.{within}
-use Rattle.tables.specs.State.{Tables, lock}
-use Rattle.tables.specs.Layout.{Address, size, content, words, resources-in, locks-in, word-in, read-lock}
+use Rattle.modes.specs.Modes.{NL, CR, CW, PR, PW, EX}
+use Rattle.tables.specs.State.{Tables, last-mode, lock}
+use Rattle.tables.specs.Grants.{tally}
+use Rattle.tables.specs.Layout.{Address, of-resource, size, count-field, word-value, content, words, resources-in, locks-in, word-in, read-lock}
 use Rattle.tables.specs.Threads.{In}
 use Rattle.tables.specs.Validity.{Core}
 use Rattle.tables.proofs.Counts.{within-le}
 use Rattle.tables.proofs.WordChanges.{length-words}
 use Rattle.tables.proofs.ReadBack.{resources-word, locks-word, word-read, lock-read}
+use Rattle.tables.proofs.Tallies.{count-word}
 use Rattle.table_fields.specs.Sizes.{Sized}
+use Rattle.table_fields.specs.Records.{counts-by, read-counts}
 
 module _ (t : Tables) (ws : List ℕ) (is : ws ≡ words t) where
   pub resources-is : resources-in ws ≡ length (t .resources)
@@ -36,6 +40,20 @@ module _ (t : Tables) (ws : List ℕ) (is : ws ≡ words t) where
 
   pub lock-record : (k : ℕ) → 1 ≤ k → k ≤ length (t .locks) → read-lock ws k ≡ lock t k
   lock-record k p q = ap (λ (v : List ℕ). read-lock v k) is ∙ lock-read t k p q
+
+  pub counts-is : (r : ℕ) → 1 ≤ r → r ≤ length (t .resources) → read-counts ws r ≡ counts-by (tally t r)
+  unfolding read-counts
+  counts-is r p q =
+      let at-mode : (m : ℕ) → m ≤ last-mode → word-in ws (of-resource r (count-field m)) ≡ tally t r m
+      = λ m n. word-is (of-resource r (count-field m)) (p, q, omega arith) ∙ ap (word-value (tally t) t) (count-word t r m n) in
+      λ i. record {
+        nl = at-mode NL (omega arith) i;
+        cr = at-mode CR (omega arith) i;
+        cw = at-mode CW (omega arith) i;
+        pr = at-mode PR (omega arith) i;
+        pw = at-mode PW (omega arith) i;
+        ex = at-mode EX (omega arith) i;
+      }
 
   -- the lock k, which there is
   module _ (k : ℕ) (w : within (length (t .locks)) k ≡ true) where

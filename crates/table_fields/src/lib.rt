@@ -4,12 +4,12 @@ use tables::Lock;
 ghost use mathlib.Core.Path.{_≡_};
 ghost use Prim.Native.Nat.{_+_, _*_, _-_, _<_, _≤_, _^_};
 ghost use Rattle.tables.specs.Lists.{bit};
-ghost use Rattle.tables.specs.State.{«new-lock», «blocked-lock», unread, noticed};
+ghost use Rattle.tables.specs.State.{«new-lock», «blocked-lock», holds, unread, noticed};
 ghost use Rattle.tables.specs.Layout.{«header-width», «resource-width», «lock-width», «of-header», «of-resource», «of-lock»};
 ghost use Rattle.tables.specs.Layout.{«resources-in», «locks-in», «word-in», «read-lock»};
 ghost use Rattle.tables.specs.Stores.{«set-cells»};
 ghost use Rattle.table_fields.specs.Sizes.{Sized, Kept};
-ghost use Rattle.table_fields.specs.Records.{«read-fields», «with-fields»};
+ghost use Rattle.table_fields.specs.Records.{«read-fields», «with-fields», «read-counts»};
 
 // The most resources and locks that tables may have.
 pub const MOST_RESOURCES: usize = 256;
@@ -24,7 +24,7 @@ pub const LOCK_PLACES: usize = MOST_LOCKS + 1;
 // Rows.
 pub const HEADER_WORDS: usize = 8;
 
-pub const RESOURCE_WORDS: usize = 8;
+pub const RESOURCE_WORDS: usize = 12;
 
 pub const LOCK_WORDS: usize = 10;
 
@@ -59,10 +59,18 @@ pub const RESOURCE_NAME_LENGTH: usize = 4;
 
 pub const RESOURCE_VALID: usize = 5;
 
-// Its last two words are always zero.
-pub const RESOURCE_ZERO: usize = 6;
+// How many locks hold each mode on it.
+pub const RESOURCE_NL: usize = 6;
 
-pub const RESOURCE_ZERO_TOO: usize = 7;
+pub const RESOURCE_CR: usize = 7;
+
+pub const RESOURCE_CW: usize = 8;
+
+pub const RESOURCE_PR: usize = 9;
+
+pub const RESOURCE_PW: usize = 10;
+
+pub const RESOURCE_EX: usize = 11;
 
 // A lock: what follows it on its home chain, on the blocked chain, on the notice chain; then its record.
 pub const LOCK_NEXT: usize = 0;
@@ -128,6 +136,16 @@ pub const NO_LOCK: Lock = Lock {
 pub struct ResourceFields {
     pub bytes: u32,
     pub valid: u32,
+}
+
+// How many locks hold each mode on a resource: the other words of its record.
+pub struct ModeCounts {
+    pub nl: u32,
+    pub cr: u32,
+    pub cw: u32,
+    pub pr: u32,
+    pub pw: u32,
+    pub ex: u32,
 }
 
 pub fn wide(x: u32) -> usize
@@ -226,6 +244,23 @@ pub fn resource_at(words: &[u32], r: u32) -> ResourceFields
     }
 }
 
+// How many locks hold each mode on resource r.
+pub fn counts_at(words: &[u32], r: u32) -> ModeCounts
+    requires { ⌜ Sized (now words) ⌝ }
+    requires { ⌜ (1 ≤ r) × (r ≤ resources-in (now words)) ⌝ }
+    ensures { λ x. ⌜ x ≡ read-counts (now (words .entry)) r ⌝ }
+{
+    let start = resource_start(words, r);
+    ModeCounts {
+        nl: words[start + RESOURCE_NL],
+        cr: words[start + RESOURCE_CR],
+        cw: words[start + RESOURCE_CW],
+        pr: words[start + RESOURCE_PR],
+        pw: words[start + RESOURCE_PW],
+        ex: words[start + RESOURCE_EX],
+    }
+}
+
 // The record of lock k becomes m; its links stay.
 pub fn put_lock(words: &mut [u32], k: u32, m: Lock)
     requires { ⌜ Sized (now words) ⌝ }
@@ -273,6 +308,12 @@ pub fn is_blocked(l: Lock) -> bool
     ensures { λ r. ⌜ r ≡ blocked-lock l ⌝ }
 {
     (l.state == STATE_CONVERTING) | (l.state == STATE_WAITING)
+}
+
+pub fn is_holding(l: Lock) -> bool
+    ensures { λ r. ⌜ r ≡ holds l ⌝ }
+{
+    (l.state == STATE_GRANTED) | (l.state == STATE_CONVERTING)
 }
 
 pub fn is_unread(l: Lock) -> bool

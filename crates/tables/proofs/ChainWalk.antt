@@ -9,13 +9,14 @@ use lib.ListN.{getD, length}
 use borrow.Author.Tests.{eq-eqb, ne-eqb}
 use Rattle.tables.specs.Lists.{next}
 use Rattle.tables.specs.State.{Tables, Chain, chain-of}
-use Rattle.tables.specs.Layout.{cell, word-value, words, follow}
+use Rattle.tables.specs.Grants.{tally}
+use Rattle.tables.specs.Layout.{Counts, cell, word-value, words, words-with, follow}
 use Rattle.tables.specs.Threads.{Absent, Distinct, Each}
 use Rattle.tables.proofs.Links.{holder, each-map, holder-here, holder-past, next-here, next-past}
 use Rattle.tables.proofs.Grid.{place-size}
 use Rattle.tables.proofs.Chains.{spot}
 use Rattle.tables.specs.Threads.{Stands, LinkedAt, Threaded}
-use Rattle.tables.proofs.WordChanges.{linked-head, no-zero, length-words, read-word, holding}
+use Rattle.tables.proofs.WordChanges.{linked-head, no-zero, length-words-with, read-word-with, holding}
 use Rattle.tables.specs.Stores.{cell-holding, Safe}
 
 -- f leads from y through ys, and from the last to 0
@@ -72,28 +73,35 @@ follow-leads f (suc n) y [] h a p = rw h
 follow-leads f (suc n) y (zero ∷ xs) h a p = absurd (a .0 refl)
 follow-leads f (suc n) y (suc x ∷ xs) h a p = rw (h .0) (ap (λ (ys : List ℕ). suc x ∷ ys) (follow-leads f n (suc x) xs (h .1) (a .1) (omega arith)))
 
-module _ (t : Tables) (c : Chain) where
-  pub cell-word : (j : ℕ) → LinkedAt t c j → getD (words t) (spot t (cell c j)) 0 ≡ next j (0 ∷ chain-of c t)
-  cell-word j l = read-word t (cell c j) (l .inside) ∙ ap (word-value t) (l .says)
+module _ (ct : Counts) (t : Tables) (c : Chain) where
+  pub cell-word : (j : ℕ) → LinkedAt t c j → getD (words-with ct t) (spot t (cell c j)) 0 ≡ next j (0 ∷ chain-of c t)
+  cell-word j l = read-word-with ct t (cell c j) (l .inside) ∙ ap (word-value ct t) (l .says)
 
-module _ (t : Tables) (c : Chain) (h : Threaded t c) where
-  pub words-lead : Leads (λ j. getD (words t) (spot t (cell c j)) 0) 0 (chain-of c t)
-  words-lead =
+module _ (ct : Counts) (t : Tables) (c : Chain) (h : Threaded t c) where
+  pub words-lead-with : Leads (λ j. getD (words-with ct t) (spot t (cell c j)) 0) 0 (chain-of c t)
+  words-lead-with =
       leads-same (λ j. next j (0 ∷ chain-of c t)) _ 0 (chain-of c t)
-      (cell-word t c 0 (linked-head t c (h .present)), each-map (Stands t c) _ (λ j s. cell-word t c j (s .1)) (chain-of c t) (h .members))
+      (cell-word ct t c 0 (linked-head t c (h .present)), each-map (Stands t c) _ (λ j s. cell-word ct t c j (s .1)) (chain-of c t) (h .members))
       (next-leads 0 (chain-of c t) (no-zero t c h, h .distinct))
 
   -- the walk from the head stays inside the words
-  pub walk-safe : (k n : ℕ) → length (chain-of c t) ≤ n → (k ≢ 0 → Absent k (chain-of c t) → ⊥) → Safe (words t) (λ j. spot t (cell c j)) k n (spot t (cell c 0))
-  walk-safe k n p o =
-      safe-leads (words t) (λ j. spot t (cell c j)) k n 0 (chain-of c t) words-lead
+  pub walk-safe-with : (k n : ℕ) → length (chain-of c t) ≤ n → (k ≢ 0 → Absent k (chain-of c t) → ⊥) → Safe (words-with ct t) (λ j. spot t (cell c j)) k n (spot t (cell c 0))
+  walk-safe-with k n p o =
+      safe-leads (words-with ct t) (λ j. spot t (cell c j)) k n 0 (chain-of c t) words-lead-with
       (inside 0 (linked-head t c (h .present)), each-map (Stands t c) _ (λ j s. inside j (s .1)) (chain-of c t) (h .members)) (no-zero t c h) p o
     where
-      inside : (j : ℕ) → LinkedAt t c j → spot t (cell c j) < length (words t)
-      inside j l = rw (length-words t) (place-size _ _ (cell c j) (l .inside))
+      inside : (j : ℕ) → LinkedAt t c j → spot t (cell c j) < length (words-with ct t)
+      inside j l = rw (length-words-with ct t) (place-size _ _ (cell c j) (l .inside))
 
   -- the walk from the head finds the cell that names k, or the end of the chain (k = 0)
-  pub walk-holds : (k n : ℕ) → length (chain-of c t) ≤ n → (k ≢ 0 → Absent k (chain-of c t) → ⊥)
-      → cell-holding (words t) (λ j. spot t (cell c j)) k n (spot t (cell c 0)) ≡ holding t c k
+  pub walk-holds-with : (k n : ℕ) → length (chain-of c t) ≤ n → (k ≢ 0 → Absent k (chain-of c t) → ⊥)
+      → cell-holding (words-with ct t) (λ j. spot t (cell c j)) k n (spot t (cell c 0)) ≡ holding t c k
   unfolding holding
-  walk-holds k n p o = holding-leads (words t) (λ j. spot t (cell c j)) k n 0 (chain-of c t) words-lead p o
+  walk-holds-with k n p o = holding-leads (words-with ct t) (λ j. spot t (cell c j)) k n 0 (chain-of c t) words-lead-with p o
+
+module _ (t : Tables) (c : Chain) (h : Threaded t c) where
+  pub words-lead : Leads (λ j. getD (words t) (spot t (cell c j)) 0) 0 (chain-of c t)
+  words-lead = words-lead-with (tally t) t c h
+
+  pub walk-safe : (k n : ℕ) → length (chain-of c t) ≤ n → (k ≢ 0 → Absent k (chain-of c t) → ⊥) → Safe (words t) (λ j. spot t (cell c j)) k n (spot t (cell c 0))
+  walk-safe = walk-safe-with (tally t) t c h

@@ -9,12 +9,13 @@ use lib.ListN.{length, take, drop}
 use lib.Seq.{length-take-le}
 use lib.Dec.{eqb}
 use borrow.Author.Tests.{eqb-true, eq-eqb, ne-eqb, leb-true}
+use Rattle.modes.proofs.Laws.{all-modes-at}
 use Rattle.tables.specs.Lists.{count, bit, all, from, next, same}
 use Rattle.tables.specs.State.{Resource, Tables, name-width, lock, resource, grants, converts, waits, LockChain, free-locks, denied, blocked, notices, queue, Chain, free-resources, of-locks, chain, chain-of, belongs, most-resources, most-locks}
-use Rattle.tables.specs.Layout.{of-header, of-resource, of-lock, size, head, slot-width, resources-in, locks-in, word-in, most, link-in, read-chain, slot-in, read-resource, read}
-use Rattle.tables.specs.Sound.{sizes-right, zeros-right, resource-index, lock-index, indices-right, chain-ends, chains-end, all-zero, free-resource-right, name-unique, used-resource-right, resource-right, stands-right, home-right, fields-right, lock-right, linked-right, holders-compatible, state-right, sound}
-use Rattle.tables.specs.Grants.{no-grantable-head}
-use Rattle.tables.proofs.Cases.{by-cases, by-equal, clash, and-left, and-right, or-left, or-right, parts}
+use Rattle.tables.specs.Layout.{of-header, of-resource, of-lock, size, head, count-field, slot-width, resources-in, locks-in, word-in, most, link-in, read-chain, slot-in, read-resource, read}
+use Rattle.tables.specs.Sound.{sizes-right, zeros-right, resource-index, lock-index, indices-right, chain-ends, chains-end, all-zero, free-resource-right, name-unique, used-resource-right, resource-right, stands-right, home-right, fields-right, lock-right, linked-right, holders-compatible, counts-right, state-right, sound}
+use Rattle.tables.specs.Grants.{tally, no-grantable-head}
+use Rattle.tables.proofs.Cases.{by-cases, by-equal, clash, and-left, or-left, or-right, parts}
 use Rattle.tables.proofs.Counts.{le-within, count-from, all-at, all-intro, same-eq, same-refl, from-in}
 use Rattle.tables.specs.Threads.{Absent, Distinct, Each}
 use Rattle.tables.specs.Threads.{Within}
@@ -127,13 +128,18 @@ module _ (ws ss : List ℕ) (h : sound ws ss ≡ true) where
 
   pub header-zero : word-in ws (of-header 7) ≡ 0
   unfolding zeros-right
-  header-zero = let z = zeros in eqb-true (word-in ws (of-header 7)) 0 (search parts depth 20)
+  header-zero = eqb-true (word-in ws (of-header 7)) 0 zeros
 
-  pub resource-zeros : (r : ℕ) → 1 ≤ r → r ≤ resources-in ws → (word-in ws (of-resource r 6) ≡ 0) × (word-in ws (of-resource r 7) ≡ 0)
-  unfolding zeros-right
-  resource-zeros r p q =
-      let both = each-at _ (resources-in ws) (and-right (eqb (word-in ws (of-header 7)) 0) _ zeros) r p q in
-      (eqb-true (word-in ws (of-resource r 6)) 0 (search parts), eqb-true (word-in ws (of-resource r 7)) 0 (search parts))
+  -- counts are true
+  counts-tested : (r : ℕ) → 1 ≤ r → r ≤ resources-in ws → counts-right ws (read ws ss) r ≡ true
+  unfolding state-right
+  counts-tested r p q = let z = state in each-at (counts-right ws (read ws ss)) (resources-in ws) (search parts depth 20) r p q
+
+  pub counts-true : (r : ℕ) → 1 ≤ r → r ≤ resources-in ws → (m : ℕ) → m ≤ 5 → word-in ws (of-resource r (count-field m)) ≡ tally (read ws ss) r m
+  unfolding counts-right
+  counts-true r p q m n =
+      eqb-true (word-in ws (of-resource r (count-field m))) (tally (read ws ss) r m)
+      (all-modes-at (λ m. eqb (word-in ws (of-resource r (count-field m))) (tally (read ws ss) r m)) (counts-tested r p q) m n)
 
   -- every chain ends
   queues-end : (r : ℕ) → 1 ≤ r → r ≤ resources-in ws →

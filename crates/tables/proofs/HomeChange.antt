@@ -7,7 +7,7 @@ use native.Mathlib.Omega.{arith}
 use lib.ListN.{length}
 use Rattle.tables.specs.Lists.{remove, next}
 use Rattle.tables.specs.State.{Lock, Tables, lock, free-locks, denied, blocked, notices, queue, Chain, free-resources, of-locks, chain-of, home}
-use Rattle.tables.specs.Layout.{of-lock, place, head, link, lock-links, lock-fields, following, words, most}
+use Rattle.tables.specs.Layout.{Counts, of-lock, place, head, link, lock-links, lock-fields, following, words-with, most}
 use Rattle.tables.proofs.Numbered.{put-lock, locks-put, lock-put-here, chains-put-lock}
 use Rattle.tables.specs.Threads.{Absent, Distinct, Each}
 use Rattle.tables.proofs.Links.{each-absent, each-append, each-remove, distinct-append, distinct-remove, removed, next-absent}
@@ -146,12 +146,12 @@ module _ (r l : ℕ) (t : Tables) (h : Sane r l t) (k : ℕ) (old : Present t (o
     unfolding rehome
     sane-rehome = sane-join r l (put-lock k x (lifted k t)) sane-set (of-locks (home x)) k present-set absent-set stands-set
 
-    pub rehome-words : (Absent k (chain-of (of-locks (home (lock t k))) t) → ⊥) → words (rehome k x t) ≡
-        join-cells (cell-place r (of-locks (home x))) l k (store-run (λ f. place r (of-lock k f)) lock-links (lock-fields x) (leave-cells (cell-place r (of-locks (home (lock t k)))) l k (words t)))
+    pub rehome-words : (ct : Counts) → (Absent k (chain-of (of-locks (home (lock t k))) t) → ⊥) → words-with ct (rehome k x t) ≡
+        join-cells (cell-place r (of-locks (home x))) l k (store-run (λ f. place r (of-lock k f)) lock-links (lock-fields x) (leave-cells (cell-place r (of-locks (home (lock t k)))) l k (words-with ct t)))
     unfolding rehome lifted
-    rehome-words o =
-        sym (join-is (put-lock k x (lifted k t)) r (sane-set .resources) (of-locks (home x)) (sane-set .chains (of-locks (home x)) present-set) l k (home-short r l _ sane-set (of-locks (home x)) (homed (x .state) (x .resource)) present-set))
+    rehome-words ct o =
+        sym (join-is ct (put-lock k x (lifted k t)) r (sane-set .resources) (of-locks (home x)) (sane-set .chains (of-locks (home x)) present-set) l k (home-short r l _ sane-set (of-locks (home x)) (homed (x .state) (x .resource)) present-set))
         ∙ ap (join-cells (cell-place r (of-locks (home x))) l k)
-        (put-lock-words (lifted k t) k x low high-lifted (link-zero x new ∙ sym (rw lock-lifted (link-zero (lock t k) old)))
+        (put-lock-words ct (lifted k t) k x low high-lifted (link-zero x new ∙ sym (rw lock-lifted (link-zero (lock t k) old)))
         ∙ ap₂ (λ (n : ℕ) (ws : List ℕ). store-run (λ f. place n (of-lock k f)) lock-links (lock-fields x) ws) (sane-lifted .resources)
-        (sym (leave-is t r (h .resources) (of-locks (home (lock t k))) (h .chains (of-locks (home (lock t k))) old) l k (home-short r l t h (of-locks (home (lock t k))) (homed (lock t k .state) (lock t k .resource)) old) o)))
+        (sym (leave-is ct t r (h .resources) (of-locks (home (lock t k))) (h .chains (of-locks (home (lock t k))) old) l k (home-short r l t h (of-locks (home (lock t k))) (homed (lock t k .state) (lock t k .resource)) old) o)))

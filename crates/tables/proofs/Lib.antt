@@ -19,6 +19,7 @@ pub mod Valid
 pub mod ChainMembers
 pub mod ThreadedChains
 pub mod Wholeness
+pub mod Tallies
 pub mod MovedWords
 pub mod ResourceMoved
 pub mod FollowedChains
@@ -28,3 +29,5 @@ pub mod Fields
 pub mod Soundness
 pub mod Written
 pub mod PaperWords
+pub mod CountedFits
+pub mod CountedLocks

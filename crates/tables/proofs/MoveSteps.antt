@@ -11,7 +11,7 @@ use lib.Dec.{eqb}
 use borrow.Author.Tests.{eqb-true}
 use Rattle.tables.specs.Lists.{put, remove, next}
 use Rattle.tables.specs.State.{Lock, Resource, Tables, lock, resource, blocked-lock, noticed, Queue, blocked, notices, Chain, free-resources, of-locks, LockChain, chain-of, home-at, home, shift}
-use Rattle.tables.specs.Layout.{of-lock, place, head, lock-links, lock-fields, words}
+use Rattle.tables.specs.Layout.{Counts, of-lock, place, head, lock-links, lock-fields, words-with}
 use Rattle.tables.proofs.Cases.{and-left, and-right}
 use Rattle.tables.proofs.Numbered.{put-lock, locks-put, lock-put-here, lock-put-other, resource-put-lock, chains-put-lock, lock-by-locks}
 use Rattle.tables.specs.Threads.{Absent}
@@ -28,7 +28,7 @@ use Rattle.tables.proofs.WordSteps.{join, push, leave, join-is, push-is
 use Rattle.tables.specs.Threads.{Sane}
 use Rattle.tables.proofs.HomeChange.{sane-leave, sane-join, sane-push, elsewhere, home-short, lifted, sane-lifted, lock-lifted, high-lifted, link-zero, sane-set, present-set, absent-set, stands-set}
 use Rattle.tables.specs.Threads.{Seat, Whole}
-use Rattle.tables.specs.Stores.{stays, shift-cells, arrive-cells, set-cells, resettle-cells}
+use Rattle.tables.specs.Stores.{stays, shift-cells, arrive-cells, set-cells, resettle-cells, side-cells, move-cells}
 
 -- k on a chain, where it was and is to be on it or not
 unfoldable pub shift-chain : Bool → Bool → Chain → ℕ → Tables → Tables
@@ -103,13 +103,13 @@ sane-shift r l t h true false c k p s a = sane-leave r l t h c k p
 sane-shift r l t h false true c k p s a = sane-join r l t h c k p a s
 sane-shift r l t h false false c k p s a = h
 
-pub shift-words : (r l : ℕ) (t : Tables) → Sane r l t → (b d : Bool) (c : Chain) (k : ℕ) → Present t c → length (chain-of c t) ≤ l → Seat b k (chain-of c t)
-    → shift-cells b d (cell-place r c) l k (words t) ≡ words (shift-chain b d c k t)
+pub shift-words : (ct : Counts) (r l : ℕ) (t : Tables) → Sane r l t → (b d : Bool) (c : Chain) (k : ℕ) → Present t c → length (chain-of c t) ≤ l → Seat b k (chain-of c t)
+    → shift-cells b d (cell-place r c) l k (words-with ct t) ≡ words-with ct (shift-chain b d c k t)
 unfolding shift-chain shift-cells
-shift-words r l t h true true c k p n a = refl
-shift-words r l t h true false c k p n a = leave-is t r (h .resources) c (h .chains c p) l k n a
-shift-words r l t h false true c k p n a = join-is t r (h .resources) c (h .chains c p) l k n
-shift-words r l t h false false c k p n a = refl
+shift-words ct r l t h true true c k p n a = refl
+shift-words ct r l t h true false c k p n a = leave-is ct t r (h .resources) c (h .chains c p) l k n a
+shift-words ct r l t h false true c k p n a = join-is ct t r (h .resources) c (h .chains c p) l k n
+shift-words ct r l t h false false c k p n a = refl
 
 unfoldable arrived : Bool → ℕ → List ℕ → List ℕ
 arrived true k xs = k ∷ xs
@@ -145,11 +145,11 @@ unfolding arrive
 sane-arrive r l t h true c k p a s = sane-push r l t h c k p a s
 sane-arrive r l t h false c k p a s = sane-join r l t h c k p a s
 
-arrive-words : (r l : ℕ) (t : Tables) → Sane r l t → (b : Bool) (c : Chain) (k : ℕ) → Present t c → length (chain-of c t) ≤ l → Stands t c k
-    → arrive-cells b (cell-place r c) l k (words t) ≡ words (arrive b c k t)
+arrive-words : (ct : Counts) (r l : ℕ) (t : Tables) → Sane r l t → (b : Bool) (c : Chain) (k : ℕ) → Present t c → length (chain-of c t) ≤ l → Stands t c k
+    → arrive-cells b (cell-place r c) l k (words-with ct t) ≡ words-with ct (arrive b c k t)
 unfolding arrive arrive-cells
-arrive-words r l t h true c k p n s = push-is t r (h .resources) c (h .chains c p) k s
-arrive-words r l t h false c k p n s = join-is t r (h .resources) c (h .chains c p) l k n
+arrive-words ct r l t h true c k p n s = push-is ct t r (h .resources) c (h .chains c p) k s
+arrive-words ct r l t h false c k p n s = join-is ct t r (h .resources) c (h .chains c p) l k n
 
 -- a lock changes that keeps its home
 sane-put-same : (r l : ℕ) (t : Tables) (k : ℕ) (m : Lock) → home m ≡ home (lock t k) → Sane r l t → Sane r l (put-lock k m t)
@@ -175,31 +175,31 @@ module _ (r l : ℕ) (t : Tables) (h : Sane r l t) (k : ℕ) (m : Lock) (low : 1
   resettle-locks false =
       arrive-locks (eqb (m .state) 0) (of-locks (home m)) k (put-lock k m (lifted k t)) ∙ ap (λ (ls : List Lock). put ls k m) (same-locks (of-locks (home (lock t k))) _ t)
 
-  pub lifted-words : (Absent k (chain-of (of-locks (home (lock t k))) t) → ⊥) → leave-cells (cell-place r (of-locks (home (lock t k)))) l k (words t) ≡ words (lifted k t)
+  pub lifted-words : (ct : Counts) → (Absent k (chain-of (of-locks (home (lock t k))) t) → ⊥) → leave-cells (cell-place r (of-locks (home (lock t k)))) l k (words-with ct t) ≡ words-with ct (lifted k t)
   unfolding lifted
-  lifted-words o = leave-is t r (h .resources) (of-locks (home (lock t k))) (h .chains (of-locks (home (lock t k))) old) l k (home-short r l t h (of-locks (home (lock t k))) (homed (lock t k .state) (lock t k .resource)) old) o
+  lifted-words ct o = leave-is ct t r (h .resources) (of-locks (home (lock t k))) (h .chains (of-locks (home (lock t k))) old) l k (home-short r l t h (of-locks (home (lock t k))) (homed (lock t k .state) (lock t k .resource)) old) o
 
-  pub set-words : set-cells r k m (words (lifted k t)) ≡ words (put-lock k m (lifted k t))
+  pub set-words : (ct : Counts) → set-cells r k m (words-with ct (lifted k t)) ≡ words-with ct (put-lock k m (lifted k t))
   unfolding set-cells
-  set-words =
-      sym (put-lock-words (lifted k t) k m low (high-lifted r l t h k old m low high new)
+  set-words ct =
+      sym (put-lock-words ct (lifted k t) k m low (high-lifted r l t h k old m low high new)
       (link-zero r l t h k old m low high new m new ∙ sym (rw (lock-lifted r l t h k old) (link-zero r l t h k old m low high new (lock t k) old)))
-      ∙ ap (λ (n : ℕ). store-run (λ f. place n (of-lock k f)) lock-links (lock-fields m) (words (lifted k t))) (sane-lifted r l t h k old .resources))
+      ∙ ap (λ (n : ℕ). store-run (λ f. place n (of-lock k f)) lock-links (lock-fields m) (words-with ct (lifted k t))) (sane-lifted r l t h k old .resources))
 
-  pub arriving-words : arrive-cells (eqb (m .state) 0) (cell-place r (of-locks (home m))) l k (words (put-lock k m (lifted k t))) ≡ words (resettle false k m t)
+  pub arriving-words : (ct : Counts) → arrive-cells (eqb (m .state) 0) (cell-place r (of-locks (home m))) l k (words-with ct (put-lock k m (lifted k t))) ≡ words-with ct (resettle false k m t)
   unfolding resettle
-  arriving-words =
+  arriving-words ct =
       let s = sane-set r l t h k old m low high new in
       let p = present-set r l t h k old m low high new in
-      arrive-words r l (put-lock k m (lifted k t)) s (eqb (m .state) 0) (of-locks (home m)) k p (home-short r l _ s (of-locks (home m)) (homed (m .state) (m .resource)) p) (stands-set r l t h k old m low high new)
+      arrive-words ct r l (put-lock k m (lifted k t)) s (eqb (m .state) 0) (of-locks (home m)) k p (home-short r l _ s (of-locks (home m)) (homed (m .state) (m .resource)) p) (stands-set r l t h k old m low high new)
 
-  pub resettle-words : (b : Bool) → (b ≡ true → home m ≡ home (lock t k)) → (Absent k (chain-of (of-locks (home (lock t k))) t) → ⊥)
-      → words (resettle b k m t) ≡ resettle-cells b r l k (lock t k) m (words t)
+  pub resettle-words : (ct : Counts) → (b : Bool) → (b ≡ true → home m ≡ home (lock t k)) → (Absent k (chain-of (of-locks (home (lock t k))) t) → ⊥)
+      → words-with ct (resettle b k m t) ≡ resettle-cells b r l k (lock t k) m (words-with ct t)
   unfolding resettle resettle-cells set-cells
-  resettle-words true e o =
-      put-lock-words t k m low (omega (arith, h .locks)) (ap (λ (c : LockChain). next k (0 ∷ chain-of (of-locks c) t)) (e refl))
-      ∙ ap (λ (n : ℕ). store-run (λ f. place n (of-lock k f)) lock-links (lock-fields m) (words t)) (h .resources)
-  resettle-words false e o = sym (rw (lifted-words o, set-words) arriving-words)
+  resettle-words ct true e o =
+      put-lock-words ct t k m low (omega (arith, h .locks)) (ap (λ (c : LockChain). next k (0 ∷ chain-of (of-locks c) t)) (e refl))
+      ∙ ap (λ (n : ℕ). store-run (λ f. place n (of-lock k f)) lock-links (lock-fields m) (words-with ct t)) (h .resources)
+  resettle-words ct false e o = sym (rw (lifted-words ct o, set-words ct) (arriving-words ct))
 
   lifted-here : (j : ℕ) → j ≢ k → Absent j (chain-of (of-locks (home (lock t k))) (lifted k t)) → Absent j (chain-of (of-locks (home (lock t k))) t)
   unfolding lifted leave
@@ -241,11 +241,6 @@ module _ (r l : ℕ) (t : Tables) (h : Sane r l t) (k : ℕ) (m : Lock) (low : 1
   resettle-side true c p q = chains-put-lock t k m c
   resettle-side false c p q =
       arrive-other (eqb (m .state) 0) (of-locks (home m)) k (put-lock k m (lifted k t)) c p ∙ chains-put-lock (lifted k t) k m c ∙ chain-other (of-locks (home (lock t k))) c _ t q
-
-unfoldable pub move-cells : ℕ → ℕ → ℕ → Lock → Lock → List ℕ → List ℕ
-move-cells r l k o m ws =
-    resettle-cells (stays o m) r l k o m
-    (shift-cells (noticed o) (noticed m) (cell-place r (of-locks notices)) l k (shift-cells (blocked-lock o) (blocked-lock m) (cell-place r (of-locks blocked)) l k ws))
 
 pub stays-home : (o m : Lock) → stays o m ≡ true → home m ≡ home o
 unfolding stays
@@ -321,23 +316,23 @@ module _ (r l : ℕ) (t : Tables) (h : Whole r l t) (k : ℕ) (m : Lock) (low : 
       ∙ ap (λ (ls : List Lock). put ls k m) locks-notify
 
   -- the words after each step
-  pub unblock-words : shift-cells (blocked-lock (lock t k)) (blocked-lock m) (cell-place r (of-locks blocked)) l k (words t) ≡ words (unblock k m t)
+  pub unblock-words : (ct : Counts) → shift-cells (blocked-lock (lock t k)) (blocked-lock m) (cell-place r (of-locks blocked)) l k (words-with ct t) ≡ words-with ct (unblock k m t)
   unfolding unblock
-  unblock-words = shift-words r l t (h .sane) (blocked-lock (lock t k)) (blocked-lock m) (of-locks blocked) k (omega arith) (side-short r l t (h .sane) .0) (h .on-blocked k low high)
+  unblock-words ct = shift-words ct r l t (h .sane) (blocked-lock (lock t k)) (blocked-lock m) (of-locks blocked) k (omega arith) (side-short r l t (h .sane) .0) (h .on-blocked k low high)
 
-  pub notify-words : shift-cells (noticed (lock t k)) (noticed m) (cell-place r (of-locks notices)) l k (words (unblock k m t)) ≡ words (notify k m t)
+  pub notify-words : (ct : Counts) → shift-cells (noticed (lock t k)) (noticed m) (cell-place r (of-locks notices)) l k (words-with ct (unblock k m t)) ≡ words-with ct (notify k m t)
   unfolding notify
-  notify-words = shift-words r l (unblock k m t) sane-unblock (noticed (lock t k)) (noticed m) (of-locks notices) k (omega arith) (side-short r l _ sane-unblock .1) seat-notices
+  notify-words ct = shift-words ct r l (unblock k m t) sane-unblock (noticed (lock t k)) (noticed m) (of-locks notices) k (omega arith) (side-short r l _ sane-unblock .1) seat-notices
 
-  pub settle-words : resettle-cells (stays (lock t k) m) r l k (lock t k) m (words (notify k m t)) ≡ words (move-steps k m t)
+  pub settle-words : (ct : Counts) → resettle-cells (stays (lock t k) m) r l k (lock t k) m (words-with ct (notify k m t)) ≡ words-with ct (move-steps k m t)
   unfolding move-steps
-  settle-words =
-      sym (resettle-words r l (notify k m t) sane-notify k m low high old-notify (present-notify (of-locks (home m)) new) (stays (lock t k) m) stays-notify on-notify
-      ∙ ap (λ (o : Lock). resettle-cells (stays (lock t k) m) r l k o m (words (notify k m t))) (lock-notify k))
+  settle-words ct =
+      sym (resettle-words r l (notify k m t) sane-notify k m low high old-notify (present-notify (of-locks (home m)) new) ct (stays (lock t k) m) stays-notify on-notify
+      ∙ ap (λ (o : Lock). resettle-cells (stays (lock t k) m) r l k o m (words-with ct (notify k m t))) (lock-notify k))
 
-  pub move-words : words (move-steps k m t) ≡ move-cells r l k (lock t k) m (words t)
-  unfolding move-cells
-  move-words = rw (unblock-words, notify-words, settle-words)
+  pub move-words : (ct : Counts) → words-with ct (move-steps k m t) ≡ move-cells r l k (lock t k) m (words-with ct t)
+  unfolding side-cells move-cells
+  move-words ct = rw (unblock-words ct, notify-words ct, settle-words ct)
 
   -- every lock stands where its fields say
   pub lock-here : lock (move-steps k m t) k ≡ m

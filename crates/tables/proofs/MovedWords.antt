@@ -3,7 +3,7 @@ use mathlib.Core.Path.{_≡_, refl, sym, _∙_, ap}
 use mathlib.Core.Logic.{_≢_}
 use mathlib.Core.Bool.{Bool, true, false}
 use mathlib.Core.List.{List, [], _∷_, _++_}
-use Prim.Native.Nat.{ℕ, zero, suc, _≤_}
+use Prim.Native.Nat.{ℕ, zero, suc, _+_, _≤_}
 use native.Mathlib.Omega.{arith}
 use lib.ListN.{length}
 use lib.Seq.{ext-getD}
@@ -11,15 +11,15 @@ use lib.Dec.{eqb}
 use borrow.Author.Tests.{eqb-true, eq-eqb}
 use Rattle.tables.specs.Lists.{within, count, bit, remove}
 use Rattle.tables.specs.State.{Lock, Resource, Tables, no-resource, lock, resource, granted, converting, waiting, Queue, grants, converts, waits, LockChain, free-locks, denied, blocked, notices, queue, of-locks, chain, home-at, home, belongs, shift, shift-front, relist, move}
-use Rattle.tables.specs.Layout.{words}
+use Rattle.tables.specs.Layout.{Counts, words-with}
 use Rattle.tables.proofs.Cases.{by-cases, clash, and-left, and-right, and-intro}
 use Rattle.tables.proofs.Counts.{within-le, remove-absent, shift-off}
 use Rattle.tables.specs.Threads.{Present}
 use Rattle.tables.proofs.Chains.{chain?, with-queue, home-past}
 use Rattle.tables.proofs.Frame.{Homed, homed}
-use Rattle.tables.specs.Stores.{stays}
+use Rattle.tables.specs.Stores.{stays, move-cells}
 use Rattle.tables.specs.Threads.{Whole}
-use Rattle.tables.proofs.MoveSteps.{stays-home, move-steps, move-cells, move-words, sane-move, locks-move, blocked-move, notices-move, move-removes, move-keeps, move-pushes, move-joins, free-resources-move, rest-move}
+use Rattle.tables.proofs.MoveSteps.{stays-home, move-steps, move-words, sane-move, locks-move, blocked-move, notices-move, move-removes, move-keeps, move-pushes, move-joins, free-resources-move, rest-move}
 use Rattle.tables.specs.Validity.{used, LockOk, Core, Near}
 use Rattle.tables.proofs.StateCases.{StateOk, ok-numbered}
 use Rattle.tables.proofs.Valid.{enter, ok-at, resources-length, field-move, chain-move}
@@ -179,7 +179,8 @@ module _ (r k : ℕ) (m : Lock) (t : Tables) (core : Core t) (in-range : within 
   pub move-is-steps : move r k m t ≡ move-steps k m t
   move-is-steps = steps-are k m t core in-range ok r near-old near-new
 
-  pub moved-words : words (move r k m t) ≡ move-cells (length (t .resources)) (length (t .locks)) k (lock t k) m (words t)
-  moved-words =
-      ap words move-is-steps
-      ∙ move-words (length (t .resources)) (length (t .locks)) t (core-whole t core) k m (within-le (length (t .locks)) k in-range .0) (within-le (length (t .locks)) k in-range .1) (present-home t m ok)
+  -- whatever the counts are
+  pub moved-with : (ct : Counts) → words-with ct (move r k m t) ≡ move-cells (length (t .resources)) (length (t .locks)) k (lock t k) m (words-with ct t)
+  moved-with ct =
+      ap (words-with ct) move-is-steps
+      ∙ move-words (length (t .resources)) (length (t .locks)) t (core-whole t core) k m (within-le (length (t .locks)) k in-range .0) (within-le (length (t .locks)) k in-range .1) (present-home t m ok) ct

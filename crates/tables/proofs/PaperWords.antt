@@ -10,7 +10,7 @@ use lib.Dec.{eqb}
 use borrow.Author.Tests.{eqb-true, eq-eqb, ne-eqb, leb-true, le-leb, not-true}
 use Rattle.tables.specs.Lists.{within, count, bit, from, null}
 use Rattle.tables.specs.State.{Lock, Tables, name-width, no-lock, lock, resource, blocked-lock, noticed, Queue, grants, converts, waits, LockChain, free-locks, denied, blocked, notices, queue, Chain, free-resources, of-locks, chain, home-at, home, belongs}
-use Rattle.tables.specs.Layout.{resource-width, lock-width, of-resource, of-lock, head, resources-in, locks-in, word-in, most, link-in, read-chain, read-lock, slot-in, read}
+use Rattle.tables.specs.Layout.{resource-width, lock-width, of-resource, of-lock, head, count-field, resources-in, locks-in, word-in, most, link-in, read-chain, read-lock, slot-in, read}
 use Rattle.tables.specs.Grants.{empty}
 use Rattle.tables.specs.Sound.{indices-right, ends, chain-ends, all-zero, free-resource-right, used-resource-right, resource-right, stands-right, home-right, lock-right, sound}
 use Rattle.tables.proofs.Cases.{by-cases, by-equal, clash, eqb-same, parts}
@@ -21,7 +21,8 @@ use Rattle.tables.proofs.Valid.{ok-at, absent, used-within}
 use Rattle.tables.specs.Threads.{Within}
 use Rattle.tables.proofs.FollowedChains.{follow-null, chain-ends-any}
 use Rattle.tables.proofs.ReadState.{resources-read, locks-read, lock-of, chain-followed}
-use Rattle.tables.proofs.Conditions.{each-at, each-intro, names-differ, differ-names, link-index, locks-low, resource-zeros, by-use, lock-tested, blocked-off, notice-off}
+use Rattle.tables.proofs.Tallies.{tally-empty}
+use Rattle.tables.proofs.Conditions.{each-at, each-intro, names-differ, differ-names, link-index, locks-low, counts-true, by-use, lock-tested, blocked-off, notice-off}
 use Rattle.tables.proofs.Fields.{fields-are}
 use Rattle.tables.proofs.Soundness.{sound-valid}
 
@@ -119,9 +120,7 @@ module _ (ws ss : List ℕ) (h : sound ws ss ≡ true) (r : ℕ) (low : 1 ≤ r)
       zeros y v (suc (suc (suc zero))) p q = let z = rw (heads-zero ws ss (locks-low ws ss h) r low high) at y in eqb-true (word-in ws (of-resource r 3)) 0 (search parts depth 20)
       zeros y v (suc (suc (suc (suc zero)))) p q = e
       zeros y v (suc (suc (suc (suc (suc zero))))) p q = v
-      zeros y v (suc (suc (suc (suc (suc (suc zero)))))) p q = resource-zeros ws ss h r low high .0
-      zeros y v (suc (suc (suc (suc (suc (suc (suc zero))))))) p q = resource-zeros ws ss h r low high .1
-      zeros y v (suc (suc (suc (suc (suc (suc (suc (suc f)))))))) p q = absurd (omega arith)
+      zeros y v (suc (suc (suc (suc (suc (suc f)))))) p q = let e : count-field f ≡ suc (suc (suc (suc (suc (suc f))))) = omega arith in rw e at (counts-true ws ss h r low high f (omega arith) ∙ tally-empty (read ws ss) r f y)
 
   pub used-stated : 1 ≤ word-in ws (of-resource r 4) → UsedResource ws ss r
   unfolding used-resource-right empty

@@ -9,14 +9,15 @@ use lib.ListN.{getD, length, take, drop, replicate, length-append, length-replic
 use lib.Seq.{take-append-seam, take-at, drop-at}
 use Rattle.tables.specs.Lists.{from}
 use Rattle.tables.specs.State.{Resource, Tables, name-width, value-width, no-lock, no-resource, lock, resource, grants, converts, waits, free-locks, denied, blocked, notices, queue, Chain, free-resources, of-locks, chain-of}
-use Rattle.tables.specs.Layout.{resource-width, lock-width, Address, of-header, of-resource, of-lock, place, cell, link, content, words, slot-width, slot, slots, word-in, follow, most, read-chain, read-lock, slot-in, read-resource, read}
+use Rattle.tables.specs.Grants.{tally}
+use Rattle.tables.specs.Layout.{Counts, resource-width, lock-width, Address, of-header, of-resource, of-lock, place, cell, link, content, content-with, words, words-with, slot-width, slot, slots, word-in, follow, most, read-chain, read-lock, slot-in, read-resource, read}
 use Rattle.tables.proofs.Blocks.{drop-blocks, tabulated}
 use Rattle.tables.proofs.Links.{each-map, few}
 use Rattle.tables.specs.Threads.{In, Present}
 use Rattle.tables.proofs.Chains.{spot}
 use Rattle.tables.specs.Threads.{Stands, Threaded}
-use Rattle.tables.proofs.WordChanges.{no-zero, read-word}
-use Rattle.tables.proofs.ChainWalk.{follow-leads, words-lead}
+use Rattle.tables.proofs.WordChanges.{no-zero, read-word-with}
+use Rattle.tables.proofs.ChainWalk.{follow-leads, words-lead-with}
 
 pub record Readable (t : Tables) : Type 0 where
   pub chains : (c : Chain) → Present t c → Threaded t c
@@ -41,15 +42,6 @@ module _ (x : Resource) (name-fits : length (x .name) ≤ name-width) (value-fit
       ap (drop name-width) (sym (append-assoc (x .name) zeros (x .value))) ∙ drop-at (x .name ++ zeros) (x .value) name-width wide
 
 module _ (t : Tables) where
-  pub resources-word : getD (words t) 0 0 ≡ length (t .resources)
-  resources-word = read-word t (of-header 0) (omega arith)
-
-  pub locks-word : getD (words t) 1 0 ≡ length (t .locks)
-  locks-word = read-word t (of-header 1) (omega arith)
-
-  pub word-read : (a : Address) → In t a → word-in (words t) a ≡ content t a
-  word-read a h = ap (λ (r : ℕ). getD (words t) (place r a) 0) resources-word ∙ read-word t a h
-
   link-most : (c : Chain) (k : ℕ) → In t (link c k) → k ≤ most (length (t .resources)) (length (t .locks)) c
   link-most free-resources k i = i .1
   link-most (of-locks free-locks) k i = i .1
@@ -65,16 +57,26 @@ module _ (t : Tables) where
   pub chain-most : (c : Chain) → Threaded t c → length (chain-of c t) ≤ most (length (t .resources)) (length (t .locks)) c
   chain-most c h = few _ (chain-of c t) (h .distinct) (each-map (Stands t c) _ (stands-most c) (chain-of c t) (h .members))
 
-  pub chain-read : (c : Chain) → Threaded t c → read-chain (words t) c ≡ chain-of c t
-  unfolding read-chain
-  chain-read c h =
-      ap₂ (λ (r l : ℕ). follow (λ k. getD (words t) (place r (cell c k)) 0) (most r l c) (getD (words t) (place r (cell c 0)) 0)) resources-word locks-word
-      ∙ follow-leads (λ k. getD (words t) (spot t (cell c k)) 0) _ 0 (chain-of c t) (words-lead t c h) (no-zero t c h) (chain-most c h)
+module _ (ct : Counts) (t : Tables) where
+  pub resources-word-with : getD (words-with ct t) 0 0 ≡ length (t .resources)
+  resources-word-with = read-word-with ct t (of-header 0) (omega arith)
 
-  pub lock-read : (k : ℕ) → 1 ≤ k → k ≤ length (t .locks) → read-lock (words t) k ≡ lock t k
+  pub locks-word-with : getD (words-with ct t) 1 0 ≡ length (t .locks)
+  locks-word-with = read-word-with ct t (of-header 1) (omega arith)
+
+  word-read-with : (a : Address) → In t a → word-in (words-with ct t) a ≡ content-with ct t a
+  word-read-with a h = ap (λ (r : ℕ). getD (words-with ct t) (place r a) 0) resources-word-with ∙ read-word-with ct t a h
+
+  chain-read-with : (c : Chain) → Threaded t c → read-chain (words-with ct t) c ≡ chain-of c t
+  unfolding read-chain
+  chain-read-with c h =
+      ap₂ (λ (r l : ℕ). follow (λ k. getD (words-with ct t) (place r (cell c k)) 0) (most r l c) (getD (words-with ct t) (place r (cell c 0)) 0)) resources-word-with locks-word-with
+      ∙ follow-leads (λ k. getD (words-with ct t) (spot t (cell c k)) 0) _ 0 (chain-of c t) (words-lead-with ct t c h) (no-zero t c h) (chain-most t c h)
+
+  lock-read-with : (k : ℕ) → 1 ≤ k → k ≤ length (t .locks) → read-lock (words-with ct t) k ≡ lock t k
   unfolding read-lock
-  lock-read k p q =
-      let at-field : (f : ℕ) → f < lock-width → word-in (words t) (of-lock k f) ≡ content t (of-lock k f) = λ f m. word-read (of-lock k f) (p, q, m) in
+  lock-read-with k p q =
+      let at-field : (f : ℕ) → f < lock-width → word-in (words-with ct t) (of-lock k f) ≡ content-with ct t (of-lock k f) = λ f m. word-read-with (of-lock k f) (p, q, m) in
       λ i. record {
         resource = at-field 3 (omega arith) i;
         client = at-field 4 (omega arith) i;
@@ -84,6 +86,22 @@ module _ (t : Tables) where
         completion = at-field 8 (omega arith) i;
         mark = at-field 9 (omega arith) i;
       }
+
+module _ (t : Tables) where
+  pub resources-word : getD (words t) 0 0 ≡ length (t .resources)
+  resources-word = resources-word-with (tally t) t
+
+  pub locks-word : getD (words t) 1 0 ≡ length (t .locks)
+  locks-word = locks-word-with (tally t) t
+
+  pub word-read : (a : Address) → In t a → word-in (words t) a ≡ content t a
+  word-read = word-read-with (tally t) t
+
+  pub chain-read : (c : Chain) → Threaded t c → read-chain (words t) c ≡ chain-of c t
+  chain-read = chain-read-with (tally t) t
+
+  pub lock-read : (k : ℕ) → 1 ≤ k → k ≤ length (t .locks) → read-lock (words t) k ≡ lock t k
+  lock-read = lock-read-with (tally t) t
 
   module _ (h : Readable t) where
     -- the slot of a resource stands in its place

@@ -1,15 +1,16 @@
 -- A resource becomes another whose queues are the same: what that does to the words and to the slots.
-use mathlib.Core.Path.{_≡_, refl, sym, _∙_, ap}
+use mathlib.Core.Path.{_≡_, refl, sym, _∙_, ap, ap₂, fun-ext}
 use mathlib.Core.Bool.{Bool, true, false}
-use mathlib.Core.List.{List, _++_}
+use mathlib.Core.List.{List, _++_, map}
 use Prim.Native.Nat.{ℕ, _-_, _*_, _≤_}
 use native.Mathlib.Omega.{arith}
 use lib.ListN.{length, take, drop}
-use Rattle.tables.specs.Lists.{nth, null}
-use Rattle.tables.specs.State.{Resource, Tables, no-resource, resource, Queue, Chain, free-resources, queue-of, chain-of, shift-front, move-resource}
-use Rattle.tables.specs.Layout.{of-resource, place, resource-links, resource-fields, words, slot-width, slot, slots}
+use Rattle.tables.specs.Lists.{nth, count, null}
+use Rattle.tables.specs.State.{Resource, Tables, no-resource, lock, resource, Queue, grants, converts, Chain, free-resources, queue-of, chain-of, shift-front, move-resource}
+use Rattle.tables.specs.Grants.{holders, tally}
+use Rattle.tables.specs.Layout.{of-resource, place, resource-links, resource-fields, Counts, words, words-with, slot-width, slot, slots}
 use Rattle.tables.proofs.Counts.{le-within}
-use Rattle.tables.proofs.Numbered.{put-resource}
+use Rattle.tables.proofs.Numbered.{put-resource, resource-put-blind}
 use Rattle.tables.specs.Stores.{store-run}
 use Rattle.tables.specs.Threads.{Present}
 use Rattle.tables.proofs.Chains.{with-chain}
@@ -50,13 +51,13 @@ sane-front r l t h true false c k p s a = sane-leave r l t h c k p
 sane-front r l t h false true c k p s a = sane-push r l t h c k p a s
 sane-front r l t h false false c k p s a = h
 
-pub front-words : (r l : ℕ) (t : Tables) → Sane r l t → (b d : Bool) (c : Chain) (n k : ℕ) → Present t c → length (chain-of c t) ≤ n → Stands t c k → Seat b k (chain-of c t)
-    → front-cells b d (cell-place r c) n k (words t) ≡ words (front-chain b d c k t)
+pub front-words : (ct : Counts) (r l : ℕ) (t : Tables) → Sane r l t → (b d : Bool) (c : Chain) (n k : ℕ) → Present t c → length (chain-of c t) ≤ n → Stands t c k → Seat b k (chain-of c t)
+    → front-cells b d (cell-place r c) n k (words-with ct t) ≡ words-with ct (front-chain b d c k t)
 unfolding front-chain front-cells
-front-words r l t h true true c n k p q s a = refl
-front-words r l t h true false c n k p q s a = leave-is t r (h .resources) c (h .chains c p) n k q a
-front-words r l t h false true c n k p q s a = push-is t r (h .resources) c (h .chains c p) k s
-front-words r l t h false false c n k p q s a = refl
+front-words ct r l t h true true c n k p q s a = refl
+front-words ct r l t h true false c n k p q s a = leave-is ct t r (h .resources) c (h .chains c p) n k q a
+front-words ct r l t h false true c n k p q s a = push-is ct t r (h .resources) c (h .chains c p) k s
+front-words ct r l t h false false c n k p q s a = refl
 
 front-resources : (b d : Bool) (k : ℕ) (t : Tables) → front-chain b d free-resources k t .resources ≡ t .resources
 unfolding front-chain leave push with-chain
@@ -101,10 +102,10 @@ module _ (r : ℕ) (x : Resource) (t : Tables) (core : Core t) (low : 1 ≤ r) (
   unfolding relinked
   sane-relinked = sane-front _ _ t (core-whole t core .sane) (null (resource t r .name)) (null (x .name)) free-resources r (omega arith) standing seat
 
-  pub relinked-words : front-cells (null (resource t r .name)) (null (x .name)) (cell-place (length (t .resources)) free-resources) (length (t .resources)) r (words t) ≡ words (relinked r x t)
+  pub relinked-words : (ct : Counts) → front-cells (null (resource t r .name)) (null (x .name)) (cell-place (length (t .resources)) free-resources) (length (t .resources)) r (words-with ct t) ≡ words-with ct (relinked r x t)
   unfolding relinked
-  relinked-words =
-      front-words _ (length (t .locks)) t (core-whole t core .sane) (null (resource t r .name)) (null (x .name)) free-resources (length (t .resources)) r (omega arith)
+  relinked-words ct =
+      front-words ct _ (length (t .locks)) t (core-whole t core .sane) (null (resource t r .name)) (null (x .name)) free-resources (length (t .resources)) r (omega arith)
       (chain-most t free-resources (core-threaded t core free-resources (omega arith))) standing seat
 
   resource-relinked : resource (relinked r x t) r ≡ resource t r
@@ -112,16 +113,23 @@ module _ (r : ℕ) (x : Resource) (t : Tables) (core : Core t) (low : 1 ≤ r) (
   resource-relinked = ap (λ (xs : List Resource). nth xs r no-resource) (front-resources (null (resource t r .name)) (null (x .name)) r t)
 
   module _ (kept : (q : Queue) → queue-of q x ≡ queue-of q (resource t r)) where
-    pub set-relinked : set-resource-cells (length (t .resources)) r x (words (relinked r x t)) ≡ words (move-resource r x t)
+    pub set-relinked : (ct : Counts) → set-resource-cells (length (t .resources)) r x (words-with ct (relinked r x t)) ≡ words-with ct (move-resource r x t)
     unfolding set-resource-cells
-    set-relinked =
-        sym (ap words (sym (put-relinked r x t))
-        ∙ put-resource-words (relinked r x t) r x low (omega (arith, sane-relinked .resources)) (λ q. kept q ∙ ap (queue-of q) (sym resource-relinked))
-        ∙ ap (λ (n : ℕ). store-run (λ f. place n (of-resource r f)) resource-links (resource-fields x) (words (relinked r x t))) (sane-relinked .resources))
+    set-relinked ct =
+        sym (ap (words-with ct) (sym (put-relinked r x t))
+        ∙ put-resource-words ct (relinked r x t) r x low (omega (arith, sane-relinked .resources)) (λ q. kept q ∙ ap (queue-of q) (sym resource-relinked))
+        ∙ ap (λ (n : ℕ). store-run (λ f. place n (of-resource r f)) resource-links (resource-fields x) (words-with ct (relinked r x t))) (sane-relinked .resources))
+
+    -- no count changes
+    pub tally-refilled : tally (move-resource r x t) ≡ tally t
+    unfolding tally holders resource lock move-resource
+    tally-refilled =
+        fun-ext (λ s. fun-ext (λ h. ap₂ (λ (g c : List ℕ). count h (map (λ k. lock t k .held) (g ++ c)))
+        (resource-put-blind t r x (queue-of grants) (kept grants) s) (resource-put-blind t r x (queue-of converts) (kept converts) s)))
 
     pub resource-moved-words : words (move-resource r x t) ≡ resource-cells (length (t .resources)) r (resource t r) x (words t)
     unfolding resource-cells
-    resource-moved-words = rw (relinked-words, set-relinked)
+    resource-moved-words = rw (relinked-words (tally t), set-relinked (tally t), tally-refilled)
 
   pub resource-moved-slots : slots (move-resource r x t) ≡ take (slot-width * (r - 1)) (slots t) ++ (slot x ++ drop (slot-width * r) (slots t))
   resource-moved-slots =

@@ -9,11 +9,12 @@ use lib.Seq.{take-at, drop-append-seam}
 use lib.Dec.{eqb, leb}
 use borrow.Author.Tests.{eq-eqb, ne-eqb, leb-true, leb-false, le-leb}
 use Rattle.modes.specs.Modes.{compatible}
+use Rattle.modes.proofs.Laws.{all-modes-intro}
 use Rattle.tables.specs.Lists.{within, count, bit, all, null, next}
 use Rattle.tables.specs.State.{Resource, Tables, name-width, no-value, lock, resource, grants, converts, waits, LockChain, free-locks, denied, blocked, notices, queue, Chain, free-resources, of-locks, chain, chain-of, home, belongs}
-use Rattle.tables.specs.Layout.{resource-width, Address, of-header, of-resource, of-lock, place, cell, content, words, slot-width, slot, slots, resources-in, locks-in, word-in, most, link-in, slot-in, read}
-use Rattle.tables.specs.Grants.{holders, no-grantable-head, empty}
-use Rattle.tables.specs.Sound.{sizes-right, zeros-right, resource-index, lock-index, indices-right, ends, chain-ends, chains-end, all-zero, free-resource-right, name-unique, used-resource-right, resource-right, stands-right, home-right, lock-right, linked-right, holders-compatible, state-right, sound}
+use Rattle.tables.specs.Layout.{resource-width, Address, of-header, of-resource, of-lock, place, cell, count-field, word-value, content, words, slot-width, slot, slots, resources-in, locks-in, word-in, most, link-in, slot-in, read}
+use Rattle.tables.specs.Grants.{holders, tally, no-grantable-head, empty}
+use Rattle.tables.specs.Sound.{sizes-right, zeros-right, resource-index, lock-index, indices-right, ends, chain-ends, chains-end, all-zero, free-resource-right, name-unique, used-resource-right, resource-right, stands-right, home-right, lock-right, linked-right, holders-compatible, counts-right, state-right, sound}
 use Rattle.tables.proofs.Cases.{by-cases, by-equal, clash, eqb-same, and-intro, or-left, or-right}
 use Rattle.tables.proofs.Counts.{within-le, le-within, all-intro, nil-of-counts, null-nil, null-some}
 use Rattle.tables.specs.Validity.{used, Core, Valid}
@@ -32,6 +33,7 @@ use Rattle.tables.proofs.ThreadedChains.{each-counted, core-readable}
 use Rattle.tables.proofs.Wholeness.{stands-count}
 use Rattle.tables.proofs.FollowedChains.{runs-ends, leads-runs}
 use Rattle.tables.proofs.ReadState.{are-zeros}
+use Rattle.tables.proofs.Tallies.{count-word}
 use Rattle.tables.proofs.Conditions.{each-intro, differ-names}
 use Rattle.tables.proofs.Fields.{are-fields}
 use Rattle.tables.proofs.Soundness.{sound-words, sound-slots, sound-valid}
@@ -77,10 +79,7 @@ module _ (t : Tables) (c : Core t) where
 
   zeros : zeros-right (words t) ≡ true
   unfolding zeros-right
-  zeros =
-      and-intro _ _ (eq-eqb _ 0 (word-read t (of-header 7) (omega arith)))
-      (each-intro _ (resources-in (words t))
-      (λ r p q. and-intro _ _ (eq-eqb _ 0 (word-read t (of-resource r 6) (p, resources-sized r q, omega arith))) (eq-eqb _ 0 (word-read t (of-resource r 7) (p, resources-sized r q, omega arith)))))
+  zeros = eq-eqb _ 0 (word-read t (of-header 7) (omega arith))
 
   -- every index is 0 or a record's number
   spare-in : (r : ℕ) → 1 ≤ count r (t .free-resources) → within (length (t .resources)) r ≡ true
@@ -254,6 +253,13 @@ module _ (t : Tables) (c : Core t) where
       let b = in-holder t (c .linked) r k n in
       by-equal j k (λ e. or-left _ _ (eq-eqb j k e)) (λ d. or-right (eqb j k) _ (c .agree j k d (a .0) (b .0) (a .1 ∙ sym (b .1))))))
 
+  -- counts are true
+  counts-are : (r : ℕ) → 1 ≤ r → r ≤ length (t .resources) → counts-right (words t) t r ≡ true
+  unfolding counts-right
+  counts-are r p q =
+      all-modes-intro (λ m. eqb (word-in (words t) (of-resource r (count-field m))) (tally t r m))
+      (λ m n. eq-eqb _ (tally t r m) (word-read t (of-resource r (count-field m)) (p, q, omega arith) ∙ ap (word-value (tally t) t) (count-word t r m n)))
+
 module _ (t : Tables) (v : Valid t) where
   state-is : state-right (words t) (slots t) t ≡ true
   unfolding state-right
@@ -262,7 +268,8 @@ module _ (t : Tables) (v : Valid t) where
       let b = each-intro (lock-right t) (locks-in (words t)) (λ k p q. lock-is t (v .core) k p (locks-sized t (v .core) k q)) in
       let d = each-intro (λ k. linked-right (words t) t blocked k && linked-right (words t) t notices k) (locks-in (words t)) (λ k p q. links-are t (v .core) k p (locks-sized t (v .core) k q)) in
       let e = each-intro (λ r. holders-compatible t r && no-grantable-head t r) (resources-in (words t)) (λ r p q. and-intro _ _ (compatible-is t (v .core) r) (idle-no-head t (v .core) r (v .settled r .still))) in
-      and-intro _ _ (and-intro _ _ (and-intro _ _ a b) d) e
+      let f = each-intro (counts-right (words t) t) (resources-in (words t)) (λ r p q. counts-are t (v .core) r p (resources-sized t (v .core) r q)) in
+      and-intro _ _ (and-intro _ _ (and-intro _ _ (and-intro _ _ a b) d) e) f
 
   pub valid-sound : sound (words t) (slots t) ≡ true
   unfolding sound

@@ -1,15 +1,23 @@
 -- Who holds a mode on a resource, and which heads are grantable (document 01, Modes).
 use mathlib.Core.Bool.{Bool, false, _&&_, _||_, not}
-use mathlib.Core.List.{List, [], _∷_, _++_}
+use mathlib.Core.List.{List, [], _∷_, _++_, map}
 use Prim.Native.Nat.{ℕ}
 use lib.Dec.{eqb}
 use Rattle.modes.specs.Modes.{compatible}
-use Rattle.tables.specs.Lists.{all, null}
-use Rattle.tables.specs.State.{Resource, Tables, lock, resource}
+use Rattle.tables.specs.Lists.{count, all, null}
+use Rattle.tables.specs.State.{Lock, Resource, Tables, lock, resource, holds}
 
 -- the locks that hold a mode there
 unfoldable pub holders : Tables → ℕ → List ℕ
 holders t r = resource t r .grant ++ resource t r .convert
+
+-- the lock whose record is l holds the mode m on r
+unfoldable pub holds-mode : Lock → ℕ → ℕ → Bool
+holds-mode l r m = holds l && eqb (l .resource) r && eqb m (l .held)
+
+-- how many of its holders hold m
+unfoldable pub tally : Tables → ℕ → ℕ → ℕ
+tally t r m = count m (map (λ k. lock t k .held) (holders t r))
 
 -- m is compatible with every mode that a lock other than k holds there. No lock has the number 0, so with k = 0 none is left out.
 unfoldable pub fits : Tables → ℕ → ℕ → ℕ → Bool

@@ -3,14 +3,15 @@ use mathlib.Core.List.{List, [], _∷_, _++_, map}
 use Prim.Native.Nat.{ℕ, zero, suc, _+_, _-_, _*_}
 use lib.ListN.{getD, length, replicate, take, drop}
 use Rattle.tables.specs.Lists.{from, next}
-use Rattle.tables.specs.State.{Lock, Resource, Tables, name-width, value-width, lock, resource, Queue, grants, converts, waits, free-locks, denied, blocked, notices, queue, Chain, free-resources, of-locks, chain-of, home}
+use Rattle.tables.specs.State.{Lock, Resource, Tables, last-mode, name-width, value-width, lock, resource, Queue, grants, converts, waits, free-locks, denied, blocked, notices, queue, Chain, free-resources, of-locks, chain-of, home}
+use Rattle.tables.specs.Grants.{tally}
 
 -- ADDRESSES. A header, then a row of words for each resource, then one for each lock. These widths stand here alone.
 abbrev pub header-width : ℕ
 header-width = 8
 
 abbrev pub resource-width : ℕ
-resource-width = 8
+resource-width = 12
 
 abbrev pub lock-width : ℕ
 lock-width = 10
@@ -89,10 +90,15 @@ resource-fields x = length (x .name) ∷ x .valid ∷ []
 abbrev pub lock-fields : Lock → List ℕ
 lock-fields l = l .resource ∷ l .client ∷ l .state ∷ l .held ∷ l .asked ∷ l .completion ∷ l .mark ∷ []
 
--- what a word says: a number; or what follows the record k on a chain, or 0 (k = 0: the chain's first)
+-- where a resource counts the locks that hold the mode m: behind its links and fields
+abbrev pub count-field : ℕ → ℕ
+count-field m = 6 + m
+
+-- what a word says: a number; or what follows the record k on a chain, or 0 (k = 0: the chain's first); or how many locks hold the mode m on r
 pub data Word : Type 0 where
   plain : ℕ → Word
   following : Chain → ℕ → Word
+  tallied : ℕ → ℕ → Word
 
 -- the words of the header, with r resources and l locks; of a resource; of a lock
 abbrev pub header-words : ℕ → ℕ → List Word
@@ -103,7 +109,7 @@ header-words r l =
 abbrev pub resource-words : ℕ → Resource → List Word
 resource-words r x =
     following free-resources r ∷ following (of-locks (queue r grants)) 0 ∷ following (of-locks (queue r converts)) 0 ∷ following (of-locks (queue r waits)) 0
-    ∷ map plain (resource-fields x)
+    ∷ (map plain (resource-fields x) ++ map (tallied r) (from 0 (suc last-mode)))
 
 abbrev pub lock-words : ℕ → Lock → List Word
 lock-words k l = following (of-locks (home l)) k ∷ following (of-locks blocked) k ∷ following (of-locks notices) k ∷ map plain (lock-fields l)
@@ -114,16 +120,27 @@ word-at t (of-header f) = getD (header-words (length (t .resources)) (length (t 
 word-at t (of-resource r f) = getD (resource-words r (resource t r)) f (plain 0)
 word-at t (of-lock k f) = getD (lock-words k (lock t k)) f (plain 0)
 
-abbrev pub word-value : Tables → Word → ℕ
-word-value t (plain v) = v
-word-value t (following c k) = next k (0 ∷ chain-of c t)
+-- how many locks hold a mode on a resource, as the words are to say. While a lock moves, the counts are already those of the state to come
+abbrev pub Counts : Type 0
+Counts = ℕ → ℕ → ℕ
 
+abbrev pub word-value : Counts → Tables → Word → ℕ
+word-value counts t (plain v) = v
+word-value counts t (following c k) = next k (0 ∷ chain-of c t)
+word-value counts t (tallied r m) = counts r m
+
+abbrev pub content-with : Counts → Tables → Address → ℕ
+content-with counts t a = word-value counts t (word-at t a)
+
+unfoldable pub words-with : Counts → Tables → List ℕ
+words-with counts t = by-address (length (t .resources)) (length (t .locks)) (content-with counts t)
+
+-- THE WORDS of a state: its counts are true
 abbrev pub content : Tables → Address → ℕ
-content t a = word-value t (word-at t a)
+content t a = content-with (tally t) t a
 
--- THE WORDS of a state
-unfoldable pub words : Tables → List ℕ
-words t = by-address (length (t .resources)) (length (t .locks)) (content t)
+abbrev pub words : Tables → List ℕ
+words t = words-with (tally t) t
 
 -- THE SLOTS of a state: for each resource its name, zeros up to the longest name, its value block
 abbrev pub slot-width : ℕ
@@ -145,6 +162,10 @@ locks-in ws = getD ws 1 0
 
 abbrev pub word-in : List ℕ → Address → ℕ
 word-in ws a = getD ws (place (resources-in ws) a) 0
+
+-- how many locks hold the mode m on the resource r, as the words say
+abbrev pub count-in : List ℕ → ℕ → ℕ → ℕ
+count-in ws r m = word-in ws (of-resource r (count-field m))
 
 -- from k on, at most n records
 unfoldable pub follow : (ℕ → ℕ) → ℕ → ℕ → List ℕ

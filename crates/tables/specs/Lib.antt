@@ -1,7 +1,7 @@
 pub mod Lists
 pub mod State
-pub mod Layout
 pub mod Grants
+pub mod Layout
 pub mod Sound
 pub mod Validity
 pub mod Threads

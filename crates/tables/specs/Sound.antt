@@ -1,14 +1,14 @@
--- Sound tables: document 01's list, a definition for each of its five points, in its order and words; and what document 02 says of marks.
+-- Sound tables: document 01's list, a definition for each of its five points, in its order and words; and what document 02 says of marks and counts.
 use mathlib.Core.Bool.{Bool, true, false, _&&_, _||_, not, cond}
 use mathlib.Core.List.{List, [], _∷_}
 use Prim.Native.Nat.{ℕ, zero, suc, _*_}
 use lib.ListN.{length, take, drop}
 use lib.Dec.{eqb, leb}
-use Rattle.modes.specs.Modes.{compatible}
+use Rattle.modes.specs.Modes.{compatible, all-modes}
 use Rattle.tables.specs.Lists.{count, bit, all, from, null, same}
 use Rattle.tables.specs.State.{Lock, Tables, most-resources, most-locks, last-client, last-mode, name-width, state-free, state-granted, state-converting, state-waiting, state-denied, completion-none, completion-granted, completion-denied, completion-conversion-denied, mark-none, lock, resource, grants, converts, waits, LockChain, free-locks, denied, blocked, notices, queue, Chain, free-resources, of-locks, chain, belongs}
-use Rattle.tables.specs.Layout.{of-header, of-resource, of-lock, size, slot-width, resources-in, locks-in, word-in, most, link-in, slot-in, read}
-use Rattle.tables.specs.Grants.{holders, no-grantable-head, empty}
+use Rattle.tables.specs.Layout.{of-header, of-resource, of-lock, size, slot-width, resources-in, locks-in, word-in, count-in, most, link-in, slot-in, read}
+use Rattle.tables.specs.Grants.{holders, tally, no-grantable-head, empty}
 
 abbrev pub each-resource : List ℕ → (ℕ → Bool) → Bool
 each-resource ws p = all p (from 1 (resources-in ws))
@@ -23,9 +23,7 @@ sizes-right ws ss =
     && eqb (length ws) (size (resources-in ws) (locks-in ws)) && eqb (length ss) (slot-width * resources-in ws)
 
 unfoldable pub zeros-right : List ℕ → Bool
-zeros-right ws =
-    eqb (word-in ws (of-header 7)) 0
-    && each-resource ws (λ r. eqb (word-in ws (of-resource r 6)) 0 && eqb (word-in ws (of-resource r 7)) 0)
+zeros-right ws = eqb (word-in ws (of-header 7)) 0
 
 unfoldable pub resource-index : List ℕ → ℕ → Bool
 resource-index ws r = leb r (resources-in ws)
@@ -140,14 +138,20 @@ linked-right ws t c k = stands-right t c k && (belongs c (lock t k) || eqb (link
 unfoldable pub holders-compatible : Tables → ℕ → Bool
 holders-compatible t r = all (λ j. all (λ k. eqb j k || compatible (lock t j .held) (lock t k .held)) (holders t r)) (holders t r)
 
--- the points 2 to 5, of the words and slots and the state that is read from them
+-- "Resource records become twelve words, words 6 to 11 counting the locks that hold NL to EX. Sound tables have true counts .. Free records have
+-- zeros": no lock holds a mode there
+unfoldable pub counts-right : List ℕ → Tables → ℕ → Bool
+counts-right ws t r = all-modes (λ m. eqb (count-in ws r m) (tally t r m))
+
+-- the points 2 to 5 and the counts, of the words and slots and the state that is read from them
 unfoldable pub state-right : List ℕ → List ℕ → Tables → Bool
-unfolding resource-right lock-right linked-right holders-compatible
+unfolding resource-right lock-right linked-right holders-compatible counts-right
 state-right ws ss t =
     each-resource ws (resource-right ws ss t)
     && each-lock ws (lock-right t)
     && each-lock ws (λ k. linked-right ws t blocked k && linked-right ws t notices k)
     && each-resource ws (λ r. holders-compatible t r && no-grantable-head t r)
+    && each-resource ws (counts-right ws t)
 
 -- SOUND tables
 unfoldable pub sound : List ℕ → List ℕ → Bool

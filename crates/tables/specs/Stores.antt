@@ -1,12 +1,12 @@
 -- What code does to the words when a record joins, leaves or changes: the stores, one after the other.
 use mathlib.Core.Logic.{_≢_}
-use mathlib.Core.Bool.{Bool, true, false, _&&_}
+use mathlib.Core.Bool.{Bool, true, false, _&&_, cond}
 use mathlib.Core.List.{List, [], _∷_}
-use Prim.Native.Nat.{ℕ, zero, suc, _+_, _*_, _≤_, _<_}
+use Prim.Native.Nat.{ℕ, zero, suc, _+_, _-_, _*_, _≤_, _<_}
 use lib.ListN.{getD, set, length}
 use lib.Dec.{eqb}
-use Rattle.tables.specs.State.{Lock, state-free, Chain, free-resources, of-locks, home}
-use Rattle.tables.specs.Layout.{resource-width, lock-width, of-lock, place, cell, lock-links, lock-fields}
+use Rattle.tables.specs.State.{Lock, state-free, holds, blocked-lock, noticed, blocked, notices, Chain, free-resources, of-locks, home}
+use Rattle.tables.specs.Layout.{resource-width, lock-width, of-resource, of-lock, place, cell, lock-links, lock-fields, count-field}
 
 -- a run of stores: vs at the places at-field f, at-field (f + 1), ..
 abbrev pub store-run : (ℕ → ℕ) → ℕ → List ℕ → List ℕ → List ℕ
@@ -72,9 +72,29 @@ resettle-cells true r l k o m ws = set-cells r k m ws
 resettle-cells false r l k o m ws =
     arrive-cells (eqb (m .state) state-free) (cell-place r (of-locks (home m))) l k (set-cells r k m (leave-cells (cell-place r (of-locks (home o))) l k ws))
 
+-- what happens on the blocked chain and then on the notice chain when the lock k, which is o, becomes m
+unfoldable pub side-cells : ℕ → ℕ → ℕ → Lock → Lock → List ℕ → List ℕ
+side-cells r l k o m ws =
+    shift-cells (noticed o) (noticed m) (cell-place r (of-locks notices)) l k (shift-cells (blocked-lock o) (blocked-lock m) (cell-place r (of-locks blocked)) l k ws)
+
+-- and on all of its chains, with its fields
+unfoldable pub move-cells : ℕ → ℕ → ℕ → Lock → Lock → List ℕ → List ℕ
+unfolding side-cells
+move-cells r l k o m ws = resettle-cells (stays o m) r l k o m (side-cells r l k o m ws)
+
 -- k on a chain of free records, where it was and is to be on it or not: it enters at the front
 unfoldable pub front-cells : Bool → Bool → (ℕ → ℕ) → ℕ → ℕ → List ℕ → List ℕ
 front-cells true true at-cell n k ws = ws
 front-cells true false at-cell n k ws = leave-cells at-cell n k ws
 front-cells false true at-cell n k ws = push-cells at-cell k ws
 front-cells false false at-cell n k ws = ws
+
+-- the word that counts what the lock l holds, with r resources; l is no longer counted there, or is
+abbrev pub count-place : ℕ → Lock → ℕ
+count-place r l = place r (of-resource (l .resource) (count-field (l .held)))
+
+unfoldable pub lower-count : ℕ → Lock → List ℕ → List ℕ
+lower-count r l ws = cond (holds l) (set ws (count-place r l) (getD ws (count-place r l) 0 - 1)) ws
+
+unfoldable pub raise-count : ℕ → Lock → List ℕ → List ℕ
+raise-count r l ws = cond (holds l) (set ws (count-place r l) (getD ws (count-place r l) 0 + 1)) ws

@@ -1,6 +1,7 @@
 //! Times the library against `flat` and writes docs/BENCHMARKS.md and docs/benchmarks.svg.
 #![forbid(unsafe_code)]
 
+mod beside;
 mod call;
 mod fill;
 mod measure;
@@ -9,7 +10,8 @@ mod rows;
 mod svg;
 mod worst;
 
-use crate::measure::{Cell, Effort, measure, measure_worst};
+use crate::beside::{BESIDE, HOLDERS};
+use crate::measure::{Cell, Effort, measure, measure_beside, measure_worst};
 use crate::report::Results;
 use crate::rows::ROWS;
 use crate::worst::WORST;
@@ -54,9 +56,11 @@ fn run(effort: Effort, folder: &Path) -> std::io::Result<()> {
         }
         measure(&ROWS[row], size, fill, effort)
     });
+    eprintln!("beside many holders");
+    let beside: Vec<_> = BESIDE.iter().map(|beside| HOLDERS.map(|holders| measure_beside(beside, holders, effort))).collect();
     eprintln!("worst tables for break");
     let worst: Vec<Cell> = WORST.iter().map(|worst| measure_worst(worst, effort)).collect();
-    std::fs::write(folder.join("BENCHMARKS.md"), report::page(&results, &worst))?;
+    std::fs::write(folder.join("BENCHMARKS.md"), report::page(&results, &beside, &worst))?;
     std::fs::write(folder.join("benchmarks.svg"), svg::plot(&results))?;
     println!("wrote BENCHMARKS.md and benchmarks.svg to {}", folder.display());
     Ok(())

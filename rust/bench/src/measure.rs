@@ -1,8 +1,9 @@
 //! Timing: the same calls on the library and on `flat`, by turns.
 
+use crate::beside::Beside;
 use crate::call::{Areas, Call, Flat, Library, Manager, Tables};
 use crate::fill::{Fill, Size, filled};
-use crate::rows::Row;
+use crate::rows::{Row, SOUND};
 use crate::worst::Worst;
 use std::hint::black_box;
 use std::time::{Duration, Instant};
@@ -15,6 +16,13 @@ pub struct Cell {
     pub flat: f64,
     /// The library's time over flat's: the middle one of the turns' ratios, which a busy machine disturbs least.
     pub ratio: f64,
+}
+
+/// A call, and the check that it begins with.
+#[derive(Clone, Copy)]
+pub struct Whole {
+    pub check: Cell,
+    pub call: Cell,
 }
 
 /// How long to measure.
@@ -40,6 +48,13 @@ pub fn measure(row: &Row, size: Size, fill: Fill, effort: Effort) -> Cell {
     let (base, calls) = row.calls(&filled(size, fill), batch(size));
     let copies = if row.is_list() { 1 } else { calls.len() };
     measure_calls(row.title, base, calls, copies, effort)
+}
+
+/// Times a call on a name that so many locks hold, and right before it the check alone, since a machine isn't always as quick.
+pub fn measure_beside(beside: &Beside, holders: u32, effort: Effort) -> Whole {
+    let (base, call) = beside.tables(holders);
+    let check = measure_calls(SOUND, base.clone(), vec![Call::Sound], 1, effort);
+    Whole { check, call: measure_calls(beside.title, base, vec![call], 1, effort) }
 }
 
 /// Times a break on some of its worst tables.

@@ -1,7 +1,8 @@
 //! The results as Markdown tables.
 
+use crate::beside::{BESIDE, HOLDERS};
 use crate::fill::{Fill, SIZES, Size};
-use crate::measure::{Cell, median};
+use crate::measure::{Cell, Whole, median};
 use crate::rows::{ROWS, SOUND};
 use crate::worst::WORST;
 use std::fmt::Write;
@@ -63,13 +64,14 @@ fn machine() -> String {
     format!("{model}, {} of its cores", models.len())
 }
 
-/// The whole page. Break's worst tables have a cell each.
-pub fn page(results: &Results, worst: &[Cell]) -> String {
+/// The whole page. Calls on a name that many locks hold are there for each number of them, and break's worst tables have a cell each.
+pub fn page(results: &Results, beside: &[[Whole; HOLDERS.len()]], worst: &[Cell]) -> String {
     let mut page = String::new();
     introduction(&mut page, results);
     for (at, size) in SIZES.iter().enumerate() {
         size_table(&mut page, results, at, *size);
     }
+    beside_table(&mut page, beside);
     worst_table(&mut page, worst);
     stack_table(&mut page);
     required_form(&mut page, results);
@@ -116,6 +118,31 @@ fn size_table(page: &mut String, results: &Results, at: usize, size: Size) {
     }
 }
 
+/// Calls on a name that many locks hold.
+fn beside_table(page: &mut String, beside: &[[Whole; HOLDERS.len()]]) {
+    let Size { resources, locks } = SIZES[SIZES.len() - 1];
+    let _ = write!(
+        page,
+        "\n## Beside many holders\n\n\
+         Tables of R {resources}, L {locks}, and calls on a name that few or many locks hold in CR, made by `rust/bench/src/beside.rs`. In \
+         brackets is what a call takes beside the check, which was timed alone right before it; some tens of nanoseconds are noise. All \
+         that a call has to know of held modes is counted in the resource's record. A conversion in place keeps its lock where it stands; \
+         a lock that is granted otherwise goes to the end of the grant queue, which is found by a walk along it.\n\n| entry |"
+    );
+    for holders in HOLDERS {
+        let _ = write!(page, " {holders} holders: library | flat | ratio |");
+    }
+    let _ = write!(page, "\n|---|{}\n", "--:|--:|--:|".repeat(HOLDERS.len()));
+    let shown = |call: f64, check: f64| format!("{} ({})", time(call), time(call - check));
+    for (spec, cells) in BESIDE.iter().zip(beside) {
+        let _ = write!(page, "| {} |", spec.title);
+        for Whole { check, call } in cells {
+            let _ = write!(page, " {} | {} | {:.2} |", shown(call.library, check.library), shown(call.flat, check.flat), call.ratio);
+        }
+        page.push('\n');
+    }
+}
+
 /// Break on the worst tables that were found.
 fn worst_table(page: &mut String, worst: &[Cell]) {
     let Size { resources, locks } = SIZES[SIZES.len() - 1];
@@ -145,8 +172,8 @@ fn stack_table(page: &mut String) {
          | | before R-4 | now |\n|---|--:|--:|\n\
          | a level of the recursion | 448 | 176 |\n\
          | of it arrays | 256 | 0 |\n\
-         | break at its deepest, 1,024 locks that are all blocked | 466,135 | 197,599 |\n\
-         | break that finds no deadlock | 12,711 | 18,807 |\n",
+         | break at its deepest, 1,024 locks that are all blocked | 466,135 | 197,583 |\n\
+         | break that finds no deadlock | 12,711 | 18,871 |\n",
     );
 }
 

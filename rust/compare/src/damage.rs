@@ -3,6 +3,7 @@
 use crate::call::{Change, Changes};
 use crate::damages::{DAMAGES, Damage};
 use crate::manager::Tables;
+use crate::miscounts::count_changes;
 use crate::rng::Rng;
 use model::layout::{self, MOST_LOCKS, NAME_BYTES, SLOT_BYTES, header, lock, resource, resource_at, slot_at};
 use model::{Lock, Mode, Resource, Standing, State};
@@ -129,16 +130,16 @@ impl<'a> Damager<'a> {
         if place == 0 { chain.head } else { self.link_at(chain, chain.numbers[place - 1]) }
     }
 
-    fn pick<T: Copy>(&mut self, things: &[T]) -> Option<T> {
+    pub fn pick<T: Copy>(&mut self, things: &[T]) -> Option<T> {
         if things.is_empty() { None } else { Some(*self.rng.pick(things)) }
     }
 
-    fn lock_where(&mut self, fits: impl Fn(&Lock) -> bool) -> Option<u32> {
+    pub fn lock_where(&mut self, fits: impl Fn(&Lock) -> bool) -> Option<u32> {
         let found: Vec<u32> = self.state.locks.iter().filter(|(_, lock)| fits(lock)).map(|(number, _)| *number).collect();
         self.pick(&found)
     }
 
-    fn resource_where(&mut self, fits: impl Fn(&Resource) -> bool) -> Option<u32> {
+    pub fn resource_where(&mut self, fits: impl Fn(&Resource) -> bool) -> Option<u32> {
         let found: Vec<u32> = self.state.resources.iter().filter(|(_, resource)| fits(resource)).map(|(number, _)| *number).collect();
         self.pick(&found)
     }
@@ -432,7 +433,21 @@ impl<'a> Damager<'a> {
         let second = self.pick(&of_kind(&state.resources[&resource]))?;
         let firsts: Vec<u32> = state.resources[&resource].holders().filter(|lock| *lock != second).collect();
         let first = self.pick(&firsts)?;
-        Some([(first, one), (second, other)].map(|(lock, mode)| self.lock_change(lock, lock::HELD, mode.number())).to_vec())
+        Some(self.hold(resource, &[(first, one), (second, other)]))
+    }
+
+    /// Some holders on a resource hold other modes, and its counts are true of them.
+    fn hold(&self, resource: u32, others: &[(u32, Mode)]) -> Vec<Change> {
+        let mut counts = self.state.counts(resource);
+        let mut changes = Vec::new();
+        for (lock, mode) in others {
+            let held = self.state.locks[lock].held().expect("a holder");
+            counts[held as usize] -= 1;
+            counts[*mode as usize] += 1;
+            changes.push(self.lock_change(*lock, lock::HELD, mode.number()));
+        }
+        changes.extend(count_changes(resource, counts));
+        changes
     }
 
     /// A convert head asks for a mode that the others' modes go with.
@@ -449,8 +464,8 @@ impl<'a> Damager<'a> {
         let head = *self.state.resources[&resource].converting.front()?;
         let pairs = Mode::ALL.into_iter().flat_map(|held| Mode::ALL.map(|asked| (held, asked)));
         let (held, asked) = self.pick(&pairs.filter(|(held, asked)| !held.compatible(*asked)).collect::<Vec<_>>())?;
-        let own = [(lock::HELD, held), (lock::ASKED, asked)].map(|(field, mode)| self.lock_change(head, field, mode.number()));
-        Some([self.all_others_null(resource, head), own.to_vec()].concat())
+        let held = [self.others_null(resource, head), vec![(head, held)]].concat();
+        Some([self.hold(resource, &held), vec![self.lock_change(head, lock::ASKED, asked.number())]].concat())
     }
 
     pub fn ease_wait_head(&mut self) -> Option<Vec<Change>> {
@@ -463,12 +478,12 @@ impl<'a> Damager<'a> {
     /// All that hold a mode beside a head hold NL.
     pub fn give_way(&mut self, head: fn(&Resource) -> Option<&u32>) -> Option<Vec<Change>> {
         let resource = self.resource_where(|resource| head(resource).is_some())?;
-        head(&self.state.resources[&resource]).map(|head| self.all_others_null(resource, *head))
+        head(&self.state.resources[&resource]).map(|head| self.hold(resource, &self.others_null(resource, *head)))
     }
 
-    fn all_others_null(&self, resource: u32, head: u32) -> Vec<Change> {
-        let others = self.state.resources[&resource].holders().filter(|lock| *lock != head);
-        others.map(|lock| self.lock_change(lock, lock::HELD, Mode::Nl.number())).collect()
+    /// All that hold a mode beside a head, and NL for each.
+    fn others_null(&self, resource: u32, head: u32) -> Vec<(u32, Mode)> {
+        self.state.resources[&resource].holders().filter(|lock| *lock != head).map(|lock| (lock, Mode::Nl)).collect()
     }
 
     /// The only conversion of a resource, behind which a compatible request waits, is granted what it holds.
@@ -538,13 +553,25 @@ impl<'a> Damager<'a> {
 
     /// A holder has another mode that goes with the others' and grants no head.
     pub fn other_held(&mut self) -> Option<Vec<Change>> {
-        let lock = self.lock_where(|lock| lock.held().is_some())?;
-        let mode = *self.rng.pick(&Mode::ALL);
-        let change = self.lock_change(lock, lock::HELD, mode.number());
+        let (resource, lock, mode) = self.another_mode()?;
+        let changes = self.hold(resource, &[(lock, mode)]);
         let mut changed = self.tables.clone();
-        crate::call::damage(&mut changed, &[change]);
-        let stays = self.state.locks[&lock].held() != Some(mode) && State::from_tables(&changed.words, &changed.slots).is_some();
-        stays.then(|| vec![change])
+        crate::call::damage(&mut changed, &changes);
+        State::from_tables(&changed.words, &changed.slots).is_some().then_some(changes)
+    }
+
+    /// A holder on a resource, and a mode that it doesn't hold.
+    fn another_mode(&mut self) -> Option<(u32, u32, Mode)> {
+        let lock = self.lock_where(|lock| lock.held().is_some())?;
+        let held = &self.state.locks[&lock];
+        let mode = *self.rng.pick(&Mode::ALL);
+        held.resource().filter(|_| held.held() != Some(mode)).map(|resource| (resource, lock, mode))
+    }
+
+    /// A holder has another mode than the one by which it is counted.
+    pub fn held_uncounted(&mut self) -> Option<Vec<Change>> {
+        let (_, lock, mode) = self.another_mode()?;
+        Some(vec![self.lock_change(lock, lock::HELD, mode.number())])
     }
 
     pub fn turn_validity(&mut self) -> Option<Vec<Change>> {

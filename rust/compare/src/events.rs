@@ -1,6 +1,7 @@
 //! Noteworthy branches: what a call met and did, told from the states before and after it.
 
 use crate::call::{Call, Image};
+use crate::held::note_held;
 use crate::manager::{lock, result};
 use crate::marks::note_marks;
 use crate::purges::note_purge;
@@ -50,7 +51,20 @@ events! {
     NlPastWaiters = "request: NL granted past a wait chain",
     NlPastWaitersDontQueue = "request: NL with flag 4 granted past a wait chain",
     NlBesideEx = "request: NL granted beside EX",
+    GrantedBesideNl = "request: granted where NL alone is held",
+    GrantedBesideCr = "request: granted where CR alone is held",
+    GrantedBesideCw = "request: granted where CW alone is held",
+    GrantedBesidePr = "request: granted where PR alone is held",
+    GrantedBesidePw = "request: granted where PW alone is held",
+    GrantedBesideEx = "request: granted where EX alone is held",
+    RequestCountsAll = "request: all locks hold one mode on one name",
+    RequestCountsMost = "request: 1,024 locks hold one mode on one name",
     WaitsIncompatible = "request: waits for a held mode",
+    WaitsForCr = "request: waits for CR alone",
+    WaitsForCw = "request: waits for CW alone",
+    WaitsForPr = "request: waits for PR alone",
+    WaitsForPw = "request: waits for PW alone",
+    WaitsForEx = "request: waits for EX alone",
     WaitsForConversion = "request: compatible, waits behind a conversion",
     WaitsForWaiters = "request: waits because of the wait chain alone",
     NlWaitsForConversion = "request: NL joins a wait chain behind a conversion",
@@ -86,7 +100,11 @@ events! {
     ConvertPrCwInPlace = "convert: PR to CW or back in place",
     ConvertPrCwQueued = "convert: PR to CW or back queued",
     ConvertOwnMode = "convert: its own held mode, incompatible, doesn't hold it up",
+    ConvertBesideAlike = "convert: not down, in place beside another lock of its mode",
+    ConvertDownAlike = "convert: down beside another lock of its mode",
+    ConvertDownLastOfMode = "convert: down from a mode that no other lock holds, where others hold",
     ConvertQueuedIncompatible = "convert: queued for a held mode",
+    ConvertWaitsForAlike = "convert: queued for other locks of its own mode alone",
     ConvertQueuedBehind = "convert: compatible, queued behind a conversion",
     ConvertDeepQueue = "convert: fourth or later in a convert queue",
     ConvertDontQueueGranted = "convert: flag 4 and granted",
@@ -117,12 +135,17 @@ events! {
     ConvertMarkedQueued = "convert: a marked lock is queued",
     SweepGrantsMarked = "convert, release, cancel, purge, break: the sweep grants a marked conversion",
     SweepGrantsMarkedInPlace = "convert, release, cancel, purge, break: the sweep grants a marked conversion whose notice stands before others",
+    SweepGrantsOwnMode = "convert, release, cancel, purge, break: the sweep grants a conversion to a mode that excludes the one it held",
+    SweepGrantsBesideAlike = "convert, release, cancel, purge, break: the sweep grants a conversion beside another lock of the mode it held",
+    SweepStopsAtAlike = "convert, release, cancel, purge, break: a convert head waits on for locks of its own mode alone",
     SweepGrantsBehind = "convert, release, cancel, purge, break: the sweep grants a request that the wait chain alone held up, after the one ahead",
     SweepStopsBehind = "convert, release, cancel, purge, break: the sweep grants and stops at a request that the wait chain alone held up",
     ReleaseFreesResource = "release: frees the resource",
     ReleaseFirst = "release: first of several granted",
     ReleaseMiddle = "release: between others granted",
     ReleaseLast = "release: last of several granted",
+    ReleaseAlike = "release: a lock beside another of its mode",
+    ReleaseLastOfMode = "release: the last lock of its mode, where others hold",
     ReleaseSweeps = "release: the sweep grants",
     ReleaseSweepsMany = "release: the sweep grants three or more",
     ReleaseSweepsBoth = "release: the sweep grants from both queues",
@@ -145,6 +168,8 @@ events! {
     CancelMarked = "cancel: a marked conversion",
     CancelMarkStays = "cancel: a mark stays where nobody waits any more",
     PurgeMany = "purge: five or more locks",
+    PurgeAlike = "purge: two locks of one mode on one resource",
+    PurgeBesideAlike = "purge: a lock beside another client's of its mode",
     PurgeConverting = "purge: a converting lock",
     PurgeWaiting = "purge: a waiting lock",
     PurgeBothQueues = "purge: converting and waiting locks",
@@ -232,6 +257,11 @@ events! {
     SoundLargestFull = "sound: R 256, L 1024 with all resources and all locks in use",
     SoundEveryState = "sound: locks of every state, resources free and in use",
     SoundEveryCompletion = "sound: notices with completions 1, 2 and 3",
+    SoundEveryHeld = "sound: every mode held, by granted and by converting locks",
+    SoundAllNl = "sound: 1,024 locks hold NL on one name",
+    SoundAllCr = "sound: 1,024 locks hold CR on one name",
+    SoundAllCw = "sound: 1,024 locks hold CW on one name",
+    SoundAllPr = "sound: 1,024 locks hold PR on one name",
     SoundEveryMark = "sound: every mark, of granted and of converting locks",
     SoundMarkUnread = "sound: a mark beside completion 1, and one beside 3",
     SoundLongestName = "sound: a name of 64 bytes",
@@ -275,6 +305,7 @@ pub fn events(before: &State, call: &Call, answer: u64, refused: Option<u32>, af
         _ => {}
     }
     if refused.is_none() {
+        note_held(before, call, answer, after, &mut found);
         note_marks(before, call, answer, after, &mut found);
         note_purge(before, call, &mut found);
         note_waiters(before, call, answer, after, &mut found);
@@ -286,7 +317,7 @@ pub fn events(before: &State, call: &Call, answer: u64, refused: Option<u32>, af
     found
 }
 
-fn sizes_of(state: &State) -> Sizes {
+pub fn sizes_of(state: &State) -> Sizes {
     (state.most_resources, state.most_locks)
 }
 

@@ -1,8 +1,8 @@
 //! Managers with a mistake, for showing that it is found.
 
 use crate::manager::{Flat, Listed, Manager, Tables, accepted, lock, mark, purged_blocked, purged_unread, refusal, result};
-use model::layout::{self, MOST_CLIENT, header, lock_at};
-use model::{Lock, Standing, State, Unread};
+use model::layout::{self, MOST_CLIENT, header, lock_at, resource_at};
+use model::{Flaw, Lock, Standing, State, Unread};
 
 /// The mistakes that a faulty manager makes.
 #[derive(Clone, Copy, Debug)]
@@ -13,6 +13,10 @@ pub enum Mistake {
     SlotByte,
     /// Unsound tables with a nonzero word 7 are taken for sound.
     Soundness,
+    /// Unsound tables whose counts of held modes aren't true are taken for sound.
+    WrongCounts,
+    /// A conversion in place leaves the counts of held modes as they are.
+    Uncounted,
     /// A new request goes past those that wait, as it did before document 02.
     Overtaking,
     /// A poll doesn't tell the mark.
@@ -51,7 +55,14 @@ impl Manager for Faulty {
     }
 
     fn convert(&self, t: &mut Tables, client: u32, lock: u32, mode: u32, flags: u32, value: &[u8]) -> u64 {
-        Flat.convert(t, client, lock, mode, flags, value)
+        let before = t.words.clone();
+        let answer = Flat.convert(t, client, lock, mode, flags, value);
+        if let (Mistake::Uncounted, 1) = (self.0, answer) {
+            let resource = before[lock_at(before[header::RESOURCES], lock, layout::lock::RESOURCE)];
+            let places = layout::resource::COUNTS.map(|field| resource_at(resource, field));
+            places.into_iter().for_each(|at| t.words[at] = before[at]);
+        }
+        answer
     }
 
     fn release(&self, t: &mut Tables, client: u32, lock: u32, flags: u32, value: &[u8]) -> u64 {
@@ -127,6 +138,9 @@ impl Manager for Faulty {
     }
 
     fn sound(&self, t: &Tables) -> u32 {
+        if let (Mistake::WrongCounts, Err(Flaw::Count)) = (self.0, State::read_tables(&t.words, &t.slots)) {
+            return 1;
+        }
         let mut eased = t.clone();
         if let (Mistake::Soundness, Some(word)) = (self.0, eased.words.get_mut(header::ZERO)) {
             *word = 0;

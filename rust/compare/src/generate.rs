@@ -6,9 +6,9 @@ use crate::damages::DAMAGES;
 use crate::manager::Tables;
 use crate::rng::Rng;
 use crate::sizes::{BUFFERS, LARGEST, MIDDLE, SMALL, SMALLEST, Sizes, fitting, lengths, over};
-use crate::states::{Filling, VARIED, random, varied};
+use crate::states::{Filling, VARIED, alike, random, varied};
 use model::layout::{self, MOST_CLIENT, MOST_LOCKS, MOST_RESOURCES, NAME_BYTES, SLOT_BYTES, VALUE_BYTES, WORD_BYTES};
-use model::{Lock, State};
+use model::{Lock, Mode, State};
 
 /// What a game's next call may be, with how often it comes. A game multiplies these by numbers of its own.
 const ACTIONS: [(Action, usize); 15] = [
@@ -64,13 +64,19 @@ const CHOSEN_SIZES: [Sizes; 9] =
 const CHOSEN_FILLS: [Fill; 3] = [Fill::Started, Fill::Half, Fill::Full];
 
 /// Games of smaller seeds than this are chosen ones: those of chosen sizes, then three that make every damage in turn: of the tables, of an
-/// image that is loaded, and of an image that holder is asked about; then one in which a single client has all locks of the largest tables.
-pub const CHOSEN: u64 = ALONE + 1;
+/// image that is loaded, and of an image that holder is asked about; then one in which a single client has all locks of the largest tables; then
+/// those in which all locks of the largest tables hold one mode on one name.
+pub const CHOSEN: u64 = ALIKE + ALIKE_MODES.len() as u64;
+const ALIKE: u64 = ALONE + 1;
 const ALONE: u64 = SIZED + 3;
 const SIZED: u64 = (CHOSEN_SIZES.len() * CHOSEN_FILLS.len()) as u64;
 
+/// The modes that all locks can hold on one name.
+const ALIKE_MODES: [Mode; 4] = [Mode::Nl, Mode::Cr, Mode::Cw, Mode::Pr];
+
 /// How many calls a chosen game has.
 const CHOSEN_LENGTH: usize = 150;
+const ALIKE_LENGTH: usize = 20;
 
 /// What the tables of a game hold at first.
 #[derive(Clone, Copy, PartialEq, Eq)]
@@ -82,6 +88,8 @@ enum Fill {
     Half,
     /// All resources are in use and all locks, as far as there are.
     Full,
+    /// All locks hold a mode on one name.
+    Alike(Mode),
 }
 
 /// How often the actions come in games of other styles than the plain one.
@@ -89,6 +97,7 @@ const RING: [usize; 15] = [60, 4, 2, 2, 1, 5, 12, 1, 1, 1, 1, 1, 1, 1, 3];
 const PILE: [usize; 15] = [50, 14, 10, 4, 1, 3, 16, 1, 1, 1, 1, 1, 1, 1, 3];
 const IMAGES: [usize; 15] = [8, 8, 3, 1, 0, 1, 4, 1, 1, 6, 30, 30, 2, 0, 8];
 const PURGES: [usize; 15] = [0, 0, 0, 0, 1, 0, 0, 0, 0, 0, 0, 0, 0, 0, 0];
+const TURNS: [usize; 15] = [8, 2, 8, 0, 1, 0, 0, 0, 0, 0, 0, 0, 1, 0, 0];
 const LINES: [usize; 15] = [30, 24, 13, 6, 2, 6, 16, 0, 0, 0, 0, 0, 0, 0, 0];
 
 /// What a game is out for.
@@ -127,6 +136,12 @@ impl Game {
     /// The game of a seed.
     pub fn new(seed: u64) -> Game {
         let mut rng = Rng::new(seed);
+        if (ALIKE..CHOSEN).contains(&seed) {
+            let mode = ALIKE_MODES[(seed - ALIKE) as usize];
+            let game = Game::of(rng, LARGEST, Style::Plain, ALIKE_LENGTH);
+            let modes = Mode::ALL.map(|other| usize::from(other == mode));
+            return Game { fill: Fill::Alike(mode), names: vec![alike_name(0)], modes, actions: TURNS.to_vec(), ..game };
+        }
         if seed == ALONE {
             let game = Game::of(rng, LARGEST, Style::Images, 3);
             return Game { fill: Fill::Full, clients: vec![MOST_CLIENT], actions: PURGES.to_vec(), ..game };
@@ -183,6 +198,9 @@ impl Game {
         if let Style::Damages(_) = self.style {
             return load_of(&varied());
         }
+        if let Fill::Alike(mode) = self.fill {
+            return load_of(&alike(LARGEST, &self.clients, &self.names[0], mode));
+        }
         let (resources, locks) = (self.resources, self.locks);
         let start = match self.fill {
             // Large tables are hardly ever filled by calls alone.
@@ -195,7 +213,7 @@ impl Game {
         let used = match self.fill {
             Fill::Half => Some(resources.div_ceil(2)),
             Fill::Full => Some(resources),
-            Fill::Any | Fill::Started => None,
+            Fill::Any | Fill::Started | Fill::Alike(_) => None,
         };
         self.load_random(resources, locks, used)
     }

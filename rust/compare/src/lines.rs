@@ -242,6 +242,7 @@ fn comes(given: &Given) -> bool {
 fn met(event: &Event) -> bool {
     let too_much = [
         Event::DeepWaitQueue,
+        Event::RequestCountsMost,
         Event::BreakMiddle,
         Event::BreakLarge,
         Event::PurgeManyBlocked,

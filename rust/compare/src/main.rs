@@ -11,11 +11,13 @@ mod every;
 #[cfg(test)]
 mod faulty;
 mod generate;
+mod held;
 mod inputs;
 mod lines;
 mod lockplay;
 mod manager;
 mod marks;
+mod miscounts;
 mod play;
 mod program;
 mod purges;
@@ -375,10 +377,10 @@ mod tests {
     /// What doesn't add up where both managers make the mistake, and the entry of the last call that is left.
     fn found_by_sums(mistake: Mistake) -> (String, Option<Entry>) {
         let faulty = Faulty(mistake);
-        let failed = play(&faulty, &faulty, 1, 30_000).err().expect("the mistake is found");
+        let failed = play(&faulty, &faulty, 2, 30_000).err().expect("the mistake is found");
         let short = shrink_calls(&faulty, &faulty, &failed.calls, 4000);
         let told = play_list(&faulty, &faulty, &short).map(|(_, difference)| difference.to_string());
-        assert!(short.len() <= 6, "{} calls are left", short.len());
+        assert!(short.len() <= 6, "{mistake:?}: {} calls are left", short.len());
         assert!(play_list(&Flat, &Flat, &short).is_none(), "it is the mistake's");
         (told.expect("the shorter list shows it too"), short.last().map(Call::entry))
     }
@@ -412,8 +414,18 @@ mod tests {
 
     #[test]
     fn a_difference_in_soundness_is_found() {
-        let (_, short) = found(Mistake::Soundness);
-        assert!(short.len() <= 2, "{} calls are left", short.len());
+        for mistake in [Mistake::Soundness, Mistake::WrongCounts] {
+            let (failed, short) = found(mistake);
+            assert!(matches!(failed.difference, Difference::Sound(1, 0) | Difference::Sound(0, 1)), "{mistake:?}: {}", failed.difference);
+            assert!(short.len() <= 2, "{mistake:?}: {} calls are left", short.len());
+        }
+    }
+
+    #[test]
+    fn a_conversion_that_is_not_counted_is_found() {
+        let (failed, short) = found(Mistake::Uncounted);
+        assert!(matches!(failed.difference, Difference::Words { .. }), "{}", failed.difference);
+        assert_eq!(short.last().map(Call::entry), Some(Entry::Convert));
     }
 
     /// Every word of many small states is set to every number that may matter, and every slot byte changed.

@@ -76,10 +76,10 @@ fn held_up(before: &State, lock: &Lock) -> bool {
 mod tests {
     use crate::lines::LineCounts;
 
-    /// What is noted of a purge of client 1 after a script of lockplay, besides what it frees and sweeps.
+    /// What is noted of a purge of client 1 after a script of lockplay, besides what it frees and sweeps and the modes of its locks.
     fn noted(script: &str) -> Vec<String> {
         let all = LineCounts::occurring(&format!("{script}p 1\n"), "purge:");
-        let elsewhere = ["frees", "sweep", "value", "five or more", "a marked", "a mark stays"];
+        let elsewhere = ["frees", "sweep", "value", "five or more", "a marked", "a mark stays", "of one mode", "of its mode"];
         all.into_iter().filter(|what| !elsewhere.iter().any(|word| what.contains(word))).collect()
     }
 

@@ -54,9 +54,9 @@ pub fn random(rng: &mut Rng, filling: &Filling) -> State {
 /// The sizes of [`varied`].
 pub const VARIED: Sizes = (8, 32);
 
-/// A state in which every damage has a place: locks of every state on several resources, and at least two records on every chain.
+/// A state in which every damage has a place: locks of every state and mode on several resources, and at least two records on every chain.
 pub fn varied() -> State {
-    use Mode::{Cr, Ex, Nl, Pr, Pw};
+    use Mode::{Cr, Cw, Ex, Nl, Pr, Pw};
     let mut state = started(VARIED.0, VARIED.1);
     let names: [&[u8]; 5] = [b"vip-7", b"vip-8", b"a", b"a\0", &[b'n'; NAME_BYTES]];
     for name in names {
@@ -93,6 +93,8 @@ pub fn varied() -> State {
         waiting(4, Ex),
         Standing::Denied,
         granted(5, Nl, None),
+        granted(3, Pw, None),
+        granted(5, Cw, None),
     ];
     for (at, standing) in standings.into_iter().enumerate() {
         put(&mut state, 1 + at as u8 % 4, standing);
@@ -100,6 +102,17 @@ pub fn varied() -> State {
     // Of each kind of lock that may have a mark, some have one and others none.
     for (number, mark) in [(2, Ex), (6, Pw), (7, Ex), (12, Cr), (17, Ex), (18, Ex), (20, Ex)] {
         set_mark(&mut state, number, mark);
+    }
+    state
+}
+
+/// A state in which all locks there are hold a mode on one name, by clients in turn.
+pub fn alike((resources, locks): Sizes, clients: &[u32], name: &[u8], held: Mode) -> State {
+    let mut state = started(resources, locks);
+    let resource = state.free_resources.pop_front().expect("all are free");
+    state.resources.insert(resource, Resource::new(name));
+    for client in clients.iter().cycle().take(locks as usize) {
+        put(&mut state, *client as u8, Standing::Granted { resource, held, unread: None });
     }
     state
 }
@@ -265,8 +278,10 @@ mod tests {
     }
 
     #[test]
-    fn the_varied_state_is_sound() {
-        let (words, slots) = varied().to_tables();
-        assert_eq!(State::read_tables(&words, &slots), Ok(varied()));
+    fn made_states_are_sound() {
+        for state in [varied(), alike((2, 9), &[1, 2], b"a", Mode::Cw)] {
+            let (words, slots) = state.to_tables();
+            assert_eq!(State::read_tables(&words, &slots), Ok(state));
+        }
     }
 }

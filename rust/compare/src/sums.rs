@@ -221,7 +221,8 @@ mod tests {
     #[test]
     fn fresh_tables_hold_nothing() {
         let what = Sums::default().play(&Call::start(8, 32), 0, &varied_tables());
-        assert!(what.is_err_and(|what| what.starts_with("accepted requests 0, but locks in use 25 + ")));
+        let in_use = varied().locks.len();
+        assert!(what.is_err_and(|what| what.starts_with(&format!("accepted requests 0, but locks in use {in_use} + "))));
     }
 
     #[test]
@@ -232,7 +233,8 @@ mod tests {
             board.play(&Call::Poll { client }).expect("adds up");
             board.play(&Call::Purge { client }).expect("adds up");
         }
-        assert_eq!(board.sums().locks.terms(), [25, 0, 0, 0, 25 - board.sums().locks.denials, board.sums().locks.denials]);
+        let in_use = varied().locks.len() as u64;
+        assert_eq!(board.sums().locks.terms(), [in_use, 0, 0, 0, in_use - board.sums().locks.denials, board.sums().locks.denials]);
         assert_eq!(board.sums().terms(), [], "it isn't a list from fresh tables");
     }
 

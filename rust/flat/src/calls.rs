@@ -2,11 +2,12 @@
 
 use crate::Refused;
 use crate::deadlock;
+use crate::held::recount;
 use crate::layout::{
-    LockRecord, MOST_CLIENT, MOST_RESOURCES, NAME_BYTES, Records, ResourceRecord, Slot, VALUE_BYTES, Value, completion, head, lock,
-    noticed, resource, sizes_allowed, slots_for, state, words_for,
+    LockRecord, MOST_CLIENT, MOST_RESOURCES, NAME_BYTES, Records, ResourceRecord, Slot, VALUE_BYTES, Value, completion, head, held_mode,
+    lock, noticed, resource, sizes_allowed, slots_for, state, words_for,
 };
-use crate::modes::{EX, NL, PW, admits, down};
+use crate::modes::{EX, NL, PW, down};
 use crate::queues::{Queues, find};
 
 const STORE: u32 = 1;
@@ -115,7 +116,8 @@ pub fn request(words: &mut [u32], slots: &mut [u8], client: u32, mode: u32, flag
     demand(known != 0 || records.head[head::FREE_RESOURCE] != 0, 11)?;
     demand(records.head[head::FREE_LOCK] != 0, 12)?;
     let mut queues = Queues::cut(words);
-    let granted = known == 0 || nobody_ahead(queues.resource(known), mode) && admits(mode, queues.held_beside(known, 0));
+    let fits = known == 0 || queues.fits(known, mode, None);
+    let granted = known == 0 || fits && nobody_ahead(queues.resource(known), mode);
     demand(granted || flags & DONT_QUEUE == 0, 13)?;
 
     let number = if known != 0 { known } else { new_resource(&mut queues, slots, name) };
@@ -128,14 +130,13 @@ pub fn request(words: &mut [u32], slots: &mut [u8], client: u32, mode: u32, flag
         record[lock::HELD] = mode;
         *queues.lock(k) = record;
         queues.append_home(number, resource::GRANT, k);
+        recount(queues.resource(number), None, Some(mode));
         Ok((GRANTED, k))
     } else {
         record[lock::STATE] = state::WAITING;
         record[lock::ASKED] = mode;
         *queues.lock(k) = record;
-        queues.append_home(number, resource::WAIT, k);
-        queues.append_blocked(k);
-        queues.mark_holders(number, k, mode);
+        queues.queue(number, resource::WAIT, k, fits);
         Ok((WAITS, k))
     }
 }
@@ -165,11 +166,13 @@ pub fn convert(words: &mut [u32], slots: &mut [u8], client: u32, k: u32, mode: u
     check_value(flags, value)?;
     let record = own_granted(queues.locks, client, k)?;
     let (number, held) = (record[lock::RESOURCE], record[lock::HELD]);
-    let in_place = down(held, mode) || queues.resource(number)[resource::CONVERT] == 0 && admits(mode, queues.held_beside(number, k));
+    let fits = queues.fits(number, mode, Some(held));
+    let in_place = down(held, mode) || fits && queues.resource(number)[resource::CONVERT] == 0;
     demand(in_place || flags & DONT_QUEUE == 0, 13)?;
 
     if in_place {
         queues.lock(k)[lock::HELD] = mode;
+        recount(queues.resource(number), Some(held), Some(mode));
         if held >= PW && mode < held {
             act_on_value(&mut queues, slots, number, flags, value);
         }
@@ -180,9 +183,7 @@ pub fn convert(words: &mut [u32], slots: &mut [u8], client: u32, k: u32, mode: u
         let record = queues.lock(k);
         record[lock::STATE] = state::CONVERTING;
         record[lock::ASKED] = mode;
-        queues.append_home(number, resource::CONVERT, k);
-        queues.append_blocked(k);
-        queues.mark_holders(number, k, mode);
+        queues.queue(number, resource::CONVERT, k, fits);
         Ok(WAITS)
     }
 }
@@ -200,6 +201,7 @@ pub fn release(words: &mut [u32], slots: &mut [u8], client: u32, k: u32, flags: 
         act_on_value(&mut queues, slots, number, flags, value);
     }
     queues.remove_home(number, resource::GRANT, k);
+    recount(queues.resource(number), Some(held), None);
     if noticed(queues.lock(k)) {
         queues.remove_notice(k);
     }
@@ -244,8 +246,11 @@ pub fn purge(words: &mut [u32], slots: &mut [u8], client: u32) -> Result<(u32, u
         blocked += u32::from(matches!(record[lock::STATE], state::CONVERTING | state::WAITING));
         unread += u32::from(record[lock::COMPLETION] != completion::NONE);
         touched[number] = true;
-        if record[lock::HELD] >= PW {
-            queues.resources[number - 1][resource::VALID] = 0;
+        if let Some(mode) = held_mode(record) {
+            recount(&mut queues.resources[number - 1], Some(mode), None);
+            if mode >= PW {
+                queues.resources[number - 1][resource::VALID] = 0;
+            }
         }
     }
     if count == 0 {

@@ -5,7 +5,7 @@
 //! exactly if its component has a second node: a lock that leads to itself at once does so through its client.
 
 use crate::layout::{MOST_CLIENT, head, lock, resource, state};
-use crate::modes::{admits, only};
+use crate::modes::compatible;
 use crate::queues::Queues;
 
 /// The first lock on the blocked chain that leads back to itself, or 0.
@@ -147,7 +147,7 @@ impl<'a> Search<'a> {
                     step.next = Next::Holder(self.holder_after(at));
                     if at != step.node
                         && self.first_of[client as usize] != 0
-                        && !admits(locks[step.node as usize - 1][lock::ASKED], only(holder[lock::HELD]))
+                        && !compatible(locks[step.node as usize - 1][lock::ASKED], holder[lock::HELD])
                     {
                         return Some(self.client_node(client));
                     }

@@ -38,8 +38,9 @@ pub mod resource {
     pub const WAIT: usize = 3;
     pub const NAME_LENGTH: usize = 4;
     pub const VALID: usize = 5;
-    pub const ZEROS: std::ops::Range<usize> = 6..WIDTH;
-    pub const WIDTH: usize = 8;
+    /// How many locks hold NL to EX, a word for each.
+    pub const COUNTS: std::ops::Range<usize> = 6..WIDTH;
+    pub const WIDTH: usize = 12;
 }
 
 /// The words of a lock's record. The link of its home chain comes first.
@@ -86,6 +87,12 @@ pub type LockRecord = [u32; lock::WIDTH];
 pub type Value = [u8; VALUE_BYTES];
 /// A resource's name and value block.
 pub type Slot = [u8; NAME_BYTES + VALUE_BYTES];
+
+/// The mode that a lock's record holds; none if it waits, is denied or free.
+#[inline]
+pub fn held_mode(record: &LockRecord) -> Option<u32> {
+    matches!(record[lock::STATE], state::GRANTED | state::CONVERTING).then_some(record[lock::HELD])
+}
 
 /// Whether a lock's record has a completion or a mark, and so stands on the notice chain.
 #[inline]

@@ -1,4 +1,4 @@
-//! The lock manager of document 01, with document 02's, in plain Rust, on the same flat tables and with the same check of them
+//! The lock manager of document 01, with document 02's, in plain Rust, on the same flat tables and with the same check of them
 //! first in each call.
 //!
 //! It is what a careful engineer would write for speed without proofs: the benchmark's opponent. All state is in the lent words and slots.
@@ -8,6 +8,7 @@
 
 mod calls;
 mod deadlock;
+mod held;
 mod image;
 pub mod layout;
 mod modes;

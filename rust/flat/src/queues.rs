@@ -1,7 +1,8 @@
 //! The chains of sound tables, and what the calls do with them.
 
-use crate::layout::{Head, LockRecord, Records, ResourceRecord, completion, head, lock, noticed, resource, state};
-use crate::modes::{Held, admits, only};
+use crate::held::{Held, recount};
+use crate::layout::{Head, LockRecord, Records, ResourceRecord, completion, head, held_mode, lock, noticed, resource, state};
+use crate::modes::compatible;
 use crate::{Refused, sound};
 
 /// The words of sound tables, cut into records.
@@ -97,34 +98,11 @@ impl<'a> Queues<'a> {
         &mut self.resources[number as usize - 1]
     }
 
-    /// The modes held on a resource by locks other than a given one (0: than none), as a set.
-    pub fn held_beside(&self, number: u32, other_than: u32) -> u8 {
-        let mut set = 0;
-        for chain in [resource::GRANT, resource::CONVERT] {
-            let mut at = self.resources[number as usize - 1][chain];
-            while at != 0 {
-                let record = &self.locks[at as usize - 1];
-                if at != other_than {
-                    set |= only(record[lock::HELD]);
-                }
-                at = record[lock::HOME];
-            }
-        }
-        set
-    }
-
-    /// How often each mode is held on a resource.
-    fn held(&self, number: u32) -> Held {
-        let mut held = Held::default();
-        for chain in [resource::GRANT, resource::CONVERT] {
-            let mut at = self.resources[number as usize - 1][chain];
-            while at != 0 {
-                let record = &self.locks[at as usize - 1];
-                held.add(record[lock::HELD]);
-                at = record[lock::HOME];
-            }
-        }
-        held
+    /// Whether a mode is compatible with every mode held on a resource, but for a lock's own if it holds one.
+    #[inline]
+    pub fn fits(&self, number: u32, mode: u32, own: Option<u32>) -> bool {
+        let held = Held::counted(&self.resources[number as usize - 1]);
+        own.map_or(held, |own| held.but(own)).admit(mode)
     }
 
     pub fn append_home(&mut self, number: u32, chain: usize, k: u32) {
@@ -135,8 +113,13 @@ impl<'a> Queues<'a> {
         remove(&mut self.resources[number as usize - 1][chain], self.locks, lock::HOME, k);
     }
 
-    pub fn append_blocked(&mut self, k: u32) {
+    /// Puts a lock at the end of the convert or wait chain of a resource, where it is blocked. If its asked mode fits, nobody is in its way.
+    pub fn queue(&mut self, number: u32, chain: usize, k: u32, fits: bool) {
+        self.append_home(number, chain, k);
         append(&mut self.head[head::BLOCKED], self.locks, lock::BLOCKED, k);
+        if !fits {
+            self.mark_holders(number, k);
+        }
     }
 
     pub fn remove_blocked(&mut self, k: u32) {
@@ -147,15 +130,16 @@ impl<'a> Queues<'a> {
         append(&mut self.head[head::NOTICE], self.locks, lock::NOTICE, k);
     }
 
-    /// Marks those on a resource, but for one lock, whose held mode isn't compatible with a mode. The notice chain's end is looked for once.
-    pub fn mark_holders(&mut self, number: u32, other_than: u32, mode: u32) {
+    /// Marks those on a blocked lock's resource whose held mode isn't compatible with its asked one. The notice chain's end is looked for once.
+    fn mark_holders(&mut self, number: u32, k: u32) {
+        let mode = self.lock(k)[lock::ASKED];
         let mut end = None;
         for chain in [resource::GRANT, resource::CONVERT] {
             let mut at = self.resources[number as usize - 1][chain];
             while at != 0 {
                 let record = &mut self.locks[at as usize - 1];
                 let next = record[lock::HOME];
-                if at != other_than && !admits(mode, only(record[lock::HELD])) {
+                if at != k && !compatible(mode, record[lock::HELD]) {
                     let joins = !noticed(record);
                     record[lock::MARK] = record[lock::MARK].max(mode);
                     if joins {
@@ -242,36 +226,20 @@ impl<'a> Queues<'a> {
 
     /// Grants convert heads while they are grantable, then wait heads.
     pub fn sweep(&mut self, number: u32) {
-        let record = *self.resource(number);
-        if record[resource::CONVERT] == 0 && record[resource::WAIT] == 0 {
-            return;
-        }
-        let mut held = self.held(number);
         let mut ends = Ends::default();
         loop {
-            let k = self.resource(number)[resource::CONVERT];
-            if k == 0 {
-                break;
-            }
-            let (has, asks) = (self.lock(k)[lock::HELD], self.lock(k)[lock::ASKED]);
-            held.remove(has);
-            if !admits(asks, held.set()) {
-                return;
-            }
-            held.add(asks);
-            self.grant_head(number, resource::CONVERT, k, &mut ends);
-        }
-        loop {
-            let k = self.resource(number)[resource::WAIT];
+            let record = self.resource(number);
+            let chain = if record[resource::CONVERT] != 0 { resource::CONVERT } else { resource::WAIT };
+            let k = record[chain];
             if k == 0 {
                 return;
             }
-            let asks = self.lock(k)[lock::ASKED];
-            if !admits(asks, held.set()) {
+            let head = self.lock(k);
+            let (held, asked) = (held_mode(head), head[lock::ASKED]);
+            if !self.fits(number, asked, held) {
                 return;
             }
-            held.add(asks);
-            self.grant_head(number, resource::WAIT, k, &mut ends);
+            self.grant_head(number, chain, k, &mut ends);
         }
     }
 
@@ -281,9 +249,11 @@ impl<'a> Queues<'a> {
         let record = self.lock(k);
         let joins = !noticed(record);
         let next = std::mem::take(&mut record[lock::HOME]);
-        record[lock::HELD] = std::mem::take(&mut record[lock::ASKED]);
+        let (held, asked) = (held_mode(record), std::mem::take(&mut record[lock::ASKED]));
+        record[lock::HELD] = asked;
         record[lock::STATE] = state::GRANTED;
         record[lock::COMPLETION] = completion::GRANTED;
+        recount(self.resource(number), held, Some(asked));
         self.resource(number)[chain] = next;
         join(&mut ends.granted, &mut self.resources[number as usize - 1][resource::GRANT], self.locks, lock::HOME, k);
         if joins {

@@ -3,12 +3,13 @@
 //! A chain that ends has each of its records once, since a record that came twice would come forever. Each home chain asks for a state and
 //! a resource of its own, so no lock can be on two of them. What is left is counting: the home chains together must have exactly L locks,
 //! the blocked chain as many as are blocked, the notice chain as many as have a completion or a mark, the free chain as many resources as
-//! have no name.
+//! have no name, and a resource as many locks of each mode as its record says.
 
+use crate::held::Held;
 use crate::layout::{
     LockRecord, MOST_CLIENT, MOST_RESOURCES, NAME_BYTES, Records, ResourceRecord, Slot, completion, head, lock, noticed, resource, state,
 };
-use crate::modes::{EX, admits, only};
+use crate::modes::EX;
 
 /// Whether tables are sound.
 pub fn sound(words: &[u32], slots: &[u8]) -> bool {
@@ -115,17 +116,17 @@ impl Records<'_> {
 
     fn used_resource(&self, number: u32, record: &ResourceRecord, slot: &Slot, census: &mut Census) -> Option<()> {
         let length = record[resource::NAME_LENGTH] as usize;
-        need(record[resource::NEXT] == 0 && record[resource::VALID] <= 1 && all_zero(&record[resource::ZEROS]))?;
+        need(record[resource::NEXT] == 0 && record[resource::VALID] <= 1)?;
         need(length <= NAME_BYTES && zero_from(&slot[..NAME_BYTES], length))?;
         let before = census.locks;
-        let mut held = 0;
+        let mut held = Held::default();
         self.granted_locks(number, record[resource::GRANT], &mut held, census)?;
         self.converting_locks(number, record[resource::CONVERT], &mut held, census)?;
         self.waiting_locks(number, record, held, census)?;
-        need(census.locks > before)
+        need(census.locks > before && held.are_counted(record))
     }
 
-    fn granted_locks(&self, number: u32, first: u32, held: &mut u8, census: &mut Census) -> Option<()> {
+    fn granted_locks(&self, number: u32, first: u32, held: &mut Held, census: &mut Census) -> Option<()> {
         let mut notices = 0;
         self.home_chain(first, census, |record| {
             let told = record[lock::COMPLETION];
@@ -135,10 +136,10 @@ impl Records<'_> {
                 && matches!(told, completion::NONE | completion::GRANTED | completion::CONVERSION_DENIED)
                 && record[lock::MARK] <= EX
                 && in_use(record, false, noticed(record))
-                && admits(record[lock::HELD], *held);
+                && held.admit(record[lock::HELD]);
             notices += usize::from(noticed(record));
             if right {
-                *held |= only(record[lock::HELD]);
+                *held = held.and(record[lock::HELD]);
             }
             right
         })?;
@@ -146,11 +147,8 @@ impl Records<'_> {
         Some(())
     }
 
-    fn converting_locks(&self, number: u32, first: u32, held: &mut u8, census: &mut Census) -> Option<()> {
+    fn converting_locks(&self, number: u32, first: u32, held: &mut Held, census: &mut Census) -> Option<()> {
         let before = census.locks;
-        // The head must not be grantable beside the others, so the modes held by them are kept apart from its own.
-        let mut beside_head = *held;
-        let mut position = 0;
         let mut notices = 0;
         self.home_chain(first, census, |record| {
             let right = record[lock::STATE] == state::CONVERTING
@@ -158,23 +156,24 @@ impl Records<'_> {
                 && record[lock::COMPLETION] == completion::NONE
                 && record[lock::MARK] <= EX
                 && in_use(record, true, noticed(record))
-                && admits(record[lock::HELD], *held);
+                && held.admit(record[lock::HELD]);
             notices += usize::from(noticed(record));
             if right {
-                *held |= only(record[lock::HELD]);
-                if position > 0 {
-                    beside_head |= only(record[lock::HELD]);
-                }
-                position += 1;
+                *held = held.and(record[lock::HELD]);
             }
             right
         })?;
         census.blocked += census.locks - before;
         census.noticed += notices;
-        need(first == 0 || !admits(self.locks[first as usize - 1][lock::ASKED], beside_head))
+        if first == 0 {
+            return Some(());
+        }
+        // The head must not be grantable beside the others.
+        let head = &self.locks[first as usize - 1];
+        need(!held.but(head[lock::HELD]).admit(head[lock::ASKED]))
     }
 
-    fn waiting_locks(&self, number: u32, record: &ResourceRecord, held: u8, census: &mut Census) -> Option<()> {
+    fn waiting_locks(&self, number: u32, record: &ResourceRecord, held: Held, census: &mut Census) -> Option<()> {
         let before = census.locks;
         let first = record[resource::WAIT];
         self.home_chain(first, census, |record| {
@@ -185,7 +184,7 @@ impl Records<'_> {
                 && in_use(record, true, false)
         })?;
         census.blocked += census.locks - before;
-        let held_up = first == 0 || record[resource::CONVERT] != 0 || !admits(self.locks[first as usize - 1][lock::ASKED], held);
+        let held_up = first == 0 || record[resource::CONVERT] != 0 || !held.admit(self.locks[first as usize - 1][lock::ASKED]);
         need(held_up)
     }
 

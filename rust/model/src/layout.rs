@@ -46,8 +46,9 @@ pub mod resource {
     pub const WAIT: usize = 3;
     pub const NAME_LENGTH: usize = 4;
     pub const VALIDITY: usize = 5;
-    pub const ZEROS: [usize; 2] = [6, 7];
-    pub const WIDTH: usize = 8;
+    /// How many locks hold NL to EX, a word for each.
+    pub const COUNTS: [usize; 6] = [6, 7, 8, 9, 10, 11];
+    pub const WIDTH: usize = 12;
 
     /// Those that name a lock.
     pub const LOCK_HEADS: [usize; 3] = [GRANT, CONVERT, WAIT];

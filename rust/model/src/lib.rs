@@ -1,4 +1,4 @@
-//! An independent model of the lock manager of document 01, with what document 02 has added to it so far.
+//! An independent model of the lock manager of document 01, with what document 02 has added to it so far.
 //!
 //! It is written from the papers alone and made to be read beside them, not to be fast. A [`State`] is a value of its own form: maps of the
 //! records in use and queues of record numbers. [`State::to_tables`] writes out every word and slot that the paper prescribes for it, and

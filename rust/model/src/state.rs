@@ -1,7 +1,8 @@
 //! What the tables mean: records in use, by number, and queues of record numbers.
 //!
 //! The types leave out much that soundness must forbid in the tables: a free record has no fields at all, a waiting lock no held mode, and
-//! only granted and denied locks can have a completion. That only granted and converting locks have a mark is the calls' to keep.
+//! only granted and denied locks can have a completion. That only granted and converting locks have a mark is the calls' to keep. How many
+//! locks hold each mode on a resource, which its record counts, follows from where they stand.
 
 use crate::Mode;
 use crate::layout::{VALUE_BYTES, Value};
@@ -191,6 +192,12 @@ impl State {
     /// The number of the resource of a name.
     pub fn named(&self, name: &[u8]) -> Option<u32> {
         self.resources.iter().find(|(_, resource)| resource.name == name).map(|(number, _)| *number)
+    }
+
+    /// How many locks, granted and converting ones, hold each mode on a resource: NL to EX.
+    pub fn counts(&self, resource: u32) -> [u32; 6] {
+        let held: Vec<Mode> = self.resources[&resource].holders().filter_map(|lock| self.locks[&lock].held()).collect();
+        Mode::ALL.map(|mode| held.iter().filter(|other| **other == mode).count() as u32)
     }
 
     /// Whether a mode is compatible with every mode held on a resource by a lock other than the given one (0: other than none).

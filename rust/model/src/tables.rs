@@ -61,6 +61,8 @@ pub enum Flaw {
     BlockedLink,
     /// A lock off the notice chain has a link there.
     NoticeLink,
+    /// A resource in use counts more or fewer locks that hold a mode than there are.
+    Count,
     /// Two held modes on a resource aren't compatible.
     Clash,
     /// A convert head is grantable.
@@ -71,7 +73,7 @@ pub enum Flaw {
 
 impl Flaw {
     /// All flaws, in the order in which they are looked for.
-    pub const ALL: [Flaw; 30] = [
+    pub const ALL: [Flaw; 31] = [
         Flaw::Sizes,
         Flaw::Lengths,
         Flaw::NotZero,
@@ -99,6 +101,7 @@ impl Flaw {
         Flaw::Notices,
         Flaw::BlockedLink,
         Flaw::NoticeLink,
+        Flaw::Count,
         Flaw::Clash,
         Flaw::ConvertHead,
         Flaw::WaitHead,
@@ -120,7 +123,7 @@ impl State {
         writer.locks_chain(header::DENIED, lock::HOME, &self.denied);
         writer.locks_chain(header::BLOCKED, lock::BLOCKED, &self.blocked);
         writer.locks_chain(header::NOTICE, lock::NOTICE, &self.notices);
-        self.resources.iter().for_each(|(number, resource)| writer.resource(*number, resource));
+        self.resources.iter().for_each(|(number, resource)| writer.resource(*number, resource, self.counts(*number)));
         self.locks.iter().for_each(|(number, lock)| writer.lock(*number, lock));
         (writer.words, writer.slots)
     }
@@ -138,6 +141,7 @@ impl State {
         let state = reader.resources(state)?;
         let state = reader.locks(state)?;
         reader.side_chains(&state)?;
+        reader.true_counts(&state)?;
         modes_agree(&state)?;
         Ok(state)
     }
@@ -165,12 +169,13 @@ impl Writer {
         self.chain(head, |number| lock_at(resources, number, link), numbers);
     }
 
-    fn resource(&mut self, number: u32, resource: &Resource) {
+    fn resource(&mut self, number: u32, resource: &Resource, counts: [u32; 6]) {
         self.locks_chain(resource_at(number, resource::GRANT), lock::HOME, &resource.granted);
         self.locks_chain(resource_at(number, resource::CONVERT), lock::HOME, &resource.converting);
         self.locks_chain(resource_at(number, resource::WAIT), lock::HOME, &resource.waiting);
         self.words[resource_at(number, resource::NAME_LENGTH)] = resource.name.len() as u32;
         self.words[resource_at(number, resource::VALIDITY)] = u32::from(resource.valid);
+        resource::COUNTS.into_iter().zip(counts).for_each(|(field, count)| self.words[resource_at(number, field)] = count);
         let slot = &mut self.slots[slot_at(number, 0)..][..SLOT_BYTES];
         slot[..resource.name.len()].copy_from_slice(&resource.name);
         slot[NAME_BYTES..].copy_from_slice(&resource.value);
@@ -261,12 +266,11 @@ impl<'a> Reader<'a> {
         &self.slots[slot_at(number, 0)..][..SLOT_BYTES]
     }
 
-    /// The words given as zero, and the ranges of all indices.
+    /// The word given as zero, and the ranges of all indices.
     fn fixed_words(&self) -> Result<(), Flaw> {
         let resources: Vec<&[u32]> = (1..=self.resources).map(|number| self.resource_words(number)).collect();
         let locks: Vec<&[u32]> = (1..=self.locks).map(|number| self.lock_words(number)).collect();
-        let zeros = resources.iter().all(|record| resource::ZEROS.iter().all(|at| record[*at] == 0));
-        check(self.words[header::ZERO] == 0 && zeros, Flaw::NotZero)?;
+        check(self.words[header::ZERO] == 0, Flaw::NotZero)?;
         let a_resource = |index: u32| index <= self.resources;
         let of_locks = |words: &[u32], places: &[usize]| places.iter().all(|at| words[*at] <= self.locks);
         let heads = a_resource(self.words[header::FREE_RESOURCE]) && of_locks(self.words, &header::LOCK_HEADS);
@@ -405,6 +409,16 @@ impl<'a> Reader<'a> {
         }
         Ok(())
     }
+
+    /// "Sound tables have true counts" (document 02, R-5): of the locks that hold NL to EX on each resource in use. Those of a free one are
+    /// zeros, like all else in its record.
+    fn true_counts(&self, state: &State) -> Result<(), Flaw> {
+        for number in state.resources.keys() {
+            let record = self.resource_words(*number);
+            check(resource::COUNTS.map(|field| record[field]) == state.counts(*number), Flaw::Count)?;
+        }
+        Ok(())
+    }
 }
 
 /// On which home chain each lock stands.
@@ -425,8 +439,8 @@ fn homes(state: &State) -> Result<BTreeMap<u32, Home>, Flaw> {
 
 /// Held modes are pairwise compatible on each resource, and no head is grantable.
 fn modes_agree(state: &State) -> Result<(), Flaw> {
-    for (number, resource) in &state.resources {
-        check(pairwise_compatible(state, resource), Flaw::Clash)?;
+    for number in state.resources.keys() {
+        check(pairwise_compatible(state, *number), Flaw::Clash)?;
         check(state.grantable_convert_head(*number).is_none(), Flaw::ConvertHead)?;
         check(state.grantable_wait_head(*number).is_none(), Flaw::WaitHead)?;
     }
@@ -435,10 +449,8 @@ fn modes_agree(state: &State) -> Result<(), Flaw> {
 
 /// Whether any two locks that hold a mode on a resource hold compatible ones. What two locks hold is all that counts, so it is enough to
 /// look at each two modes that occur, and at a mode beside itself if two locks hold it.
-fn pairwise_compatible(state: &State, resource: &Resource) -> bool {
-    let held: Vec<Mode> = resource.holders().filter_map(|lock| state.locks[&lock].held()).collect();
-    let times = |mode: Mode| held.iter().filter(|other| **other == mode).count();
-    let occurring: Vec<(Mode, usize)> = Mode::ALL.into_iter().map(|mode| (mode, times(mode))).collect();
-    let both = |a: &(Mode, usize), b: &(Mode, usize)| if a.0 == b.0 { a.1 >= 2 } else { a.1 >= 1 && b.1 >= 1 };
+fn pairwise_compatible(state: &State, resource: u32) -> bool {
+    let occurring: Vec<(Mode, u32)> = Mode::ALL.into_iter().zip(state.counts(resource)).collect();
+    let both = |a: &(Mode, u32), b: &(Mode, u32)| if a.0 == b.0 { a.1 >= 2 } else { a.1 >= 1 && b.1 >= 1 };
     occurring.iter().all(|a| occurring.iter().filter(|b| both(a, b)).all(|b| a.0.compatible(b.0)))
 }

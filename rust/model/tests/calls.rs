@@ -1,8 +1,8 @@
 //! What the model's calls do beyond what lockplay shows: values, validity, the orders of chains, and other table sizes; and what document 02
-//! says of marks, of requests that others wait ahead of and of purge's counts. The bench sequences of document 01 are
-//! scripts of lockplay, in `examples/bench`.
+//! says of marks, of requests that others wait ahead of, of purge's counts and of counted modes. The bench sequences
+//! of document 01 are scripts of lockplay, in `examples/bench`.
 
-use model::layout::{VALUE_BYTES, lock, lock_at, slots, words};
+use model::layout::{VALUE_BYTES, lock, lock_at, resource, resource_at, slots, words};
 use model::{Answer, Flaw, Polled, Purged, Refused, State};
 
 const NL: u32 = 0;
@@ -384,7 +384,7 @@ fn judged(lock: u32, field: usize, word: u32) -> Result<State, Flaw> {
 
 #[test]
 fn marks_in_sound_tables() {
-    assert_eq!(words(1, 4), 8 + 8 + 40, "ten words for each lock");
+    assert_eq!(words(0, 4), 8 + 40, "ten words for each lock");
     for mark in CR..=EX {
         assert_eq!(judged(1, lock::MARK, mark).map(|s| s.locks[&1].mark_number()), Ok(mark));
     }
@@ -393,4 +393,53 @@ fn marks_in_sound_tables() {
     assert_eq!(judged(2, lock::MARK, 1), Err(Flaw::Mark), "a waiting lock");
     assert_eq!(judged(3, lock::MARK, 1), Err(Flaw::FreeLock));
     assert!(judged(1, lock::COMPLETION, 1).is_ok(), "a mark beside a completion");
+}
+
+/// The words of a resource that count the locks which hold NL to EX.
+fn counts(state: &State, number: u32) -> [u32; 6] {
+    let (words, _) = state.to_tables();
+    resource::COUNTS.map(|field| words[resource_at(number, field)])
+}
+
+#[test]
+fn held_modes_are_counted() {
+    assert_eq!(words(4, 0), 8 + 48, "twelve words for each resource");
+    assert_eq!(resource_at(2, resource::COUNTS[0]), 8 + 12 + 6, "NL to EX in words 6 to 11");
+    let mut s = state(2, 8);
+    requests(&mut s, &[CR, PW, NL, CR, EX]);
+    assert_eq!(counts(&s, 1), [1, 2, 0, 0, 1, 0], "5 waits and holds nothing, not even NL");
+    assert_eq!(s.convert(3, 3, CW, 0, b""), Ok(Answer::Waits));
+    assert_eq!(counts(&s, 1), [1, 2, 0, 0, 1, 0], "a converting lock by what it holds");
+    assert_eq!(s.release(2, 2, 0, b""), Ok(()));
+    assert_eq!(counts(&s, 1), [0, 2, 1, 0, 0, 0], "the sweep granted 3");
+    assert_eq!(s.convert(4, 4, NL, 0, b""), Ok(Answer::Granted));
+    assert_eq!(counts(&s, 1), [1, 1, 1, 0, 0, 0]);
+    assert_eq!(s.purge(3), Ok(purged(1, 0, 1)));
+    assert_eq!(counts(&s, 1), [1, 1, 0, 0, 0, 0]);
+    assert_eq!(s.purge(1), Ok(purged(1, 0, 0)));
+    assert_eq!(counts(&s, 1), [1, 0, 0, 0, 0, 1], "the sweep granted 5");
+    assert_eq!(s.purge(5), Ok(purged(1, 0, 1)));
+    assert_eq!(s.release(4, 4, 0, b""), Ok(()));
+    assert_eq!(counts(&s, 1), [0; 6], "a freed record keeps nothing");
+}
+
+/// Tables in which resource 1 counts a CR, a PR and an NL lock, which converts, beside one that waits, with these words in place of the six.
+fn judged_counts(number: u32, counts: [u32; 6]) -> Option<Flaw> {
+    let mut s = state(2, 8);
+    requests(&mut s, &[CR, PR, NL, EX]);
+    s.convert(3, 3, EX, 0, b"").unwrap();
+    let (mut words, slots) = s.to_tables();
+    resource::COUNTS.into_iter().zip(counts).for_each(|(field, count)| words[resource_at(number, field)] = count);
+    State::read_tables(&words, &slots).err()
+}
+
+#[test]
+fn counts_in_sound_tables() {
+    assert_eq!(judged_counts(1, [1, 1, 0, 1, 0, 0]), None);
+    for wrong in [[2, 1, 0, 1, 0, 0], [0, 1, 0, 1, 0, 0], [1, 0, 1, 1, 0, 0], [0, 1, 0, 1, 0, 1], [1, 1, 0, 1, 0, u32::MAX], [0; 6]] {
+        assert_eq!(judged_counts(1, wrong), Some(Flaw::Count), "{wrong:?}");
+    }
+    assert_eq!(judged_counts(2, [0; 6]), None);
+    assert_eq!(judged_counts(2, [1, 0, 0, 0, 0, 0]), Some(Flaw::FreeResource));
+    assert_eq!(judged_counts(2, [0, 0, 0, 0, 0, 1]), Some(Flaw::FreeResource));
 }

@@ -29,7 +29,7 @@ pub mod header {
     pub const WIDTH: usize = 8;
 }
 
-/// The words of a resource's record. The last two are zero.
+/// The words of a resource's record.
 #[allow(missing_docs)]
 pub mod resource {
     pub const NEXT: usize = 0;
@@ -38,7 +38,9 @@ pub mod resource {
     pub const WAIT: usize = 3;
     pub const NAME_LENGTH: usize = 4;
     pub const VALIDITY: usize = 5;
-    pub const WIDTH: usize = 8;
+    /// How many locks hold NL to EX, a word for each: granted and converting ones.
+    pub const COUNTS: [usize; 6] = [6, 7, 8, 9, 10, 11];
+    pub const WIDTH: usize = 12;
 }
 
 /// The words of a lock's record.

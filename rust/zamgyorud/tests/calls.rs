@@ -299,9 +299,54 @@ fn unsound_parts_are_refused() {
     let (words, slots) = requested(&[Mode::Ex]).into_parts();
     assert_eq!(Tables::from_parts(words[1..].to_vec(), slots.clone()), Err(Refusal::Unsound));
     assert_eq!(Tables::from_parts(words.clone(), slots[1..].to_vec()), Err(Refusal::Unsound));
-    // Two locks held in modes that exclude each other.
+    // Two locks held in modes that exclude each other, and counted so.
     let (mut held, slots) = requested(&[Mode::Ex, Mode::Nl]).into_parts();
     let second_held = layout::lock_at(held[layout::header::RESOURCES], 2, layout::lock::HELD);
     held[second_held] = Mode::Cr.number();
+    count(&mut held, [0, 1, 0, 0, 0, 1]);
     assert_eq!(Tables::from_parts(held, slots), Err(Refusal::Unsound));
+}
+
+/// What resource 1 counts: the locks that hold NL to EX.
+fn counts(t: &Tables) -> [u32; 6] {
+    layout::resource::COUNTS.map(|field| t.words()[layout::resource_at(1, field)])
+}
+
+/// Makes resource 1 count so many locks.
+fn count(words: &mut [u32], counts: [u32; 6]) {
+    layout::resource::COUNTS.into_iter().zip(counts).for_each(|(field, count)| words[layout::resource_at(1, field)] = count);
+}
+
+/// Lock 1 holds CR and lock 2 PR; lock 3 waits for EX, and holds nothing, not even NL. Lock 1 has to wait for PR as long as lock 2 holds PW, and
+/// is counted by its CR meanwhile.
+#[test]
+fn held_modes_are_counted() {
+    let mut t = requested(&[Mode::Cr, Mode::Pr, Mode::Ex]);
+    assert_eq!(counts(&t), [0, 1, 0, 1, 0, 0]);
+    assert_eq!(t.convert(2, 2, Mode::Pw, Flags::NONE, b""), Ok(Outcome::Granted));
+    assert_eq!(counts(&t), [0, 1, 0, 0, 1, 0]);
+    assert_eq!(t.convert(1, 1, Mode::Pr, Flags::NONE, b""), Ok(Outcome::Waiting));
+    assert_eq!(counts(&t), [0, 1, 0, 0, 1, 0]);
+    assert_eq!(t.release(2, 2, Flags::NONE, b""), Ok(()));
+    assert_eq!(counts(&t), [0, 0, 0, 1, 0, 0]);
+    assert_eq!(t.purge(1), purged(1, 0, 1));
+    assert_eq!(counts(&t), [0, 0, 0, 0, 0, 1]);
+    assert_eq!(t.poll(3), Ok(ended(3, Completion::Granted)));
+    assert_eq!(t.release(3, 3, Flags::NONE, b""), Ok(()));
+    assert_eq!(counts(&t), [0; 6]);
+}
+
+#[test]
+fn wrong_counts_are_refused() {
+    let (words, slots) = requested(&[Mode::Cr, Mode::Pr, Mode::Ex]).into_parts();
+    for wrong in [[1, 1, 0, 1, 0, 0], [0, 0, 0, 1, 0, 0], [0, 1, 0, 1, 0, 1], [0, 1, 1, 0, 0, 0], [u32::MAX, 2, 0, 1, 0, 0], [0; 6]] {
+        let mut miscounted = words.clone();
+        count(&mut miscounted, wrong);
+        assert_eq!(Tables::from_parts(miscounted.clone(), slots.clone()), Err(Refusal::Unsound), "{wrong:?}");
+        let mut t = Tables::from_parts_unchecked(miscounted, slots.clone());
+        let before = t.clone();
+        assert_eq!(t.request(4, Mode::Nl, Flags::NONE, b"RES-A"), Err(Refusal::Unsound));
+        assert_eq!(t, before);
+    }
+    assert!(Tables::from_parts(words, slots).is_ok());
 }

@@ -6,6 +6,7 @@ pub row-fine-spec : {M : Type 1} → statement M
 row-fine-spec =
     tie.close
     (tie.spec
+    (λ c κs. search records)
     (λ c. search records)
     (λ c κs. search records)
     (λ c. search records)

@@ -12,6 +12,7 @@ grant-next-spec =
     (λ c. search grant-laws)
     (λ c κs. search grant-laws)
     (λ c κs. search grant-laws)
+    (λ c κs. search grant-laws)
     (λ c. search needs)
     (λ c. search grant-laws)
     (λ c κs. search needs)

@@ -1,4 +1,4 @@
-use Rattle.queues.proofs.ConversionInPlace.{placing, held-mode, place-down, place-behind, held-resourced, place-fits}
+use Rattle.queues.proofs.ConversionInPlace.{placing}
 use Rattle.queues.proofs.in_place.Statement.{statement}
 use Rattle.queues.proofs.in_place.Tie as tie
 
@@ -7,9 +7,6 @@ in-place-spec =
     tie.close
     (tie.spec
     (λ c κs. search placing)
-    (λ c κs. search held-mode)
-    (λ c. search place-down)
     (λ c κs. search placing)
-    (λ c. search place-behind)
-    (λ c κs. search held-resourced)
-    (λ c. search place-fits))
+    (λ c κs. search placing)
+    (λ c. search placing))

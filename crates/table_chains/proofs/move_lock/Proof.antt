@@ -10,8 +10,5 @@ move-lock-spec =
     (λ c κs. search move-laws)
     (λ c κs. search move-laws)
     (λ c κs. search move-laws)
-    (λ c κs. search move-laws)
-    (λ c. search move-laws)
-    (λ c. search move-laws)
     (λ c. search move-laws)
     (λ c. search move-laws))
