@@ -73,10 +73,10 @@ extern "C" {
 #endif
 
 /* The version of this header and of the library that comes with it. */
-#define ZAMGYORUD_VERSION "0.6.0"
+#define ZAMGYORUD_VERSION "0.6.1"
 #define ZAMGYORUD_VERSION_MAJOR 0
 #define ZAMGYORUD_VERSION_MINOR 6
-#define ZAMGYORUD_VERSION_PATCH 0
+#define ZAMGYORUD_VERSION_PATCH 1
 
 /* The most that R, L and a client's number can be; the most bytes of a name; the bytes of a value. */
 #define ZAMGYORUD_MOST_RESOURCES 256
@@ -95,7 +95,7 @@ extern "C" {
 /* The bytes of stack that a call needs at most, with some margin: measured on x86-64 (tests/stack_test.c), not proved. A signal handler that runs on
  * the same stack comes on top, and so does the loader, at the first call of a function of the shared library. Load and holder of an image of
  * R 4 and L 8 need no more than the others. */
-#define ZAMGYORUD_STACK_BREAK(l) (20480 + 184 * (size_t)(l)) /* on tables of L locks: 204 KB for 1,024 */
+#define ZAMGYORUD_STACK_BREAK(l) (22528 + 184 * (size_t)(l)) /* on tables of L locks: 206 KB for 1,024 */
 #define ZAMGYORUD_STACK_LOAD 81920
 #define ZAMGYORUD_STACK_HOLDER 81920
 #define ZAMGYORUD_STACK_OTHERS 8192

@@ -214,6 +214,15 @@ static void measure_calls(uint32_t r, uint32_t l, size_t most_load, size_t most_
     putchar('\n');
 }
 
+/* Break on the smallest tables, where the stack for its arrays is most of what is told. */
+static void measure_least(void)
+{
+    resize(1, 1);
+    start();
+    measure("break", break_nothing, ZAMGYORUD_STACK_BREAK(1));
+    putchar('\n');
+}
+
 /* The client of lock k in the deepest search. The last holder is client 1's. */
 static uint32_t deep_client(uint32_t k, uint32_t l)
 {
@@ -282,6 +291,7 @@ int main(void)
     measure_calls(4, 8, ZAMGYORUD_STACK_OTHERS, ZAMGYORUD_STACK_OTHERS);
     measure_calls(64, 256, ZAMGYORUD_STACK_LOAD, ZAMGYORUD_STACK_HOLDER);
     measure_calls(MOST_R, MOST_L, ZAMGYORUD_STACK_LOAD, ZAMGYORUD_STACK_HOLDER);
+    measure_least();
     measure_break(3);
     measure_break(8);
     measure_break(32);

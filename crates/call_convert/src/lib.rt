@@ -2,6 +2,8 @@
 // queue.
 use answers::Converted;
 use modes::Mode;
+use table_chains::Hints;
+use table_chains::NO_HINTS;
 use table_fields::lock_at;
 use tables::Lock;
 ghost use mathlib.Core.Path.{_≡_};
@@ -51,23 +53,24 @@ fn convert_in_place(
     mode: u32,
     flags: u32,
     value: &[u8],
+    last: u32,
 )
     requires { ⌜ SomeTables (ConvertsInPlace k mode flags (now value)) (now words) (now slots) ⌝ }
     ensures { λ _. ⌜ Changes (ConvertsInPlace k mode flags (now (value .entry))) (granted-in-place k mode flags (now (value .entry))) (now (words .entry)) (now (slots .entry)) (now (words .exit)) (now (slots .exit)) ⌝ }
 {
     let l = lock_at(words, k);
     queues::leave_value(words, slots, lowers(l.held, mode), flags, value, l.resource);
-    table_chains::move_lock(words, k, held_at(l, mode));
-    queues::sweep(words, l.resource);
+    table_chains::move_lock(words, k, held_at(l, mode), NO_HINTS);
+    queues::sweep(words, l.resource, last);
 }
 
 // The lock k joins the convert queue, and whoever is in its way is told.
-fn queue_conversion(words: &mut [u32], k: u32, mode: u32)
+fn queue_conversion(words: &mut [u32], k: u32, mode: u32, hints: Hints)
     requires { ⌜ Some (Asks k mode) (now words) ⌝ }
     ensures { λ _. ⌜ Turns (Asks k mode) (on-convert-queue k mode) (now (words .entry)) (now (words .exit)) ⌝ }
 {
     let l = lock_at(words, k);
-    table_chains::move_lock(words, k, asking(l, mode));
+    table_chains::move_lock(words, k, asking(l, mode), hints);
     marks::tell_obstacles(words, k);
 }
 
@@ -82,7 +85,8 @@ fn taken_in_place(words: &[u32], k: u32, mode: u32, flags: u32) -> bool
     queues::in_place(words, k, mode)
 }
 
-// The lock k is converted to the mode, and nothing refuses it.
+// The lock k is converted to the mode, and nothing refuses it. The hints are at the lock before it on the grant chain, and at
+// the last one there.
 pub fn convert_change(
     words: &mut [u32],
     slots: &mut [u8],
@@ -90,14 +94,15 @@ pub fn convert_change(
     mode: u32,
     flags: u32,
     value: &[u8],
+    hints: Hints,
 ) -> Converted
     requires { ⌜ SomeTables (Convertible k mode flags (now value)) (now words) (now slots) ⌝ }
     ensures { λ r. ⌜ Makes (Convertible k mode flags (now (value .entry))) (convert-change k mode flags (now (value .entry))) (now (words .entry)) (now (slots .entry)) (now (words .exit)) (now (slots .exit)) (converted r) ⌝ }
 {
     if taken_in_place(words, k, mode, flags) {
-        convert_in_place(words, slots, k, mode, flags, value);
+        convert_in_place(words, slots, k, mode, flags, value, hints.last);
         return Converted::Granted;
     }
-    queue_conversion(words, k, mode);
+    queue_conversion(words, k, mode, hints);
     Converted::Waiting
 }

@@ -3,6 +3,7 @@
 // are.
 use answers::Broken;
 use answers::Polled;
+use table_chains::NO_HINTS;
 use table_fields::lock_at;
 use table_fields::lock_word;
 use tables::Lock;
@@ -35,11 +36,11 @@ fn deny(words: &mut [u32], k: u32)
 {
     let l = lock_at(words, k);
     if l.state == table_fields::STATE_CONVERTING {
-        call_release::restore(words, k, table_fields::COMPLETION_CONVERSION_DENIED);
+        call_release::restore(words, k, table_fields::COMPLETION_CONVERSION_DENIED, 0);
         return;
     }
-    table_chains::move_lock(words, k, denied(l));
-    queues::sweep(words, l.resource);
+    table_chains::move_lock(words, k, denied(l), NO_HINTS);
+    queues::sweep(words, l.resource, 0);
 }
 
 // If there is a deadlock, one lock on it is denied.
@@ -87,10 +88,10 @@ fn take_notice(words: &mut [u32], k: u32) -> Polled
 {
     let l = lock_at(words, k);
     if l.completion == table_fields::COMPLETION_DENIED {
-        queues::free_lock(words, k);
+        queues::free_lock(words, k, 0);
         return Polled::RequestDenied(k);
     }
-    table_chains::move_lock(words, k, notice_read(l));
+    table_chains::move_lock(words, k, notice_read(l), NO_HINTS);
     if l.completion == table_fields::COMPLETION_GRANTED {
         return Polled::Granted(k, l.mark);
     }

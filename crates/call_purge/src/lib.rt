@@ -92,7 +92,7 @@ fn purge_lock(words: &mut [u32], slots: &mut [u8], k: u32)
     ensures { λ _. ⌜ Changes (Locked k) (purge-lock k) (now (words .entry)) (now (slots .entry)) (now (words .exit)) (now (slots .exit)) ⌝ }
 {
     spoil_value(words, slots, k);
-    queues::free_lock(words, k);
+    queues::free_lock(words, k, 0);
 }
 
 // If lock k is the client's, its resource is marked and the lock is purged. Answers what it counts for, as it was. A
@@ -138,7 +138,7 @@ fn settle_if_marked(words: &mut [u32], slots: &mut [u8], marks: &[bool], r: u32)
     if !marks[r as usize] {
         return;
     }
-    queues::settle(words, slots, r);
+    queues::settle(words, slots, r, 0);
 }
 
 // The marked resources are settled, ascending.

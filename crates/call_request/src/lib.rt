@@ -1,6 +1,8 @@
 // A request's change, in place. It takes a lock, and if its name is new also a resource. Then it is granted, or waits
 // and those in its way are told.
 use answers::Requested;
+use table_chains::Hints;
+use table_chains::NO_HINTS;
 use table_fields::header_word;
 use table_fields::new_lock;
 use tables::Lock;
@@ -52,25 +54,40 @@ fn at_once(words: &[u32], r: u32, mode: u32, flags: u32) -> bool
     queues::granted_at_once(words, r, mode)
 }
 
-// The lock k, which is free, becomes the client's on r: granted at once, or waiting. Whoever is in its way is told.
-fn enter(words: &mut [u32], r: u32, k: u32, client: u32, mode: u32, flags: u32) -> Requested
+// The lock k, which is free, becomes the client's on r: granted at once, or waiting. Whoever is in its way is told. `last` is
+// a hint at the last lock granted there.
+fn enter(
+    words: &mut [u32],
+    r: u32,
+    k: u32,
+    client: u32,
+    mode: u32,
+    flags: u32,
+    last: u32,
+) -> Requested
     requires { ⌜ Some (Enters r k client mode flags) (now words) ⌝ }
     ensures { λ x. ⌜ MakesWords (Enters r k client mode flags) (request-on r k client mode) (now (words .entry)) (now (words .exit)) (requested x) ⌝ }
 {
     if at_once(words, r, mode, flags) {
-        table_chains::move_lock(words, k, holding(r, client, mode));
+        let hints = Hints {
+            before: 0,
+            last: last,
+        };
+        table_chains::move_lock(words, k, holding(r, client, mode), hints);
         return Requested::Granted(k);
     }
-    table_chains::move_lock(words, k, queued(r, client, mode));
+    table_chains::move_lock(words, k, queued(r, client, mode), NO_HINTS);
     marks::tell_obstacles(words, k);
     Requested::Waiting(k)
 }
 
-// The client requests the mode on the name, and nothing refuses it. `found` is the resource that has the name, or 0.
+// The client requests the mode on the name, and nothing refuses it. `found` is the resource that has the name, or 0; `last`
+// is a hint at the last lock granted there.
 pub fn request_change(
     words: &mut [u32],
     slots: &mut [u8],
     found: u32,
+    last: u32,
     client: u32,
     mode: u32,
     flags: u32,
@@ -82,5 +99,5 @@ pub fn request_change(
 {
     let k = header_word(words, table_fields::FREE_LOCKS);
     let r = resource_for(words, slots, found, name);
-    enter(words, r, k, client, mode, flags)
+    enter(words, r, k, client, mode, flags, last)
 }

@@ -11,7 +11,7 @@ use Rattle.tables.specs.State.{no-lock, no-resource, resource, started}
 use Rattle.modes.specs.Modes.{NL, CR, CW, PR, PW, EX}
 use Rattle.tables.specs.Grants.{tally, empty}
 use Rattle.tables.proofs.Tallies.{tally-empty}
-use Rattle.tables.specs.Layout.{header-width, resource-width, lock-width, Address, of-header, of-resource, of-lock, place, size, flat-map, content, words-with, slot-width, slot, slots}
+use Rattle.tables.specs.Layout.{header-width, resource-width, lock-width, Address, of-header, of-resource, of-lock, place, size, flat-map, content, words, slot-width, slot, slots}
 use Rattle.tables.proofs.Cases.{by-equal}
 use Rattle.tables.proofs.Blocks.{flat-map-same}
 use Rattle.tables.proofs.Links.{next-here, next-past, next-last}
@@ -199,7 +199,7 @@ module _ (r l : ℕ) where
     is-content (of-lock k f) h = is-lock k f (h .0) (h .1) (h .2)
 
     pub started-words : left ≡ fresh-words r l
-    unfolding words-with
+    unfolding words
     started-words = is-written r l (content (started r l)) left left-long is-content ∙ sym (rw (resource-count, lock-count))
 
 -- the slots are zeros

@@ -5,7 +5,7 @@ use mathlib.Core.List.{List}
 use Prim.Native.Nat.{ℕ, _≤_}
 use native.Mathlib.Omega.{arith}
 use lib.Dec.{eqb}
-use borrow.Author.Tests.{eqb-true, ne-eqb, le-leb}
+use borrow.Author.Tests.{eqb-true, ne-eqb, le-leb, not-true, not-false}
 use Rattle.tables.specs.declared.Lock.{Lock}
 use Rattle.tables.specs.State.{noticed}
 use Rattle.tables.specs.Layout.{of-lock, resources-in, word-in, read-lock}
@@ -135,6 +135,17 @@ module _ (ws : List ℕ) (k : ℕ) {l : Lock} (e : l ≡ read-lock ws k) where
         (λ s t.
         rw (is (l .state) 1 s 0, is (l .state) 1 s 1, is (l .state) 1 s 2, is (l .state) 1 s 3, is (l .state) 1 s 4, here (l .resource) t)
         (granted-left (c && m && eqb (l .asked) 0) b f n)))
+
+    pub granted-off : {x : ℕ} → x ≡ word-in ws (of-lock k 1) → not (eqb (l .state) 1 && eqb (l .resource) r && c && m && eqb (l .asked) 0 && eqb x 0) ≡ true → false ≡ stands ws 1 r k
+    granted-off {x} p f =
+        let right = eqb (l .state) 1 && eqb (l .resource) r && c && m && eqb (l .asked) 0 && eqb x 0 in
+        let g = granted-completion (l .completion) && (noticed l || eqb (word-in ws (of-lock k 2)) 0) in
+        ap (λ (b : Bool). b && g) (sym (not-true right f)) ∙ granted-stands p refl
+
+    pub granted-on : {g : Bool} {x : ℕ} → x ≡ word-in ws (of-lock k 1) → g ≡ (granted-completion (l .completion) && (noticed l || eqb (word-in ws (of-lock k 2)) 0)) → not (eqb (l .state) 1 && eqb (l .resource) r && c && m && eqb (l .asked) 0 && eqb x 0) ≡ false → g ≡ stands ws 1 r k
+    granted-on {g} {x} p q f =
+        let right = eqb (l .state) 1 && eqb (l .resource) r && c && m && eqb (l .asked) 0 && eqb x 0 in
+        ap (λ (b : Bool). b && g) (sym (not-false right f)) ∙ granted-stands p q
 
     pub converting-stands : {n : Bool} → n ≡ (noticed l || eqb (word-in ws (of-lock k 2)) 0) → (eqb (l .state) 2 && eqb (l .resource) r && c && m && eqb (l .completion) 0 && n) ≡ stands ws 2 r k
     unfolding stands lock-fine fields-fine links-fine

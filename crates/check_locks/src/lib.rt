@@ -110,7 +110,8 @@ pub fn stands_denied(words: &[u32], k: u32) -> bool
         & (lock_word(words, k, LOCK_NEXT_BLOCKED) == 0)
 }
 
-// A lock granted on resource r, which is in use: it asks for nothing, and it may have an unread completion and a mark.
+// A lock granted on resource r, which is in use: it asks for nothing, and it may have an unread completion and a mark. The
+// notice is looked at last, after a `return` of its own: the walk along the grant chain then needs fewer registers.
 pub fn stands_granted(words: &[u32], r: u32, k: u32) -> bool
     requires { ⌜ Sized (now words) ⌝ }
     requires { ⌜ (1 ≤ k) × (k ≤ locks-in (now words)) ⌝ }
@@ -119,13 +120,16 @@ pub fn stands_granted(words: &[u32], r: u32, k: u32) -> bool
     ensures { λ x. ⌜ x ≡ stands (now (words .entry)) state-granted r k ⌝ }
 {
     let l = lock_at(words, k);
-    (l.state == STATE_GRANTED)
+    let right = (l.state == STATE_GRANTED)
         & (l.resource == r)
         & client_right(l)
         & modes_right(l)
         & (l.asked == 0)
-        & (lock_word(words, k, LOCK_NEXT_BLOCKED) == 0)
-        & notice_right(words, k, l)
+        & (lock_word(words, k, LOCK_NEXT_BLOCKED) == 0);
+    if !right {
+        return false;
+    }
+    notice_right(words, k, l)
 }
 
 // A lock converting on resource r, which is in use: it may have a mark.

@@ -98,7 +98,7 @@ module _ (ws ss : List ℕ) (tidy : Tidy ws ss) where
   name-bytes r p q u =
       let n : ℕ = word-in ws (of-resource r 4) in
       let h : n ≤ name-width = tidy .named .lengths .short r p q in
-      let l : length (slot-in ss r) ≡ slot-width = slot-long ss r p (slot-inside ws ss r (tidy .named) p q) in
+      let l : length (slot-in ss r) ≡ slot-width = slot-long ss r p (slot-inside ws ss r (tidy .named .slotted) p q) in
       let bytes : List ℕ = take name-width (slot-in ss r) in
       let front : take n bytes ≡ take n (slot-in ss r) = take-take n name-width (slot-in ss r) h in
       let wide : length bytes ≡ name-width = length-take-le name-width (slot-in ss r) (omega arith) in

@@ -210,7 +210,7 @@ module _ (ws : List ℕ) (r : ℕ) {g c : HolderCount} (p : HoldersWalked ws r g
       unfolding wait-part
       all-met f = rw (← walk-on, ← ew, le-leb w (locks-in ws) lw, ← eb, not-false b f)
 
-      pub all-three : 1 ≤ locks-in ws → not b ≡ false → Counted ws r (record { met = g .met + c .met + w; blocked = c .met + w; noticed = g .noticed + c .noticed })
+      pub all-three : {before last : ℕ} → 1 ≤ locks-in ws → not b ≡ false → Counted ws r (record { met = g .met + c .met + w; blocked = c .met + w; noticed = g .noticed + c .noticed; before = before; last = last })
       unfolding blocked-at noticed-at
       all-three o f =
           let eg = p .granted .is in

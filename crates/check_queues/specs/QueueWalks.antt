@@ -21,7 +21,7 @@ unfoldable pub over : ℕ → HolderCount
 over n = record { met = n + 1; modes = 0; noticed = 0; digits = 0 }
 
 unfoldable pub queues-over : ℕ → Census
-queues-over n = record { met = n + 1; blocked = 0; noticed = 0 }
+queues-over n = record { met = n + 1; blocked = 0; noticed = 0; before = 0; last = 0 }
 
 -- a walk along at most n holders gives what the definition says, and that is small numbers and a set
 pub record Walked (n : ℕ) (whole x : HolderCount) : Type 0 where

@@ -35,12 +35,23 @@ const DIGIT_BITS: u32 = 12;
 
 const DIGIT: u64 = 1 << DIGIT_BITS;
 
+// What the walk along a grant chain finds, and two locks that it passed: the one before the watched lock, and the last
+// one; 0 is none. Nothing is promised of these two. They are a hint where in the chain to look, for code that looks at
+// their records before it believes it.
+pub struct Grants {
+    pub found: HolderCount,
+    pub before: u32,
+    pub last: u32,
+}
+
 // What the walks along a resource's queues find: how many locks, or more than there are if something is wrong; how many
-// of them belong on the blocked chain, and how many on the notice chain.
+// of them belong on the blocked chain, and how many on the notice chain; and what was passed on the grant chain.
 pub struct Census {
     pub met: u32,
     pub blocked: u32,
     pub noticed: u32,
+    pub before: u32,
+    pub last: u32,
 }
 
 // What a walk answers if something is wrong with a chain: one lock more than the n that there may be, and nothing else.
@@ -56,6 +67,17 @@ fn over(n: u32) -> HolderCount
     }
 }
 
+fn grants_over(n: u32) -> Grants
+    requires { ⌜ n ≤ most-locks ⌝ }
+    ensures { λ x. ⌜ x .found ≡ over n ⌝ }
+{
+    Grants {
+        found: over(n),
+        before: 0,
+        last: 0,
+    }
+}
+
 fn queues_over(n: u32) -> Census
     requires { ⌜ n ≤ most-locks ⌝ }
     ensures { λ x. ⌜ x ≡ queues-over n ⌝ }
@@ -64,6 +86,8 @@ fn queues_over(n: u32) -> Census
         met: n + 1,
         blocked: 0,
         noticed: 0,
+        before: 0,
+        last: 0,
     }
 }
 
@@ -84,12 +108,20 @@ fn digit(held: u32) -> u64
     (1u64 << (DIGIT_BITS * held)) >> DIGIT_BITS
 }
 
+// What stands before the watched lock: lock k, if the next one is that, or what was found already.
+fn passed(watched: u32, next: u32, k: u32, before: u32) -> u32 {
+    if next == watched {
+        return k;
+    }
+    before
+}
+
 // Walks along a resource's grant chain: each held mode must fit those before it.
-fn grant_walk(words: &[u32], r: u32) -> HolderCount
+fn grant_walk(words: &[u32], r: u32, watched: u32) -> Grants
     requires { ⌜ Fine (now words) ⌝ }
     requires { ⌜ (1 ≤ r) × (r ≤ resources-in (now words)) ⌝ }
     requires { ⌜ named (now words) r ≡ true ⌝ }
-    ensures { λ x. ⌜ Walked (locks-in (now (words .entry))) (grant-walk (now (words .entry)) r) x ⌝ }
+    ensures { λ x. ⌜ Walked (locks-in (now (words .entry))) (grant-walk (now (words .entry)) r) (x .found) ⌝ }
 {
     let n = words[LOCKS];
     let mut k = resource_word(words, r, RESOURCE_GRANT);
@@ -97,31 +129,40 @@ fn grant_walk(words: &[u32], r: u32) -> HolderCount
     let mut set = 0;
     let mut noticed = 0;
     let mut digits = 0;
+    let mut before = 0;
+    let mut last = 0;
     while k != 0 {
         if n <= met {
-            return over(n);
+            return grants_over(n);
         }
         if n < k {
-            return over(n);
+            return grants_over(n);
         }
         if !stands_granted(words, r, k) {
-            return over(n);
+            return grants_over(n);
         }
         let held = lock_word(words, k, LOCK_HELD);
         if !modes::fits_by_masks(set, held) {
-            return over(n);
+            return grants_over(n);
         }
         set = modes::with_mode(set, held);
         noticed += notice_bit(words, k);
         digits += digit(held);
-        k = lock_word(words, k, LOCK_NEXT);
+        let next = lock_word(words, k, LOCK_NEXT);
+        before = passed(watched, next, k, before);
+        last = k;
+        k = next;
         met += 1;
     }
-    HolderCount {
-        met: met,
-        modes: set,
-        noticed: noticed,
-        digits: digits,
+    Grants {
+        found: HolderCount {
+            met: met,
+            modes: set,
+            noticed: noticed,
+            digits: digits,
+        },
+        before: before,
+        last: last,
     }
 }
 
@@ -284,11 +325,11 @@ fn counts_fine(words: &[u32], r: u32, met: u32, digits: u64) -> bool
 }
 
 // What is found of a resource whose granted and converting locks are as g and c say.
-fn wait_part(words: &[u32], r: u32, g: HolderCount, c: HolderCount) -> Census
+fn wait_part(words: &[u32], r: u32, g: Grants, c: HolderCount) -> Census
     requires { ⌜ Fine (now words) ⌝ }
     requires { ⌜ (1 ≤ r) × (r ≤ resources-in (now words)) ⌝ }
     requires { ⌜ named (now words) r ≡ true ⌝ }
-    requires { ⌜ HoldersWalked (now words) r g c ⌝ }
+    requires { ⌜ HoldersWalked (now words) r (g .found) c ⌝ }
     ensures { λ x. ⌜ Counted (now (words .entry)) r x ⌝ }
 {
     let n = words[LOCKS];
@@ -296,46 +337,48 @@ fn wait_part(words: &[u32], r: u32, g: HolderCount, c: HolderCount) -> Census
     if n < w {
         return queues_over(n);
     }
-    if !heads_wait(words, r, g.modes, c.modes) {
+    if !heads_wait(words, r, g.found.modes, c.modes) {
         return queues_over(n);
     }
     Census {
-        met: g.met + c.met + w,
+        met: g.found.met + c.met + w,
         blocked: c.met + w,
-        noticed: g.noticed + c.noticed,
+        noticed: g.found.noticed + c.noticed,
+        before: g.before,
+        last: g.last,
     }
 }
 
 // What is found of a resource whose granted locks are as g says.
-fn convert_part(words: &[u32], r: u32, g: HolderCount) -> Census
+fn convert_part(words: &[u32], r: u32, g: Grants) -> Census
     requires { ⌜ Fine (now words) ⌝ }
     requires { ⌜ (1 ≤ r) × (r ≤ resources-in (now words)) ⌝ }
     requires { ⌜ named (now words) r ≡ true ⌝ }
-    requires { ⌜ Walked (locks-in (now words)) (grant-walk (now words) r) g ⌝ }
-    requires { ⌜ g .met ≤ locks-in (now words) ⌝ }
+    requires { ⌜ Walked (locks-in (now words)) (grant-walk (now words) r) (g .found) ⌝ }
+    requires { ⌜ g .found .met ≤ locks-in (now words) ⌝ }
     ensures { λ x. ⌜ Counted (now (words .entry)) r x ⌝ }
 {
     let n = words[LOCKS];
-    let c = convert_walk(words, r, g.modes);
+    let c = convert_walk(words, r, g.found.modes);
     if n < c.met {
         return queues_over(n);
     }
-    if !counts_fine(words, r, g.met + c.met, g.digits + c.digits) {
+    if !counts_fine(words, r, g.found.met + c.met, g.found.digits + c.digits) {
         return queues_over(n);
     }
     wait_part(words, r, g, c)
 }
 
 // The locks on the three queues of a resource in use.
-pub fn resource_walk(words: &[u32], r: u32) -> Census
+pub fn resource_walk(words: &[u32], r: u32, watched: u32) -> Census
     requires { ⌜ Fine (now words) ⌝ }
     requires { ⌜ (1 ≤ r) × (r ≤ resources-in (now words)) ⌝ }
     requires { ⌜ named (now words) r ≡ true ⌝ }
     ensures { λ x. ⌜ Counted (now (words .entry)) r x ⌝ }
 {
     let n = words[LOCKS];
-    let g = grant_walk(words, r);
-    if n < g.met {
+    let g = grant_walk(words, r, watched);
+    if n < g.found.met {
         return queues_over(n);
     }
     convert_part(words, r, g)

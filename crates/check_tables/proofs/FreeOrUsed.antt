@@ -74,7 +74,7 @@ module _ (ws ss : List ℕ) (r : ℕ) (fine : resource-fine ws ss r ≡ true) (f
   unfolding onward
   no-queue f z = rw (z, follow-zero (lock-link ws 0) (locks-in ws))
 
-  pub no-queues : Counted ws r (record { met = 0; blocked = 0; noticed = 0 })
+  pub no-queues : Counted ws r (record { met = 0; blocked = 0; noticed = 0; before = 0; last = 0 })
   unfolding blocked-at noticed-at keep
   no-queues =
       record {

@@ -103,7 +103,7 @@ module _ (ws ss : List ℕ) (others denied : ℕ) where
     pub left-many : {x : HomeCounts} → locks-in ws < met → x .fine ≡ false → Queues ws ss others denied x
     left-many h q = said-no (rw (queues-over ws met r (resources-in ws) (i .homes) (locks-in ws) h) (and-false (resources-fine ws ss))) q
 
-    pub left-end : resources-in ws < r → Queues ws ss others denied (record { fine = eqb met (locks-in ws); free = free; blocked = blocked; noticed = noticed })
+    pub left-end : {before last : ℕ} → resources-in ws < r → Queues ws ss others denied (record { fine = eqb met (locks-in ws); free = free; blocked = blocked; noticed = noticed; before = before; last = last })
     unfolding all keep
     left-end h =
         record {

@@ -27,7 +27,8 @@ use Rattle.table_chains.specs.Walking.{At, Walking}
 use Rattle.table_chains.proofs.LockLimits.{at-sized}
 use Rattle.table_chains.proofs.ChainWalks.{some-sized, walk-ends, walk-splits, walk-goes, walk-high, walk-on, walk-sized, walk-low, blocked-walks, grants-walk, converts-walk, waits-walk}
 use Rattle.deadlock_graph.specs.Contracts.{seen, Blocked, Asks, StandsOn}
-use Rattle.deadlock_graph.specs.Links.{link-width, link-of}
+use Rattle.deadlock_graph.specs.Hops.{looks}
+use Rattle.deadlock_graph.specs.Links.{link-width, link-of, Leaps, Leaping, Looker}
 use Rattle.deadlock_graph.specs.Holders.{Holds, since, holders-since, Looking}
 use Rattle.deadlock_graph.proofs.SeenChains.{queue-seen}
 use Rattle.deadlock_graph.proofs.LockWords.{some-alike, locks-told, resources-told, resource-told, state-told, asked-told, asked-few, held-told, blocked-at, blocked-home}
@@ -464,8 +465,22 @@ kept-first p (x ∷ xs) n =
     (λ q. rw q (omega (arith, count-same x xs)))
     (λ q. rw q (omega (arith, count-step (first (keep p xs)) x xs, kept-first p xs (λ z. n (rw q z)))))
 
+kept-passes : (p : ℕ → Bool) (xs : List ℕ) → first (keep p xs) ≢ 0 → p (first (keep p xs)) ≡ true
+unfolding keep
+kept-passes p [] n = absurd (n refl)
+kept-passes p (x ∷ xs) n = by-cases (p x) (λ q. rw q q) (λ q. rw q (kept-passes p xs (λ z. n (rw q z))))
+
+-- what is in a lock's way holds more than NL, and so does the first that is
+pub bar-strong : (ws : List ℕ) (a j : ℕ) → Some Core ws → in-the-way (seen ws) a j ≡ true → lock (seen ws) j .held ≢ 0
+bar-strong ws a j s h e = clash (in-the-way (seen ws) a j) h (null-free (seen ws) a j e (asked-few ws s a))
+
+obstacle-strong : (ws : List ℕ) (a k : ℕ) → Some Core ws → k ≡ first (obstacles (seen ws) a) → k ≢ 0 → lock (seen ws) k .held ≢ 0
+unfolding obstacles
+obstacle-strong ws a k s e n =
+    bar-strong ws a k s (rw e (kept-passes (in-the-way (seen ws) a) (holders (seen ws) (lock (seen ws) a .resource)) (λ z. n (e ∙ z))))
+
 -- a walk that begins at the first holder in the way of a meets all that are
-pub look-obstacles : {ws : List ℕ} {k : ℕ} → Some Core ws → (a : ℕ) → (1 ≤ lock (seen ws) a .resource) × (lock (seen ws) a .resource ≤ resources-in ws) →
+look-obstacles : {ws : List ℕ} {k : ℕ} → Some Core ws → (a : ℕ) → (1 ≤ lock (seen ws) a .resource) × (lock (seen ws) a .resource ≤ resources-in ws) →
     k ≡ first (obstacles (seen ws) a) → Looking ws (lock (seen ws) a .resource) k
 unfolding obstacles
 look-obstacles {ws} {k} s a i e =
@@ -481,6 +496,52 @@ pub obstacle-on : (ws : List ℕ) (a k : ℕ) → Some Core ws → (j : ℕ) →
 unfolding obstacles holders-since
 obstacle-on ws a k s j e p w =
     rw e (since-passing (in-the-way (seen ws) a) (holders (seen ws) (lock (seen ws) a .resource)) (no-holder ws s (lock (seen ws) a .resource)) j p w)
+
+-- ---- a walk along the holders on r that hold more than NL
+
+module _ {ws ls : List ℕ} {r k : ℕ} (l : Leaping ws ls r k) (n : k ≢ 0) where
+  leaps : Leaps ws r k (link-of ls k 4)
+  leaps = l .chained .each k (l .looking .stands n) (l .strong n)
+
+  pub leap-at : At ws k
+  leap-at = look-at (l .looking) n
+
+  -- x is the next one
+  module _ {x : ℕ} (e : x ≡ link-of ls k 4) where
+    pub leap-on : Leaping ws ls r x
+    leap-on =
+        rw e
+        (record {
+          looking = record { some = l .looking .some; low = l .looking .low; high = l .looking .high; stands = leaps .stands };
+          strong = leaps .strong;
+          chained = l .chained;
+        })
+
+    pub leap-less : length (holders-since ws r x) < length (holders-since ws r k)
+    leap-less = rw e (leaps .less)
+
+    -- one that was passed, and holds more than NL, is k or was passed before
+    pub leap-passed : (j : ℕ) → j ≢ k → lock (seen ws) j .held ≢ 0 → count j (holders-since ws r x) ≡ 0 → count j (holders-since ws r k) ≡ 0
+    leap-passed j o h z =
+        by-cases (leb 1 (count j (holders-since ws r k)))
+        (λ c. absurd (omega (arith, leaps .rest j (leb-true 1 _ c) o h, rw e at z)))
+        (λ c. omega (arith, leb-false 1 (count j (holders-since ws r k)) c))
+
+-- it begins where the blocked lock a begins to look
+pub leap-starts : {ws ls : List ℕ} {a k : ℕ} → Some Core ws → Looker ws ls a → k ≡ link-of ls a 1 → Leaping ws ls (lock (seen ws) a .resource) k
+leap-starts {ws} {ls} {a} {k} s l e =
+    let home = blocked-home ws a (record { some = s; stands = l .stands }) in
+    by-cases (looks (seen ws) a)
+    (λ y.
+    let q : k ≡ first (obstacles (seen ws) a) = e ∙ l .holder ∙ rw y in
+    record { looking = look-obstacles s a home q; strong = obstacle-strong ws a k s q; chained = l .chained })
+    (λ f.
+    let z : k ≡ 0 = e ∙ l .holder ∙ rw f in
+    record {
+      looking = record { some = s; low = home .0; high = home .1; stands = λ n. absurd (n z) };
+      strong = λ n. absurd (n z);
+      chained = l .chained;
+    })
 
 -- a row of links
 pub link-read : (ls : List ℕ) (k f : ℕ) → getD ls (link-width * k + f) 0 ≡ link-of ls k f

@@ -14,12 +14,14 @@ use Rattle.rules.specs.Deadlock.{obstacles, owner, before}
 use Rattle.table_chains.specs.Contracts.{Some}
 use Rattle.table_chains.specs.Marks.{marked}
 use Rattle.deadlock_graph.specs.Contracts.{seen}
+use Rattle.deadlock_graph.specs.Holders.{holders-since, Looking}
 use Rattle.deadlock_graph.specs.Hops.{nearest, looks}
 
 abbrev pub link-width : ℕ
-link-width = 4
+link-width = 5
 
--- the link f of the lock k: 0 the lock right ahead; 1 the holder at which it begins to look; 2 its owner's number; 3 its owner's next blocked lock
+-- the link f of the lock k: 0 the lock right ahead; 1 the holder at which it begins to look; 2 its owner's number; 3 its owner's next blocked lock;
+-- 4 the next holder that can be in someone's way
 unfoldable pub link-of : List ℕ → ℕ → ℕ → ℕ
 link-of ls k f = getD ls (link-width * k + f) 0
 
@@ -75,12 +77,30 @@ pub record Mated (ws ls : List ℕ) : Type 0 where
   pub same : (k : ℕ) → 1 ≤ count k (seen ws .blocked) → link-of ls k 3 ≢ 0 → link-of ls (link-of ls k 3) 2 ≡ link-of ls k 2
   pub falls : (k : ℕ) → 1 ≤ count k (seen ws .blocked) → link-of ls k 3 ≢ 0 → place-of ws (link-of ls k 3) < place-of ws k
 
--- ALL LINKS of the blocked lock k: on its line, and to the owners of the holders that it can look at
+-- THE HOLDERS on r. x comes after k and holds more than NL, or is 0; what is between them holds NL, which is in nobody's way
+pub record Leaps (ws : List ℕ) (r k x : ℕ) : Type 0 where
+  pub stands : x ≢ 0 → 1 ≤ count x (holders (seen ws) r)
+  pub strong : x ≢ 0 → lock (seen ws) x .held ≢ 0
+  pub less : length (holders-since ws r x) < length (holders-since ws r k)
+  pub rest : (j : ℕ) → 1 ≤ count j (holders-since ws r k) → j ≢ k → lock (seen ws) j .held ≢ 0 → 1 ≤ count j (holders-since ws r x)
+
+-- each holder on r that holds more than NL has the next such in its row
+pub record Chained (ws ls : List ℕ) (r : ℕ) : Type 0 where
+  pub each : (k : ℕ) → 1 ≤ count k (holders (seen ws) r) → lock (seen ws) k .held ≢ 0 → Leaps ws r k (link-of ls k 4)
+
+-- a walk along this chain is at k, or at its end, which is 0
+pub record Leaping (ws ls : List ℕ) (r k : ℕ) : Type 0 where
+  pub looking : Looking ws r k
+  pub strong : k ≢ 0 → lock (seen ws) k .held ≢ 0
+  pub chained : Chained ws ls r
+
+-- ALL LINKS of the blocked lock k: on its line, and of the holders that it can look at
 pub record Looker (ws ls : List ℕ) (k : ℕ) : Type 0 where
   pub stands : 1 ≤ count k (seen ws .blocked)
   pub ahead : link-of ls k 0 ≡ nearest (seen ws) k
   pub holder : link-of ls k 1 ≡ cond (looks (seen ws) k) (first (obstacles (seen ws) k)) 0
   pub same : (j b : ℕ) → 1 ≤ count j (holders (seen ws) (lock (seen ws) k .resource)) → 1 ≤ count b (seen ws .blocked) → Tells-owners ws ls j b
+  pub chained : Chained ws ls (lock (seen ws) k .resource)
 
 -- and of all that have no mark in m
 pub record Linked (ws ls : List ℕ) (m : List Bool) : Type 0 where

@@ -38,8 +38,9 @@ ghost use Rattle.deadlock_graph.specs.Holders.{Holds};
 ghost use Rattle.deadlock_graph.specs.Links.{«link-width», «link-of»};
 
 // What is kept of each lock, in a row of links at its number: the lock right ahead of it on its line; the holder at which it
-// begins to look who is in its way; its owner's number; the next blocked lock of its owner.
-pub const LINKS: usize = 4;
+// begins to look who is in its way; its owner's number; the next blocked lock of its owner; the next holder on its resource
+// that holds more than NL, if it does so itself.
+pub const LINKS: usize = 5;
 
 pub const LINK_AHEAD: usize = 0;
 
@@ -48,6 +49,8 @@ pub const LINK_HOLDER: usize = 1;
 pub const LINK_OWNER: usize = 2;
 
 pub const LINK_MATE: usize = 3;
+
+pub const LINK_NEXT: usize = 4;
 
 // The number of a lock that a word names, or 0.
 fn narrow(x: u32) -> u16

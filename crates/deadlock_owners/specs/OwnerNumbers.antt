@@ -6,12 +6,13 @@ use mathlib.Core.List.{List}
 use Prim.Native.Nat.{ℕ, _+_, _*_, _≤_, _<_}
 use lib.ListN.{getD, set, length}
 use Rattle.tables.specs.Lists.{count}
+use Rattle.tables.specs.State.{lock}
 use Rattle.tables.specs.Layout.{resources-in, locks-in}
 use Rattle.tables.specs.Grants.{holders}
 use Rattle.tables.specs.Validity.{Core}
 use Rattle.table_chains.specs.Contracts.{Some}
 use Rattle.deadlock_graph.specs.Contracts.{seen, Blocked}
-use Rattle.deadlock_graph.specs.Links.{link-width, link-of, Roomy, SameLinks, NoLinks, Numbered, Mated, mate, On, Listed, place-of}
+use Rattle.deadlock_graph.specs.Links.{link-width, link-of, Roomy, SameLinks, NoLinks, Numbered, Mated, mate, On, Listed, place-of, Chained}
 use Rattle.deadlock_owners.specs.OwnerLists.{owner-number, passed, OwnerLists}
 
 -- the link of j has its owner's number
@@ -81,25 +82,40 @@ pub record Holding (ws lists others ls : List ℕ) : Type 0 where
   pub rows : Roomy ws ls
   pub owners : OwnerLists ws (seen ws .blocked) lists others
 
--- the holders on r have their owners' numbers
+-- the row of `last`, which may be 0, has j as the next holder if j holds more than NL; and x is the last such then
+pub record Appended (ws : List ℕ) (j last : ℕ) (ls ls′ : List ℕ) (x : ℕ) : Type 0 where
+  pub null : lock (seen ws) j .held ≡ 0 → (x ≡ last) × (ls′ ≡ ls)
+  pub more : lock (seen ws) j .held ≢ 0 → (x ≡ j) × (ls′ ≡ set ls (link-width * last + 4) j)
+
+-- no lock but those on r has another next holder
+pub record Elsewhere (ws : List ℕ) (r : ℕ) (ls ls′ : List ℕ) : Type 0 where
+  pub each : (k : ℕ) → k ≢ 0 → lock (seen ws) k .resource ≢ r → link-of ls′ k 4 ≡ link-of ls k 4
+
+-- the holders on r have their owners' numbers, and those that hold more than NL the next such
 pub record HoldersDone (ws : List ℕ) (r : ℕ) (ls ls′ : List ℕ) : Type 0 where
   pub righter : Righter ws ls ls′
   pub each : (j : ℕ) → 1 ≤ count j (holders (seen ws) r) → Right ws ls′ j
+  pub chained : Chained ws ls′ r
+  pub elsewhere : Elsewhere ws r ls ls′
 
 -- they have them if the line there was linked
 pub record LineDone (ws lasts : List ℕ) (r : ℕ) (ls ls′ : List ℕ) : Type 0 where
   pub righter : Righter ws ls ls′
   pub each : getD lasts r 0 ≢ 0 → (j : ℕ) → 1 ≤ count j (holders (seen ws) r) → Right ws ls′ j
+  pub chained : getD lasts r 0 ≢ 0 → Chained ws ls′ r
+  pub elsewhere : Elsewhere ws r ls ls′
 
 -- the same for each resource
 pub record LinesDone (ws lasts ls ls′ : List ℕ) : Type 0 where
   pub righter : Righter ws ls ls′
   pub each : (r : ℕ) → 1 ≤ r → r ≤ resources-in ws → getD lasts r 0 ≢ 0 → (j : ℕ) → 1 ≤ count j (holders (seen ws) r) → Right ws ls′ j
+  pub chained : (r : ℕ) → 1 ≤ r → r ≤ resources-in ws → getD lasts r 0 ≢ 0 → Chained ws ls′ r
 
--- ALL OF IT: numbers and lists, and the links of the lines are what they were
+-- ALL OF IT: numbers, lists and chains of holders, and the links of the lines are what they were
 pub record OwnersNumbered (ws lasts ls ls′ hs : List ℕ) : Type 0 where
   pub numbered : Numbered ws lasts ls′
   pub mated : Mated ws ls′
   pub listed : (m : List Bool) → Listed ws ls′ hs m
+  pub chained : (r : ℕ) → 1 ≤ r → r ≤ resources-in ws → getD lasts r 0 ≢ 0 → Chained ws ls′ r
   pub ahead : SameLinks 0 ls ls′
   pub holder : SameLinks 1 ls ls′

@@ -1,21 +1,25 @@
 // A small number for each owner that has a blocked lock: the number of the first of its locks on the blocked chain. The search
 // for deadlocks finds an owner's blocked locks by it.
 use deadlock_graph::LINK_MATE;
+use deadlock_graph::LINK_NEXT;
 use deadlock_graph::LINK_OWNER;
 use deadlock_graph::first_blocked;
 use deadlock_graph::first_holder;
+use deadlock_graph::holds_null;
 use deadlock_graph::next_blocked;
 use deadlock_graph::next_holder;
 use deadlock_graph::owner_of;
 use deadlock_graph::put_link;
 use table_fields::resource_count;
 ghost use mathlib.Core.List.{[], _∷_, _++_};
-ghost use Prim.Native.Nat.{_≤_, _<_};
+ghost use Prim.Native.Nat.{_+_, _*_, _≤_, _<_};
 ghost use lib.ListN.{length};
 ghost use Rattle.tables.specs.Layout.{«resources-in»};
+ghost use Rattle.table_chains.specs.Walking.{At};
 ghost use Rattle.deadlock_graph.specs.Contracts.{seen};
+ghost use Rattle.deadlock_graph.specs.Links.{«link-width»};
 ghost use Rattle.deadlock_owners.specs.OwnerLists.{passed, LookedFor, Found, Noting, Noted};
-ghost use Rattle.deadlock_owners.specs.OwnerNumbers.{Listable, ListedLock, Numbering, Done, Unnumbered, Holding, HoldersDone, LineDone, LinesDone, OwnersNumbered};
+ghost use Rattle.deadlock_owners.specs.OwnerNumbers.{Listable, ListedLock, Numbering, Done, Unnumbered, Holding, Appended, HoldersDone, LineDone, LinesDone, OwnersNumbered};
 
 // Owners are looked for on these lists, by their low bits. An owner is there by the first of its blocked locks.
 const OWNER_LISTS: usize = 128;
@@ -95,18 +99,36 @@ fn number_blocked(
     }
 }
 
-// The holders on resource r get their owners' numbers: 0, if the owner has no blocked lock.
+// The holder j comes next after `last`, the last holder that was met and holds more than NL, or 0, which is no lock's number. A
+// holder in NL is left out: it is in nobody's way. Answers which is the last then.
+fn append(words: &[u32], j: u16, last: u16, links: &mut [u16]) -> u16
+    requires { ⌜ At (now words) j ⌝ }
+    requires { ⌜ link-width * last + 4 < length (now links) ⌝ }
+    ensures { λ x. ⌜ Appended (now (words .entry)) j last (now (links .entry)) (now (links .exit)) x ⌝ }
+{
+    if holds_null(words, j) {
+        return last;
+    }
+    put_link(links, last, LINK_NEXT, j);
+    j
+}
+
+// The holders on resource r get their owners' numbers: 0, if the owner has no blocked lock. Those that hold more than NL are
+// chained.
 fn number_holders(words: &[u32], lists: &[u16], others: &[u16], r: u32, links: &mut [u16])
     requires { ⌜ Holding (now words) (now lists) (now others) (now links) ⌝ }
     requires { ⌜ (1 ≤ r) × (r ≤ resources-in (now words)) ⌝ }
     ensures { λ _. ⌜ HoldersDone (now (words .entry)) r (now (links .entry)) (now (links .exit)) ⌝ }
 {
+    let mut last = 0;
     let mut j = first_holder(words, r);
     while j != 0 {
         let number = find_owner(words, lists, others, j);
         put_link(links, j, LINK_OWNER, number);
+        last = append(words, j, last, links);
         j = next_holder(words, j);
     }
+    put_link(links, last, LINK_NEXT, 0);
 }
 
 // The same, if the line of resource r was linked: `lasts` has its last lock. Elsewhere no lock looks who is in its way.

@@ -21,12 +21,11 @@ use Rattle.table_chains.specs.Marks.{marked}
 use Rattle.table_chains.specs.Walking.{At, Walking}
 use Rattle.table_chains.proofs.ChainWalks.{some-sized, walk-splits, blocked-walks, walk-stands, walk-less, walk-on}
 use Rattle.deadlock_graph.specs.Contracts.{seen, Blocked}
-use Rattle.deadlock_graph.specs.Holders.{holders-since, Looking}
+use Rattle.deadlock_graph.specs.Holders.{holders-since}
 use Rattle.deadlock_graph.specs.Hops.{looks}
-use Rattle.deadlock_graph.specs.Links.{link-width, link-of, Roomy, Linked}
-use Rattle.deadlock_graph.proofs.HolderWalks.{no-holder, since-passing}
+use Rattle.deadlock_graph.specs.Links.{link-width, link-of, Roomy, Linked, Leaping}
+use Rattle.deadlock_graph.proofs.HolderWalks.{no-holder, since-passing, bar-strong, leap-starts}
 use Rattle.deadlock_graph.proofs.LinkLaws.{row-inside}
-use Rattle.deadlock_graph.proofs.LockWords.{blocked-home}
 use Rattle.deadlock_graph.proofs.Marks.{Keeping}
 use Rattle.deadlock_graph.proofs.SeenChains.{blocked-seen}
 use Rattle.deadlock_prune.specs.BothEnds.{Placed, LinkedLock, looked}
@@ -110,10 +109,6 @@ module _ {ls : List ℕ} {k : ℕ} (p : Placed ls k) where
 
 -- ---- where a blocked lock begins to look: at the first holder in its way
 
-first-in : (xs : List ℕ) → first xs ≢ 0 → 1 ≤ count (first xs) xs
-first-in [] n = absurd (n refl)
-first-in (x ∷ xs) n = omega (arith, count-same x xs)
-
 module _ (ws : List ℕ) (k j : ℕ) where
   -- one that it looks at
   pub looked-in : 1 ≤ count j (looked (seen ws) k) → (looks (seen ws) k ≡ true) × (1 ≤ count j (obstacles (seen ws) k))
@@ -123,22 +118,16 @@ module _ (ws : List ℕ) (k j : ℕ) where
       (λ y. (y, rw y at c))
       (λ f. absurd (omega (arith, count-nil j, rw f at c)))
 
+  -- holds more than NL
+  pub looked-strong : Some Core ws → 1 ≤ count j (looked (seen ws) k) → lock (seen ws) j .held ≢ 0
+  looked-strong s c = bar-strong ws k j s (obstacle-in (seen ws) k j (looked-in c .1) .1)
+
 module _ {ws ls : List ℕ} {k j : ℕ} (l : LinkedLock ws ls k) (e : j ≡ link-of ls k 1) where
   abbrev r : ℕ
   r = lock (seen ws) k .resource
 
-  pub looks-along : Looking ws r j
-  looks-along =
-      let home = blocked-home ws k (l .blocked) in
-      record { some = l .blocked .some; low = home .0; high = home .1; stands = at }
-    where
-      at : j ≢ 0 → 1 ≤ count j (holders (seen ws) r)
-      at n =
-          by-cases (looks (seen ws) k)
-          (λ y.
-          let q : j ≡ first (obstacles (seen ws) k) = e ∙ l .looker .holder ∙ rw y in
-          rw q (obstacle-in (seen ws) k (first (obstacles (seen ws) k)) (first-in (obstacles (seen ws) k) (λ z. n (q ∙ z))) .0))
-          (λ f. absurd (n (e ∙ l .looker .holder ∙ rw f)))
+  pub looks-along : Leaping ws ls r j
+  looks-along = leap-starts (l .blocked .some) (l .looker) e
 
   pub looks-meets : (i : ℕ) → 1 ≤ count i (looked (seen ws) k) → 1 ≤ count i (holders-since ws r j)
   unfolding holders-since obstacles

@@ -9,10 +9,9 @@ use lib.ListN.{getD, set, length}
 use lib.Dec.{eqb}
 use borrow.Author.Tests.{not-true, not-false, ne-eqb}
 use borrow.Author.Needs.{needs}
-use Rattle.tables.specs.Lists.{count, bit, next}
+use Rattle.tables.specs.Lists.{count, bit}
 use Rattle.tables.specs.State.{lock}
 use Rattle.tables.specs.Layout.{of-header, of-lock, word-in, onward}
-use Rattle.tables.specs.Grants.{holders}
 use Rattle.tables.proofs.Cases.{by-cases, by-equal, clash}
 use Rattle.tables.proofs.Counts.{count-nil, count-other}
 use Rattle.rules.specs.Deadlock.{in-the-way}
@@ -22,18 +21,18 @@ use Rattle.table_chains.specs.Marks.{marked}
 use Rattle.table_chains.specs.Walking.{At}
 use Rattle.table_chains.proofs.ChainWalks.{walk-splits, walk-ends}
 use Rattle.deadlock_graph.specs.Contracts.{seen, Blocked}
-use Rattle.deadlock_graph.specs.Holders.{Holds, holders-since, Looking}
+use Rattle.deadlock_graph.specs.Holders.{holders-since}
 use Rattle.deadlock_graph.specs.Hops.{nearest}
-use Rattle.deadlock_graph.specs.Links.{link-width, link-of, Linked}
+use Rattle.deadlock_graph.specs.Links.{link-width, link-of, Linked, Leaping}
 use Rattle.deadlock_graph.specs.Marks.{unmarked}
-use Rattle.deadlock_graph.proofs.HolderWalks.{look-ends, look-at, look-holds, look-on, look-splits, look-less}
+use Rattle.deadlock_graph.proofs.HolderWalks.{look-ends, leap-at, leap-on, leap-less, leap-passed}
 use Rattle.deadlock_graph.proofs.LinkLaws.{row-inside}
 use Rattle.deadlock_graph.proofs.LockWords.{blocked-at}
 use Rattle.deadlock_graph.proofs.Marks.{mark-same, mark-kept}
 use Rattle.deadlock_graph.proofs.NearestLocks.{nearest-blocked-seen}
 use Rattle.deadlock_graph.proofs.SeenChains.{blocked-seen}
 use Rattle.deadlock_prune.specs.BothEnds.{Placed, LinkedLock, looked, Ready, Passed, BusyNoted, Busy, hinders, Hindered, FrontPass, FrontStep}
-use Rattle.deadlock_prune.proofs.BlockedWalks.{Along, along-starts, along-blocked, along-at, along-on, along-less, rows-placed, linked-row, linked-placed, linked-lock, placed-few, number-few, number-fits, looked-in, looks-along, looks-meets}
+use Rattle.deadlock_prune.proofs.BlockedWalks.{Along, along-starts, along-blocked, along-at, along-on, along-less, rows-placed, linked-row, linked-placed, linked-lock, placed-few, number-few, number-fits, looked-in, looked-strong, looks-along, looks-meets}
 use Rattle.deadlock_prune.proofs.ClearedLocks.{mark-place, marks-less, front-more}
 use Rattle.deadlock_prune.proofs.LocksLeft.{bit-or, ready-some, ready-linked, ready-wide}
 
@@ -107,7 +106,7 @@ pub ruleset hinders-laws = (needs, number-few, number-fits, hinders-not, hinders
 
 -- at the holder j: those before it that k looks at have owners that are not busy
 pub record Hindering (ws ls : List ℕ) (b : List Bool) (k j : ℕ) : Type 0 where
-  pub look : Looking ws (lock (seen ws) k .resource) j
+  pub look : Leaping ws ls (lock (seen ws) k .resource) j
   pub each : (i : ℕ) → 1 ≤ count i (looked (seen ws) k) → count i (holders-since ws (lock (seen ws) k .resource) j) ≡ 0 → marked b (link-of ls i 2) ≡ false
 
 module _ {ws ls : List ℕ} {k : ℕ} (l : LinkedLock ws ls k) where
@@ -123,13 +122,17 @@ module _ {ws ls : List ℕ} {k : ℕ} (l : LinkedLock ws ls k) where
 module _ {ws ls : List ℕ} {b : List Bool} {k j : ℕ} (i : Hindering ws ls b k j) where
   module _ (n : j ≢ 0) where
     pub hindering-at : At ws j
-    hindering-at = look-at (i .look) n
+    hindering-at = leap-at (i .look) n
 
     pub hindering-placed : LinkedLock ws ls k → Placed ls j
-    hindering-placed l = rows-placed (l .roomy) (l .small) (look-at (i .look) n)
+    hindering-placed l = rows-placed (l .roomy) (l .small) (leap-at (i .look) n)
 
-    pub hindering-holds : Holds ws j
-    hindering-holds = look-holds (i .look) n
+    pub hindering-row : LinkedLock ws ls k → link-width * j + 4 < length ls
+    hindering-row l = row-inside ws ls j 4 (l .roomy) (leap-at (i .look) n .high) (omega arith)
+
+    pub hindering-less : {x : ℕ} → x ≡ link-of ls j 4 →
+        length (holders-since ws (lock (seen ws) k .resource) x) < length (holders-since ws (lock (seen ws) k .resource) j)
+    hindering-less e = leap-less (i .look) n e
 
     module _ {r : Bool} (e : r ≡ hinders (seen ws) ls b k j) (h : r ≡ false) where
       not-busy : 1 ≤ count j (looked (seen ws) k) → marked b (link-of ls j 2) ≡ false
@@ -140,23 +143,23 @@ module _ {ws ls : List ℕ} {b : List Bool} {k j : ℕ} (i : Hindering ws ls b k
           (λ y. clash (hinders (seen ws) ls b k j) (rw (y, w)) (sym e ∙ h))
           (λ y. y)
 
-      pub hindering-again : {x : ℕ} → x ≡ next j (holders (seen ws) (lock (seen ws) j .resource)) → Hindering ws ls b k x
+      pub hindering-again : {x : ℕ} → x ≡ link-of ls j 4 → Hindering ws ls b k x
       hindering-again {x} q =
           record {
-            look = look-on (i .look) n q;
+            look = leap-on (i .look) n q;
             each = λ y c z.
                 by-equal y j
                 (λ o. rw o (not-busy (rw o at c)))
-                (λ o. i .each y c (rw (look-splits (i .look) n q, count-other y j (holders-since ws (lock (seen ws) k .resource) x) o) z));
+                (λ o. i .each y c (leap-passed (i .look) n q y o (looked-strong ws k y (i .look .looking .some) c) z));
           }
 
   pub hindering-ends : j ≡ 0 → Hindered ws ls b k false
-  hindering-ends e = record { free = λ f y c. i .each y c (rw (look-ends ws (lock (seen ws) k .resource) j (i .look .some) e) (count-nil y)) }
+  hindering-ends e = record { free = λ f y c. i .each y c (rw (look-ends ws (lock (seen ws) k .resource) j (i .look .looking .some) e) (count-nil y)) }
 
 pub hindering-found : (ws ls : List ℕ) (b : List Bool) (k : ℕ) → Hindered ws ls b k true
 hindering-found ws ls b k = record { free = λ f. clash true refl f }
 
-pub ruleset hindering-laws = (needs, lock-at, lock-row, hindering-starts, hindering-at, hindering-placed, hindering-holds, hindering-found, hindering-again, hindering-ends, look-less)
+pub ruleset hindering-laws = (needs, lock-at, lock-row, hindering-starts, hindering-at, hindering-placed, hindering-row, hindering-less, hindering-found, hindering-again, hindering-ends)
 
 -- ---- one lock
 

@@ -8,10 +8,9 @@ use native.Mathlib.Omega.{arith}
 use lib.ListN.{getD, set, length}
 use borrow.Author.Tests.{not-true}
 use borrow.Author.Needs.{needs}
-use Rattle.tables.specs.Lists.{count, next}
+use Rattle.tables.specs.Lists.{count}
 use Rattle.tables.specs.State.{lock}
 use Rattle.tables.specs.Layout.{of-header, of-lock, word-in, onward}
-use Rattle.tables.specs.Grants.{holders}
 use Rattle.tables.proofs.Cases.{by-equal, clash}
 use Rattle.tables.proofs.Counts.{count-nil, count-other}
 use Rattle.rules.specs.Deadlock.{in-the-way}
@@ -21,14 +20,14 @@ use Rattle.table_chains.specs.Marks.{marked}
 use Rattle.table_chains.specs.Walking.{At}
 use Rattle.table_chains.proofs.ChainWalks.{walk-splits, walk-ends}
 use Rattle.deadlock_graph.specs.Contracts.{seen, Blocked}
-use Rattle.deadlock_graph.specs.Holders.{Holds, holders-since, Looking}
-use Rattle.deadlock_graph.specs.Links.{link-width, link-of, Linked}
-use Rattle.deadlock_graph.proofs.HolderWalks.{look-ends, look-at, look-holds, look-on, look-splits, look-less}
+use Rattle.deadlock_graph.specs.Holders.{holders-since}
+use Rattle.deadlock_graph.specs.Links.{link-width, link-of, Linked, Leaping}
+use Rattle.deadlock_graph.proofs.HolderWalks.{look-ends, leap-at, leap-on, leap-less, leap-passed}
 use Rattle.deadlock_graph.proofs.LockWords.{blocked-at, blocked-stands}
 use Rattle.deadlock_graph.proofs.Marks.{mark-same, mark-kept}
 use Rattle.deadlock_graph.proofs.SeenChains.{blocked-seen}
 use Rattle.deadlock_prune.specs.BothEnds.{Placed, looked, OwnerNoted, WantNoted, Wanted}
-use Rattle.deadlock_prune.proofs.BlockedWalks.{Along, along-starts, along-blocked, along-on, along-less, linked-row, linked-placed, linked-lock, number-few, number-fits, looked-in, looks-along, looks-meets}
+use Rattle.deadlock_prune.proofs.BlockedWalks.{Along, along-starts, along-blocked, along-on, along-less, linked-row, linked-placed, linked-lock, number-few, number-fits, looked-in, looked-strong, looks-along, looks-meets}
 use Rattle.deadlock_prune.proofs.ClearedLocks.{mark-place}
 
 -- ---- one holder
@@ -48,7 +47,7 @@ pub ruleset owner-laws = (needs, number-few, number-fits, owner-skips, owner-sto
 
 -- at the holder j: the owners of those before it that k looks at are written down
 pub record Wanting (ws ls : List ℕ) (w₀ w : List Bool) (k j : ℕ) : Type 0 where
-  pub look : Looking ws (lock (seen ws) k .resource) j
+  pub look : Leaping ws ls (lock (seen ws) k .resource) j
   pub wide : length w ≡ lock-places
   pub size : length w ≡ length w₀
   pub kept : (x : ℕ) → marked w₀ x ≡ true → marked w x ≡ true
@@ -74,35 +73,39 @@ module _ {ws ls : List ℕ} {m : List Bool} {k : ℕ} (l : Linked ws ls m) (p : 
 module _ {ws ls : List ℕ} {w₀ w : List Bool} {k j : ℕ} (i : Wanting ws ls w₀ w k j) where
   module _ (n : j ≢ 0) where
     pub wanting-at : At ws j
-    wanting-at = look-at (i .look) n
+    wanting-at = leap-at (i .look) n
 
     pub wanting-placed : {m : List Bool} → Linked ws ls m → Placed ls j
-    wanting-placed l = linked-placed l (look-at (i .look) n)
+    wanting-placed l = linked-placed l (leap-at (i .look) n)
 
-    pub wanting-holds : Holds ws j
-    wanting-holds = look-holds (i .look) n
+    pub wanting-row : {m : List Bool} → Linked ws ls m → link-width * j + 4 < length ls
+    wanting-row l = linked-row l 4 (leap-at (i .look) n) (omega arith)
 
-    pub wanting-again : {x : ℕ} {w′ : List Bool} → OwnerNoted ws ls k j w w′ → length w′ ≡ length w → x ≡ next j (holders (seen ws) (lock (seen ws) j .resource)) → Wanting ws ls w₀ w′ k x
+    pub wanting-less : {x : ℕ} → x ≡ link-of ls j 4 →
+        length (holders-since ws (lock (seen ws) k .resource) x) < length (holders-since ws (lock (seen ws) k .resource) j)
+    wanting-less e = leap-less (i .look) n e
+
+    pub wanting-again : {x : ℕ} {w′ : List Bool} → OwnerNoted ws ls k j w w′ → length w′ ≡ length w → x ≡ link-of ls j 4 → Wanting ws ls w₀ w′ k x
     wanting-again {x} {w′} d s e =
         record {
-          look = look-on (i .look) n e;
+          look = leap-on (i .look) n e;
           wide = s ∙ i .wide;
           size = s ∙ i .size;
           kept = λ y h. d .kept y (i .kept y h);
           each = λ y c z.
               by-equal y j
               (λ q. rw q (d .here (obstacle-in (seen ws) k j (looked-in ws k j (rw q at c) .1) .1)))
-              (λ o. d .kept _ (i .each y c (rw (look-splits (i .look) n e, count-other y j (holders-since ws (lock (seen ws) k .resource) x) o) z)));
+              (λ o. d .kept _ (i .each y c (leap-passed (i .look) n e y o (looked-strong ws k y (i .look .looking .some) c) z)));
         }
 
   pub wanting-ends : (m : List Bool) → j ≡ 0 → WantNoted ws ls m k w₀ w
   wanting-ends m e =
       record {
-        here = λ f y c. i .each y c (rw (look-ends ws (lock (seen ws) k .resource) j (i .look .some) e) (count-nil y));
+        here = λ f y c. i .each y c (rw (look-ends ws (lock (seen ws) k .resource) j (i .look .looking .some) e) (count-nil y));
         kept = i .kept;
       }
 
-pub ruleset wanting-laws = (needs, blocked-stands, want-row, want-place, want-skips, wanting-starts, wanting-at, wanting-placed, wanting-holds, wanting-again, wanting-ends, look-less)
+pub ruleset wanting-laws = (needs, blocked-stands, want-row, want-place, want-skips, wanting-starts, wanting-at, wanting-placed, wanting-row, wanting-less, wanting-again, wanting-ends)
 
 -- ---- all blocked locks
 

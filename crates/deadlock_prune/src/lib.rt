@@ -1,6 +1,7 @@
 // Clearing blocked locks that are on no cycle, before any search: cheaply where a line leads nowhere, then from both ends.
 use deadlock_graph::LINK_AHEAD;
 use deadlock_graph::LINK_HOLDER;
+use deadlock_graph::LINK_NEXT;
 use deadlock_graph::LINK_OWNER;
 use deadlock_graph::bars;
 use deadlock_graph::first_blocked;
@@ -201,7 +202,7 @@ fn hindered(words: &[u32], links: &[u16], busy: &[bool], k: u16) -> bool
         if hinders(words, links, busy, k, j) {
             return true;
         }
-        j = next_holder(words, j);
+        j = link(links, j, LINK_NEXT);
     }
     false
 }
@@ -285,7 +286,7 @@ fn want_owners(words: &[u32], links: &[u16], cleared: &[bool], k: u16, wanted: &
     let mut j = link(links, k, LINK_HOLDER);
     while j != 0 {
         want_owner(words, links, k, j, wanted);
-        j = next_holder(words, j);
+        j = link(links, j, LINK_NEXT);
     }
 }
 

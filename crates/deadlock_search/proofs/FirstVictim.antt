@@ -25,6 +25,7 @@ use Rattle.deadlock_graph.specs.Contracts.{seen}
 use Rattle.deadlock_graph.specs.Hops.{hops}
 use Rattle.deadlock_graph.specs.Links.{link-width, link-of, NoLinks, Linked, holds-there}
 use Rattle.deadlock_graph.specs.Marks.{Cleared}
+use Rattle.deadlock_graph.proofs.LockWords.{blocked-home}
 use Rattle.deadlock_graph.proofs.Marks.{mark-kept, clear-more, join, unmarked-mono}
 use Rattle.deadlock_graph.proofs.SameVictim.{alike, victim-alike}
 use Rattle.deadlock_graph.proofs.SeenChains.{blocked-seen}
@@ -230,6 +231,7 @@ module _ {ws : List ℕ} {m : List Bool} {ls fs hs : List ℕ} (r : Room ws m ls
                   ahead = o .ahead .each k ∙ l .lined .ahead k p f;
                   holder = o .holder .each k ∙ l .lined .holder k p f;
                   same = λ j b h q. o .numbered .same j b (holds-there k p (l .made .each k p f) h) q;
+                  chained = let h = blocked-home ws k (record { some = r .some; stands = p }) in o .chained _ (h .0) (h .1) (l .made .each k p f);
                 };
           }
 

@@ -7,15 +7,12 @@ use Prim.Native.Nat.{ℕ, _+_, _*_, _≤_, _<_, _^_}
 use native.Mathlib.Omega.{arith}
 use lib.ListN.{getD, set, length, length-set}
 use lib.Seq.{getD-set-same, getD-set-other}
-use lib.Dec.{eqb}
-use borrow.Author.Tests.{not-true, not-false, eqb-true, eqb-false}
+use borrow.Author.Tests.{not-true, not-false}
 use borrow.Author.Needs.{needs}
-use Rattle.tables.specs.Lists.{count, next}
+use Rattle.tables.specs.Lists.{count}
 use Rattle.tables.specs.State.{lock}
-use Rattle.tables.specs.Grants.{holders}
 use Rattle.tables.specs.Validity.{Core}
 use Rattle.tables.proofs.Cases.{by-equal, clash}
-use Rattle.tables.proofs.Counts.{count-other}
 use Rattle.rules.specs.Deadlock.{in-the-way}
 use Rattle.table_fields.specs.Sizes.{lock-places}
 use Rattle.table_chains.specs.Contracts.{Some}
@@ -23,10 +20,10 @@ use Rattle.table_chains.specs.Walking.{At}
 use Rattle.table_chains.specs.Marks.{marked}
 use Rattle.table_chains.proofs.ChainWalks.{some-sized}
 use Rattle.deadlock_graph.specs.Contracts.{seen}
-use Rattle.deadlock_graph.specs.Holders.{holders-since, Holds}
+use Rattle.deadlock_graph.specs.Holders.{holders-since}
 use Rattle.deadlock_graph.specs.Links.{link-width, link-of, mate, On}
 use Rattle.deadlock_graph.proofs.LockWords.{blocked-at}
-use Rattle.deadlock_graph.proofs.HolderWalks.{look-at, look-holds, look-on, look-splits, look-less}
+use Rattle.deadlock_graph.proofs.HolderWalks.{bar-strong, leap-at, leap-on, leap-less, leap-passed}
 use Rattle.deadlock_graph.proofs.LinkLaws.{row-inside, on-past, turns, turns-less}
 use Rattle.deadlock_search.specs.Searches.{Lists, HasList, OnList, FirstUnmarked, first-of, Shorter, Looks, Looked, Sought}
 
@@ -123,7 +120,7 @@ module _ {ws ls : List ℕ} {a j : ℕ} {hs : List ℕ} {m : List Bool} (l : Loo
 
   module _ (n : j ≢ 0) where
     pub stops-holder : At ws j
-    stops-holder = look-at (l .looking) n
+    stops-holder = leap-at (l .leaping) n
 
     pub stops-row : link-width * j + 2 < length ls
     stops-row = row-inside ws ls j 2 (l .lists .linked .roomy) (stops-holder .high) (omega arith)
@@ -142,16 +139,6 @@ module _ {ws ls : List ℕ} {a j : ℕ} {hs : List ℕ} {m : List Bool} (l : Loo
         stop = λ q. clash false q refl;
         none = λ q w. sym e ∙ z;
       }
-
-  module _ {r : Bool} (e : r ≡ in-the-way (seen ws) a j) where
-    pub stops-free : not r ≡ true → Looked ws ls a j hs m hs false
-    stops-free h =
-        record {
-          lists = l .lists;
-          shorter = record { size = refl; spent = λ o z. z };
-          stop = λ q. clash false q refl;
-          none = λ q w. clash r (e ∙ w) (not-true r h);
-        }
 
   pub stops-list : {x : ℕ} → x ≡ first-of ls hs j → OnList ws ls m x
   unfolding first-of
@@ -210,25 +197,32 @@ module _ {ws ls : List ℕ} {a j : ℕ} {hs : List ℕ} {m : List Bool} (l : Loo
                 (λ n. getD-set-other hs o p b 0 n ∙ z);
           }
 
-      pub stops-known : {r : Bool} → r ≡ in-the-way (seen ws) a j → not r ≡ false → Looked ws ls a j hs m later (not (eqb b 0))
-      stops-known {r} e h =
+      pub stops-spent : b ≡ 0 → Looked ws ls a j hs m later false
+      stops-spent z =
           record {
             lists = later-lists;
             shorter = later-shorter;
-            stop = λ t.
-                let n : b ≢ 0 = eqb-false b 0 (not-true (eqb b 0) t) in
-                record { bars = sym e ∙ not-false r h; some = λ z. n (sym first-later ∙ z); fresh = ap (marked m) first-later ∙ u .fresh n };
-            none = λ t w. first-later ∙ eqb-true b 0 (not-false (eqb b 0) t);
+            stop = λ t. clash false t refl;
+            none = λ t w. first-later ∙ z;
           }
 
-pub ruleset stops-laws = (needs, stops-at, stops-holder, stops-row, stops-has, stops-empty, stops-free, stops-head, stops-fits, stops-list, stops-known)
+      pub stops-known : {r : Bool} → b ≢ 0 → r ≡ in-the-way (seen ws) a j → Looked ws ls a j hs m later r
+      stops-known {r} n e =
+          record {
+            lists = later-lists;
+            shorter = later-shorter;
+            stop = λ t. record { bars = sym e ∙ t; some = λ z. n (sym first-later ∙ z); fresh = ap (marked m) first-later ∙ u .fresh n };
+            none = λ t w. clash r (e ∙ w) t;
+          }
+
+pub ruleset stops-laws = (needs, stops-at, stops-holder, stops-row, stops-has, stops-empty, stops-head, stops-fits, stops-list, stops-spent, stops-known)
 
 -- ---- the holders, one after the other
 
 pub shorter-on : {hs hs′ hs″ : List ℕ} → Shorter hs hs′ → Shorter hs′ hs″ → Shorter hs hs″
 shorter-on p q = record { size = q .size ∙ p .size; spent = λ o z. q .spent o (p .spent o z) }
 
--- at the holder k: those that were passed, from `at` on, are no stops
+-- at the holder k, which holds more than NL: those that were passed, from `at` on, are no stops
 pub record Seeking (ws ls : List ℕ) (a at : ℕ) (hs₀ hs : List ℕ) (m : List Bool) (k : ℕ) : Type 0 where
   pub looks : Looks ws ls a k hs m
   pub shorter : Shorter hs₀ hs
@@ -245,12 +239,12 @@ module _ {ws ls : List ℕ} {a at : ℕ} {hs₀ hs : List ℕ} {m : List Bool} {
   seek-size = i .shorter .size
 
   module _ (n : k ≢ 0) where
-    pub seek-holds : Holds ws k
-    seek-holds = look-holds (i .looks .looking) n
+    pub seek-row : link-width * k + 4 < length ls
+    seek-row = row-inside ws ls k 4 (i .looks .lists .linked .roomy) (leap-at (i .looks .leaping) n .high) (omega arith)
 
-    pub seek-less : {x : ℕ} → x ≡ next k (holders (seen ws) (lock (seen ws) k .resource)) →
+    pub seek-less : {x : ℕ} → x ≡ link-of ls k 4 →
         length (holders-since ws (lock (seen ws) a .resource) x) < length (holders-since ws (lock (seen ws) a .resource) k)
-    seek-less e = look-less (i .looks .looking) n e
+    seek-less e = leap-less (i .looks .leaping) n e
 
     module _ {hs′ : List ℕ} {r : Bool} (l : Looked ws ls a k hs m hs′ r) where
       -- what was empty still is
@@ -261,23 +255,23 @@ module _ {ws ls : List ℕ} {a at : ℕ} {hs₀ hs : List ℕ} {m : List Bool} {
       pub seek-found : r ≡ true → Sought ws ls a at hs₀ m hs′ k
       seek-found h =
           record {
-            looks = record { lists = l .lists; stands = i .looks .stands; looking = i .looks .looking };
+            looks = record { lists = l .lists; stands = i .looks .stands; leaping = i .looks .leaping };
             shorter = shorter-on (i .shorter) (l .shorter);
             stop = λ o. l .stop h;
             none = i .none;
             passed = λ j p z w. still j (i .passed j p z w);
           }
 
-      pub seek-again : {x : ℕ} → r ≡ false → x ≡ next k (holders (seen ws) (lock (seen ws) k .resource)) → Seeking ws ls a at hs₀ hs′ m x
+      pub seek-again : {x : ℕ} → r ≡ false → x ≡ link-of ls k 4 → Seeking ws ls a at hs₀ hs′ m x
       seek-again {x} h e =
           record {
-            looks = record { lists = l .lists; stands = i .looks .stands; looking = look-on (i .looks .looking) n e };
+            looks = record { lists = l .lists; stands = i .looks .stands; leaping = leap-on (i .looks .leaping) n e };
             shorter = shorter-on (i .shorter) (l .shorter);
             none = λ z. absurd (n (i .none z));
             passed = λ j p z w.
                 by-equal j k
                 (λ q. rw q (l .none h (rw q at w)))
-                (λ o. still j (i .passed j p (rw (look-splits (i .looks .looking) n e, count-other j k (holders-since ws (lock (seen ws) a .resource) x) o) z) w));
+                (λ o. still j (i .passed j p (leap-passed (i .looks .leaping) n e j o (bar-strong ws a j (l .lists .linked .some) w) z) w));
           }
 
   pub seek-ends : k ≡ 0 → Sought ws ls a at hs₀ m hs 0
@@ -291,4 +285,4 @@ module _ {ws ls : List ℕ} {a at : ℕ} {hs₀ hs : List ℕ} {m : List Bool} {
         passed = i .passed;
       })
 
-pub ruleset seek-laws = (needs, seek-starts, seek-size, seek-holds, seek-less, seek-found, seek-again, seek-ends)
+pub ruleset seek-laws = (needs, seek-starts, seek-size, seek-row, seek-less, seek-found, seek-again, seek-ends)

@@ -10,7 +10,6 @@ use lib.Dec.{leb}
 use borrow.Author.Tests.{leb-true, leb-false}
 use Rattle.tables.specs.Lists.{count, first}
 use Rattle.tables.specs.State.{lock}
-use Rattle.tables.specs.Layout.{resources-in}
 use Rattle.tables.specs.Grants.{holders}
 use Rattle.tables.specs.Validity.{Core}
 use Rattle.tables.proofs.Cases.{by-cases, by-equal, clash}
@@ -27,9 +26,8 @@ use Rattle.deadlock_graph.specs.Holders.{holders-since}
 use Rattle.deadlock_graph.specs.Links.{link-width, link-of, Looker, Linked}
 use Rattle.deadlock_graph.specs.Marks.{unmarked}
 use Rattle.deadlock_graph.proofs.Marks.{Keeping, mark-same, mark-other, mark-kept, unmarked-mono, unmarked-less}
-use Rattle.deadlock_graph.proofs.LockWords.{blocked-home}
 use Rattle.deadlock_graph.proofs.NearestLocks.{nearest-blocked-seen}
-use Rattle.deadlock_graph.proofs.HolderWalks.{holder-at, look-obstacles, obstacle-on, look-ends}
+use Rattle.deadlock_graph.proofs.HolderWalks.{holder-at, obstacle-on, leap-starts, look-ends}
 use Rattle.deadlock_graph.proofs.LinkLaws.{row-inside}
 use Rattle.deadlock_search.specs.Searches.{Lists, Shorter, first-of, HasList, Looks, Stop, Sought, Following, Followed, Searching, Entered, Searched, Vain}
 use Rattle.deadlock_search.proofs.OwnerLists.{lists-mark, lists-row, shorter-on}
@@ -217,19 +215,12 @@ module _ {ws ls : List ℕ} {from t d : ℕ} {hs : List ℕ} {m : List Bool} (s 
     k-is : k ≡ cond (looks (seen ws) from) (first (obstacles (seen ws) from)) 0
     k-is = ek ∙ s .searching .links .holder
 
-    home : (1 ≤ lock (seen ws) from .resource) × (lock (seen ws) from .resource ≤ resources-in ws)
-    home = blocked-home ws from (record { some = some-words; stands = s .searching .links .stands })
-
     pub owners-look : Looks ws ls from k hs m
     owners-look =
         record {
           lists = s .searching .lists;
           stands = s .searching .links .stands;
-          looking = by-cases (looks (seen ws) from)
-              (λ l. look-obstacles some-words from home (k-is ∙ rw l))
-              (λ l.
-              let z : k ≡ 0 = k-is ∙ rw l in
-              record { some = some-words; low = home .0; high = home .1; stands = λ n. absurd (n z) });
+          leaping = leap-starts some-words (s .searching .links) ek;
         }
 
     pub turning-starts : {hs′ : List ℕ} {at : ℕ} → Sought ws ls from k hs m hs′ at → Turning ws ls from t d hs′ m hs′ m at
@@ -261,7 +252,7 @@ module _ {ws ls : List ℕ} {from t d : ℕ} {hs₀ : List ℕ} {m₀ : List Boo
 
   module _ (n : at ≢ 0) where
     holder : 1 ≤ count at (holders (seen ws) (lock (seen ws) from .resource))
-    holder = i .look .looking .stands n
+    holder = i .look .leaping .looking .stands n
 
     pub turn-list : HasList ls at hs
     turn-list =
@@ -305,7 +296,7 @@ module _ {ws ls : List ℕ} {from t d : ℕ} {hs₀ : List ℕ} {m₀ : List Boo
           now-vain = vain-on (i .vain) (f .vain h)
 
           pub turn-looks : Looks ws ls from at hs′ m′
-          turn-looks = record { lists = now-vain .lists; stands = i .look .stands; looking = i .look .looking }
+          turn-looks = record { lists = now-vain .lists; stands = i .look .stands; leaping = i .look .leaping }
 
           pub turn-less : unmarked (seen ws .blocked) m′ < unmarked (seen ws .blocked) m
           turn-less =

@@ -16,9 +16,9 @@ use Rattle.table_chains.specs.Contracts.{Some}
 use Rattle.table_chains.specs.Marks.{marked}
 use Rattle.deadlock_graph.specs.Contracts.{seen}
 use Rattle.deadlock_graph.specs.Marks.{unmarked, Cleared}
-use Rattle.deadlock_graph.specs.Holders.{holders-since, Looking}
+use Rattle.deadlock_graph.specs.Holders.{holders-since}
 use Rattle.deadlock_graph.specs.Hops.{nearest, hops}
-use Rattle.deadlock_graph.specs.Links.{link-width, link-of, Roomy, mate, On, Listed, Looker, Linked}
+use Rattle.deadlock_graph.specs.Links.{link-width, link-of, Roomy, mate, On, Listed, Leaping, Looker, Linked}
 
 -- links, marks, and the owners' lists, from whose fronts marked locks may be gone
 pub record Lists (ws ls hs : List ℕ) (m : List Bool) : Type 0 where
@@ -55,11 +55,11 @@ pub record FirstUnmarked (ws ls : List ℕ) (m : List Bool) (first b : ℕ) : Ty
   pub rest : (y : ℕ) → marked m y ≡ false → On (mate ls) first y → On (mate ls) b y
   pub fresh : b ≢ 0 → marked m b ≡ false
 
--- THE HOLDERS. The lists, for a look at the holders on the resource of the blocked lock a, from k on
+-- THE HOLDERS. The lists, for a look at the holders on the resource of the blocked lock a that hold more than NL, from k on
 pub record Looks (ws ls : List ℕ) (a k : ℕ) (hs : List ℕ) (m : List Bool) : Type 0 where
   pub lists : Lists ws ls hs m
   pub stands : 1 ≤ count a (seen ws .blocked)
-  pub looking : Looking ws (lock (seen ws) a .resource) k
+  pub leaping : Leaping ws ls (lock (seen ws) a .resource) k
 
 -- k is in a's way, and its owner's list begins with a lock that has no mark
 pub record Stop (ws ls : List ℕ) (a k : ℕ) (hs : List ℕ) (m : List Bool) : Type 0 where

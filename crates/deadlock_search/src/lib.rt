@@ -2,13 +2,13 @@
 use deadlock_graph::LINK_AHEAD;
 use deadlock_graph::LINK_HOLDER;
 use deadlock_graph::LINK_MATE;
+use deadlock_graph::LINK_NEXT;
 use deadlock_graph::LINK_OWNER;
 use deadlock_graph::LINKS;
 use deadlock_graph::bars;
 use deadlock_graph::first_blocked;
 use deadlock_graph::link;
 use deadlock_graph::next_blocked;
-use deadlock_graph::next_holder;
 use deadlock_lines::link_lines;
 use deadlock_owners::number_owners;
 use deadlock_prune::clear_ends;
@@ -54,7 +54,8 @@ fn first_of(links: &[u16], heads: &[u16], j: u16) -> u16
 }
 
 // Whether the owner of the holder j has a blocked lock without a mark and j is in a's way. That lock is the first on the
-// owner's list then: locks with a mark go from the front of the list, so that a search passes each of them once.
+// owner's list then: locks with a mark go from the front of the list first, so that a search passes each of them once and reads
+// no words of a holder whose owner has none left.
 fn stops(
     words: &[u32],
     links: &[u16],
@@ -71,16 +72,16 @@ fn stops(
     if first == 0 {
         return false;
     }
-    if !bars(words, a, j) {
-        return false;
-    }
     let b = unmarked_from(words, links, marks, first);
     let owner = link(links, j, LINK_OWNER);
     heads[owner as usize] = b;
-    b != 0
+    if b == 0 {
+        return false;
+    }
+    bars(words, a, j)
 }
 
-// The first such holder, from `at` on, or 0.
+// The first such holder, from `at` on, or 0. Holders in NL are left out.
 fn seek(
     words: &[u32],
     links: &[u16],
@@ -97,7 +98,7 @@ fn seek(
         if stops(words, links, marks, a, j, heads) {
             return j;
         }
-        j = next_holder(words, j);
+        j = link(links, j, LINK_NEXT);
     }
     0
 }
@@ -243,23 +244,22 @@ fn first_on_cycle(
 // The same where free lines are cleared, with arrays that are as large as the tables need.
 fn victim_in(
     words: &[u32],
-    free: &[bool; LOCK_PLACES],
+    cleared: &mut [bool; LOCK_PLACES],
     links: &mut [u16],
     firsts: &mut [u16],
     heads: &mut [u16],
 ) -> u16
-    requires { ⌜ Room (now words) (now free) (now links) (now firsts) (now heads) ⌝ }
+    requires { ⌜ Room (now words) (now cleared) (now links) (now firsts) (now heads) ⌝ }
     ensures { λ r. ⌜ r ≡ victim (seen (now (words .entry))) ⌝ }
 {
-    let mut cleared = *free;
     let mut lasts = [0; RESOURCE_PLACES];
-    link_lines(words, &cleared, links, &mut lasts);
+    link_lines(words, cleared, links, &mut lasts);
     number_owners(words, &lasts, links, firsts, heads);
-    let left = clear_ends(words, links, &mut lasts, &mut cleared);
+    let left = clear_ends(words, links, &mut lasts, cleared);
     if left == 0 {
         return 0;
     }
-    first_on_cycle(words, links, firsts, left, cleared, heads)
+    first_on_cycle(words, links, firsts, left, *cleared, heads)
 }
 
 // Arrays for up to 32, 256 and 1,024 locks: to clear the large ones takes longer than a break on small tables. The language has
@@ -268,7 +268,7 @@ const SMALL_PLACES: usize = 33;
 
 const MIDDLE_PLACES: usize = 257;
 
-fn victim_small(words: &[u32], free: &[bool; LOCK_PLACES]) -> u16
+fn victim_small(words: &[u32], free: &mut [bool; LOCK_PLACES]) -> u16
     requires { ⌜ Free 32 (now words) (now free) ⌝ }
     ensures { λ r. ⌜ r ≡ victim (seen (now (words .entry))) ⌝ }
 {
@@ -278,7 +278,7 @@ fn victim_small(words: &[u32], free: &[bool; LOCK_PLACES]) -> u16
     victim_in(words, free, &mut links, &mut firsts, &mut heads)
 }
 
-fn victim_middle(words: &[u32], free: &[bool; LOCK_PLACES]) -> u16
+fn victim_middle(words: &[u32], free: &mut [bool; LOCK_PLACES]) -> u16
     requires { ⌜ Free 256 (now words) (now free) ⌝ }
     ensures { λ r. ⌜ r ≡ victim (seen (now (words .entry))) ⌝ }
 {
@@ -288,7 +288,7 @@ fn victim_middle(words: &[u32], free: &[bool; LOCK_PLACES]) -> u16
     victim_in(words, free, &mut links, &mut firsts, &mut heads)
 }
 
-fn victim_large(words: &[u32], free: &[bool; LOCK_PLACES]) -> u16
+fn victim_large(words: &[u32], free: &mut [bool; LOCK_PLACES]) -> u16
     requires { ⌜ Free most-locks (now words) (now free) ⌝ }
     ensures { λ r. ⌜ r ≡ victim (seen (now (words .entry))) ⌝ }
 {
@@ -310,10 +310,10 @@ pub fn victim(words: &[u32]) -> u32
     }
     let locks = lock_count(words);
     if locks < SMALL_PLACES as u32 {
-        return victim_small(words, &free) as u32;
+        return victim_small(words, &mut free) as u32;
     }
     if locks < MIDDLE_PLACES as u32 {
-        return victim_middle(words, &free) as u32;
+        return victim_middle(words, &mut free) as u32;
     }
-    victim_large(words, &free) as u32
+    victim_large(words, &mut free) as u32
 }

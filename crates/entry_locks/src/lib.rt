@@ -7,7 +7,9 @@ use answers::Released;
 use answers::Requested;
 use call_refusals::SIZES;
 use call_refusals::UNSOUND;
-use check_tables::sound;
+use check_tables::survey;
+use check_tables::survey_name;
+use table_chains::Hints;
 ghost use mathlib.Core.Path.{_≡_};
 ghost use Rattle.rules.specs.Entries.{lent, outcome, «to-request», «to-convert», «to-release», Keeps, «start-entry»};
 ghost use Rattle.answers.specs.Answers.{requested, converted, released, done};
@@ -24,8 +26,8 @@ pub fn start(words: &mut [u32], slots: &mut [u8], resources: u32, locks: u32) ->
     Done::Accepted
 }
 
-// A client asks for a mode on a name: it is granted at once, or waits. The name is looked up once, for the refusals and
-// for the change.
+// A client asks for a mode on a name: it is granted at once, or waits. The name is looked up once, for the check, the
+// refusals and the change.
 pub fn request(
     words: &mut [u32],
     slots: &mut [u8],
@@ -36,15 +38,24 @@ pub fn request(
 ) -> Requested
     ensures { λ r. ⌜ Keeps (to-request client mode flags (now (name .entry))) (lent (now (words .entry)) (now (slots .entry))) (requested r) (lent (now (words .exit)) (now (slots .exit))) ⌝ }
 {
-    if !sound(words, slots) {
+    let seen = survey_name(words, slots, name);
+    if !seen.sound {
         return Requested::Refused(UNSOUND);
     }
-    let found = table_names::find(words, slots, name);
-    let refusal = call_refusals::request_refusal(words, found, client, mode, flags, name);
+    let refusal = call_refusals::request_refusal(words, seen.found, client, mode, flags, name);
     if refusal != 0 {
         return Requested::Refused(refusal);
     }
-    call_request::request_change(words, slots, found, client, mode, flags, name)
+    call_request::request_change(
+        words,
+        slots,
+        seen.found,
+        seen.last,
+        client,
+        mode,
+        flags,
+        name,
+    )
 }
 
 // A granted lock goes to another mode: in place, or it joins the convert queue.
@@ -59,14 +70,26 @@ pub fn convert(
 ) -> Converted
     ensures { λ r. ⌜ Keeps (to-convert client lock mode flags (now (value .entry))) (lent (now (words .entry)) (now (slots .entry))) (converted r) (lent (now (words .exit)) (now (slots .exit))) ⌝ }
 {
-    if !sound(words, slots) {
+    let seen = survey(words, slots, lock);
+    if !seen.sound {
         return Converted::Refused(UNSOUND);
     }
     let refusal = call_refusals::convert_refusal(words, client, lock, mode, flags, value);
     if refusal != 0 {
         return Converted::Refused(refusal);
     }
-    call_convert::convert_change(words, slots, lock, mode, flags, value)
+    call_convert::convert_change(
+        words,
+        slots,
+        lock,
+        mode,
+        flags,
+        value,
+        Hints {
+            before: seen.before,
+            last: seen.last,
+        },
+    )
 }
 
 // A granted lock is freed.
@@ -80,12 +103,23 @@ pub fn release(
 ) -> Released
     ensures { λ r. ⌜ Keeps (to-release client lock flags (now (value .entry))) (lent (now (words .entry)) (now (slots .entry))) (released r) (lent (now (words .exit)) (now (slots .exit))) ⌝ }
 {
-    if !sound(words, slots) {
+    let seen = survey(words, slots, lock);
+    if !seen.sound {
         return Released::Refused(UNSOUND);
     }
     let refusal = call_refusals::release_refusal(words, client, lock, flags, value);
     if refusal != 0 {
         return Released::Refused(refusal);
     }
-    call_release::release_change(words, slots, lock, flags, value)
+    call_release::release_change(
+        words,
+        slots,
+        lock,
+        flags,
+        value,
+        Hints {
+            before: seen.before,
+            last: seen.last,
+        },
+    )
 }

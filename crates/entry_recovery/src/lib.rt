@@ -7,6 +7,7 @@ use answers::Polled;
 use answers::Purged;
 use call_refusals::UNSOUND;
 use check_tables::sound;
+use check_tables::survey;
 ghost use Rattle.rules.specs.Entries.{lent, «to-cancel», «to-purge», «to-break», «to-poll», Keeps};
 ghost use Rattle.answers.specs.Answers.{cancelled, purged, broken, polled};
 
@@ -14,14 +15,15 @@ ghost use Rattle.answers.specs.Answers.{cancelled, purged, broken, polled};
 pub fn cancel(words: &mut [u32], slots: &[u8], client: u32, lock: u32) -> Cancelled
     ensures { λ r. ⌜ Keeps (to-cancel client lock) (lent (now (words .entry)) (now (slots .entry))) (cancelled r) (lent (now (words .exit)) (now (slots .entry))) ⌝ }
 {
-    if !sound(words, slots) {
+    let seen = survey(words, slots, lock);
+    if !seen.sound {
         return Cancelled::Refused(UNSOUND);
     }
     let refusal = call_refusals::cancel_refusal(words, client, lock);
     if refusal != 0 {
         return Cancelled::Refused(refusal);
     }
-    call_release::cancel_change(words, lock)
+    call_release::cancel_change(words, lock, seen.last)
 }
 
 // All of a client's locks are freed, as when its unit died.

@@ -19,6 +19,7 @@ use Rattle.tables.specs.Validity.{Core}
 use Rattle.tables.proofs.Cases.{eqb-same, or-right}
 use Rattle.tables.proofs.Links.{holder, holder-past}
 use Rattle.tables.proofs.WordChanges.{no-zero, holding}
+use Rattle.tables.proofs.WordChanges.{words-true}
 use Rattle.tables.proofs.ChainWalk.{walk-holds-with}
 use Rattle.tables.proofs.ReadBack.{chain-most}
 use Rattle.tables.proofs.ThreadedChains.{core-threaded}
@@ -48,13 +49,13 @@ module _ (t : Tables) (core : Core t) (ws : List ℕ) (is : ws ≡ words t) wher
   unfolding holding
   end-cell =
       let h = core-threaded t core (of-locks notices) (omega arith) in
-      end-placed ws ∙ rw (resources-is t ws is, locks-is t ws is, is) (walk-holds-with (tally t) t (of-locks notices) h 0 (length (t .locks)) (chain-most t (of-locks notices) h) (λ z a. z refl))
+      end-placed ws ∙ rw (resources-is t ws is, locks-is t ws is, is, ← (words-true t)) (walk-holds-with (tally t) t (of-locks notices) h 0 (length (t .locks)) (chain-most t (of-locks notices) h) (λ z a. z refl))
 
   no-end : Absent 0 (t .notices)
   no-end = no-zero t (of-locks notices) (core-threaded t core (of-locks notices) (omega arith))
 
   end-walks : Walks ws (cells-at (of-locks notices) ws) 0
-  end-walks = chain-joins (tally t) t ws is (of-locks notices) (core-threaded t core (of-locks notices) (omega arith)) (cells-at (of-locks notices) ws) refl (core-sized t ws is core)
+  end-walks = chain-joins (tally t) t ws (is ∙ sym (words-true t)) (of-locks notices) (core-threaded t core (of-locks notices) (omega arith)) (cells-at (of-locks notices) ws) refl (core-sized t ws is core)
 
 -- notices_end
 module _ (ws : List ℕ) where

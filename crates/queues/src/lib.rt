@@ -1,6 +1,7 @@
 // The parts of the calls' changes, in place on the lent words and slots: deciding what is granted, granting, freeing,
 // settling.
 use modes::Mode;
+use table_chains::Hints;
 use table_fields::ModeCounts;
 use table_fields::resource_word;
 use tables::Lock;
@@ -165,8 +166,8 @@ fn granted(l: Lock) -> Lock
     m
 }
 
-// Grants the next lock of r if that is possible. Answers whether it did.
-fn grant_next(words: &mut [u32], r: u32) -> bool
+// Grants the next lock of r if that is possible. Answers whether it did. `last` is a hint at the last lock granted there.
+fn grant_next(words: &mut [u32], r: u32, last: u32) -> bool
     requires { ⌜ Some (Resourced r) (now words) ⌝ }
     ensures { λ x. ⌜ Answers (Resourced r) (ready r) (advance r) (now (words .entry)) (now (words .exit)) x ⌝ }
 {
@@ -178,28 +179,48 @@ fn grant_next(words: &mut [u32], r: u32) -> bool
     if !admits_head(table_fields::counts_at(words, r), l) {
         return false;
     }
-    table_chains::move_lock(words, k, granted(l));
+    table_chains::move_lock(
+        words,
+        k,
+        granted(l),
+        Hints {
+            before: 0,
+            last: last,
+        },
+    );
     true
 }
 
-// Grants locks on r as long as the next one can be granted.
-pub fn sweep(words: &mut [u32], r: u32)
+// Grants locks on r as long as the next one can be granted. `last` is a hint at the last lock granted there; each lock that
+// is granted is the next such hint.
+pub fn sweep(words: &mut [u32], r: u32, last: u32)
     requires { ⌜ Some (Resourced r) (now words) ⌝ }
     ensures { λ _. ⌜ Turns (Resourced r) (sweep r) (now (words .entry)) (now (words .exit)) ⌝ }
 {
+    let mut hint = last;
     loop {
-        if !grant_next(words, r) {
+        let k = next_up(words, r);
+        if !grant_next(words, r, hint) {
             return;
         }
+        hint = k;
     }
 }
 
-// The lock k becomes free.
-pub fn free_lock(words: &mut [u32], k: u32)
+// The lock k becomes free. `before` is a hint at the lock before it on its home chain.
+pub fn free_lock(words: &mut [u32], k: u32, before: u32)
     requires { ⌜ Some (Locked k) (now words) ⌝ }
     ensures { λ _. ⌜ Turns (Locked k) (free-lock k) (now (words .entry)) (now (words .exit)) ⌝ }
 {
-    table_chains::move_lock(words, k, table_fields::NO_LOCK);
+    table_chains::move_lock(
+        words,
+        k,
+        table_fields::NO_LOCK,
+        Hints {
+            before: before,
+            last: 0,
+        },
+    );
 }
 
 // The resource r, on which no lock stands, becomes free.
@@ -257,8 +278,8 @@ pub fn is_empty(words: &[u32], r: u32) -> bool
     (granted == 0) & (converting == 0) & (waiting == 0)
 }
 
-// The resource r is swept, or becomes free if no lock is left on it.
-pub fn settle(words: &mut [u32], slots: &mut [u8], r: u32)
+// The resource r is swept, or becomes free if no lock is left on it. `last` is a hint at the last lock granted there.
+pub fn settle(words: &mut [u32], slots: &mut [u8], r: u32, last: u32)
     requires { ⌜ SomeTables (Resourced r) (now words) (now slots) ⌝ }
     ensures { λ _. ⌜ Changes (Resourced r) (settle r) (now (words .entry)) (now (slots .entry)) (now (words .exit)) (now (slots .exit)) ⌝ }
 {
@@ -266,5 +287,5 @@ pub fn settle(words: &mut [u32], slots: &mut [u8], r: u32)
         free_resource(words, slots, r);
         return;
     }
-    sweep(words, r);
+    sweep(words, r, last);
 }

@@ -210,7 +210,7 @@ module _ (t : Tables) (val : Valid t) where
   counts-hold : (r : ℕ) → IsResource (words t) r → (m : ℕ) → m ≤ last-mode → word-in (words t) (of-resource r (count-field m)) ≡ locks-that (λ l. holds-mode l r m) (words t)
   counts-hold r i m h =
       word-read t (of-resource r (count-field m)) (i .low, resource-high r i, omega arith)
-      ∙ ap (word-value (tally t) t) (count-word t r m h)
+      ∙ ap (word-value t) (count-word t r m h)
       ∙ tally-locks t (val .core) r m
       ∙ sym (locks-kept (λ l. holds-mode l r m) t)
 

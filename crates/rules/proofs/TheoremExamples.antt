@@ -11,7 +11,7 @@ use Rattle.modes.specs.Modes.{NL, CR, EX, matrix, compatible, all-modes, down}
 use Rattle.tables.specs.declared.Lock.{Lock}
 use Rattle.tables.specs.Lists.{from, count, remove, all, any, keep, first-that, next, same}
 use Rattle.tables.specs.State.{Tables, no-value, lock, resource, started, blocked-lock, unread, shift, shift-front, relist, move, move-resource, grants, converts, waits, free-locks, denied, blocked, notices, queue}
-use Rattle.tables.specs.Layout.{rows, sheet, by-address, words, words-with, slot, slots, follow, read-chain, read-lock, slot-in, read-resource, read}
+use Rattle.tables.specs.Layout.{rows, sheet, by-address, words, slot, slots, follow, read-chain, read-lock, slot-in, read-resource, read}
 use Rattle.tables.specs.Grants.{holders, holds-mode, tally, fits, convert-grantable, wait-grantable, grantable-head, no-grantable-head, empty}
 use Rattle.tables.specs.Sound.{sizes-right, zeros-right, resource-index, lock-index, indices-right, ends, chain-ends, chains-end, all-zero, free-resource-right, name-unique, used-resource-right, resource-right, stands-right, home-right, client-right, modes-right, on-resource, fields-right, lock-right, linked-right, holders-compatible, counts-right, state-right, sound}
 use Rattle.tables.specs.Validity.{Valid}
@@ -131,7 +131,7 @@ conversion-taken-back = refl
 
 -- THE DEMAND of these calls: they leave `three-left`, and their answers add up
 pub three-locks-hold : Demand three-locks (lent-of (started 1 3))
-unfolding lent-after-calls sum-of begins-to-wait locks-that call-entry entry if-sound written-back started no-value lock resource shift shift-front relist move move-resource rows sheet by-address words-with slot slots follow read-chain read-lock slot-in read-resource read count remove all any keep first-that next same holders tally fits convert-grantable wait-grantable grantable-head no-grantable-head empty sizes-right zeros-right resource-index lock-index indices-right ends chain-ends chains-end all-zero free-resource-right name-unique used-resource-right resource-right stands-right home-right client-right modes-right on-resource fields-right lock-right linked-right holders-compatible counts-right state-right sound granted-lock grant-lock grant-while grant-converts grant-waits sweep free-lock settle find unless refused-or stores spoils no-queue request-flags convert-flags name-right value-right own strong with-value leave-value in-the-way obstacles larger mark-lock mark-locks tell-obstacles resource-for with-resource granted-at-once request-on request-change at-once request-refusal request in-place convert-change convert-refusal convert cancel-change cancel-refusal cancel matrix compatible all-modes down
+unfolding lent-after-calls sum-of begins-to-wait locks-that call-entry entry if-sound written-back started no-value lock resource shift shift-front relist move move-resource rows sheet by-address words slot slots follow read-chain read-lock slot-in read-resource read count remove all any keep first-that next same holders tally fits convert-grantable wait-grantable grantable-head no-grantable-head empty sizes-right zeros-right resource-index lock-index indices-right ends chain-ends chains-end all-zero free-resource-right name-unique used-resource-right resource-right stands-right home-right client-right modes-right on-resource fields-right lock-right linked-right holders-compatible counts-right state-right sound granted-lock grant-lock grant-while grant-converts grant-waits sweep free-lock settle find unless refused-or stores spoils no-queue request-flags convert-flags name-right value-right own strong with-value leave-value in-the-way obstacles larger mark-lock mark-locks tell-obstacles resource-for with-resource granted-at-once request-on request-change at-once request-refusal request in-place convert-change convert-refusal convert cancel-change cancel-refusal cancel matrix compatible all-modes down
 three-locks-hold = record { queues = three-hold; sums = record { balance = refl; heard-once = refl; heard-by-each = by-each } }
   where
     by-each : (i : ℕ) → HeardSum (λ term. sum-of (by-client i term) three-locks (lent-of (started 1 3))) (λ p. locks-of-client i p (three-left .words))

@@ -16,7 +16,7 @@ use Rattle.tables.specs.Stores.{front-cells}
 use Rattle.table_fields.specs.Sizes.{Kept}
 use Rattle.table_fields.proofs.Laws.{kept-set, kept-all}
 use Rattle.table_chains.specs.declared.Cells.{Cells}
-use Rattle.table_chains.specs.Cells.{cell-of, Walks, Leaves, Pushes, Shifts, Fronts}
+use Rattle.table_chains.specs.Cells.{cell-of, Walks, Near, Leaves, Pushes, Shifts, Fronts}
 
 -- the cell of k ≥ 1, as code computes it; no cell stands among the two counts
 pub cell-positive : (c : Cells) (k : ℕ) → 1 ≤ k → cell-of c k ≡ c .first + c .width * (k - 1)
@@ -114,6 +114,22 @@ module _ (ws : List ℕ) (hd first width most k left cell : ℕ) (w : Walking ws
     walk-fits = safe-cell ws (cell-at hd first width) k (left - 1) _ (walk-next .walk)
 
 pub ruleset walk-laws = (needs, walk-starts, walk-inside, walk-found, walk-ends, walk-positive, walk-next, walk-fits)
+
+-- NEAR. The record's cell is looked at first
+module _ (ws : List ℕ) (c : Cells) (k j : ℕ) (h : Near ws c k j) (low : j ≡ 0 → ⊥) where
+  pub near-low : 1 ≤ j
+  near-low = omega (arith, low)
+
+  pub near-inside : c .first + c .width * (j - 1) < length ws
+  near-inside = h .inside near-low
+
+  pub near-found : getD ws (c .first + c .width * (j - 1)) 0 ≡ k → c .first + c .width * (j - 1) ≡ cell-holding ws (cell-of c) k (c .most) (c .head)
+  near-found = h .found near-low
+
+pub near-none : (ws : List ℕ) (c : Cells) (k : ℕ) → Near ws c k 0
+near-none ws c k = record { inside = λ p. absurd (omega arith); found = λ p. absurd (omega arith) }
+
+pub ruleset near-laws = (needs, near-low, near-inside, near-found)
 
 -- STORES
 module _ (ws : List ℕ) (c : Cells) (k found : ℕ) (e : found ≡ cell-holding ws (cell-of c) k (c .most) (c .head)) (h : Walks ws c k) where
@@ -226,9 +242,9 @@ module _ (ws : List ℕ) (c : Cells) (k : ℕ) (was is : Bool) where
     unfolding front-cells
     front-pushed p q e = e ∙ rw (p, q)
 
-pub ruleset shift-laws = (needs, shift-leaves, shift-joins, shift-kept, shift-stays, shift-none, shift-left, shift-joined)
+pub ruleset shift-laws = (needs, near-none, shift-leaves, shift-joins, shift-kept, shift-stays, shift-none, shift-left, shift-joined)
 
-pub ruleset front-laws = (needs, front-leaves, front-pushes, front-kept, front-stays, front-none, front-left, front-pushed)
+pub ruleset front-laws = (needs, near-none, front-leaves, front-pushes, front-kept, front-stays, front-none, front-left, front-pushed)
 
 module _ (ws : List ℕ) (c : Cells) (k : ℕ) (front : Bool) (vs : List ℕ) where
   pub arrived-front : front ≡ true → vs ≡ push-cells (cell-of c) k ws → vs ≡ arrive-cells front (cell-of c) (c .most) k ws

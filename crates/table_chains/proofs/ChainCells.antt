@@ -6,7 +6,7 @@ use Prim.Native.Nat.{ℕ, _+_, _*_, _-_, _<_, _≤_}
 use native.Mathlib.Omega.{arith}
 use lib.ListN.{getD, length}
 use Rattle.tables.specs.State.{Tables, free-locks, denied, blocked, notices, queue, Chain, free-resources, of-locks, chain-of}
-use Rattle.tables.specs.Layout.{Address, place, head, link, cell, Counts, words-with, resources-in, locks-in, most}
+use Rattle.tables.specs.Layout.{Address, place, head, link, cell, resources-in, locks-in, most}
 use Rattle.tables.specs.Threads.{Absent}
 use Rattle.tables.proofs.Links.{each-on}
 use Rattle.tables.specs.Threads.{Within}
@@ -14,14 +14,14 @@ use Rattle.tables.proofs.Grid.{place-size}
 use Rattle.tables.specs.Threads.{In}
 use Rattle.tables.specs.Threads.{Stands, Threaded}
 use Rattle.tables.proofs.WordChanges.{length-words-with}
-use Rattle.tables.specs.Stores.{Safe}
-use Rattle.tables.proofs.ChainWalk.{walk-safe-with}
+use Rattle.tables.specs.Stores.{Counts, words-with, cell-holding, Safe}
+use Rattle.tables.proofs.ChainWalk.{walk-safe-with, near-holds-with}
 use Rattle.tables.proofs.ReadBack.{resources-word-with, locks-word-with, chain-most}
 use Rattle.tables.specs.Stores.{cell-place}
 use Rattle.tables.proofs.WordSteps.{cells-are}
 use Rattle.table_fields.specs.Sizes.{Sized, Kept}
 use Rattle.table_chains.specs.declared.Cells.{Cells}
-use Rattle.table_chains.specs.Cells.{cell-of, cells-at, lock-cells, Walks, Leaves, Pushes}
+use Rattle.table_chains.specs.Cells.{cell-of, cells-at, lock-cells, Walks, Near, Leaves, Pushes}
 use Rattle.table_chains.proofs.CellWalks.{cell-positive}
 
 pub kept-trans : (a b d : List ℕ) → Kept a b → Kept b d → Kept a d
@@ -110,6 +110,22 @@ module _ (ct : Counts) (t : Tables) (ws : List ℕ) (is : ws ≡ words-with ct t
     chain-leaves k o =
         let s : Stands t c k = each-on (Stands t c) (chain-of c t) k (h .members) o in
         record { walks = chain-walks k (λ z. o); low = s .0; inside = own-inside k s }
+
+    -- a record of the chain, whose cell may be the one that a walk looks for
+    near-at : (k : ℕ) → (k ≢ 0 → Absent k (chain-of c t) → ⊥) → (j : ℕ) → (Absent j (chain-of c t) → ⊥)
+        → getD ws (cell-of cs j) 0 ≡ k → cell-of cs j ≡ cell-holding ws (cell-of cs) k (cs .most) (cs .head)
+    near-at k o j on =
+        let bound : length (chain-of c t) ≤ cs .most = omega (arith, chain-most t c h, most-now c ws cs e ∙ ap₂ (λ (r l : ℕ). most r l c) resources-with locks-with) in
+        let cells : cell-of cs ≡ cell-place (length (t .resources)) c = cells-now c ws cs e ∙ ap (λ (r : ℕ). cell-place r c) resources-with in
+        subst (λ (x : List ℕ). getD x (cell-of cs j) 0 ≡ k → cell-of cs j ≡ cell-holding x (cell-of cs) k (cs .most) (cs .head)) (sym is)
+        (subst (λ (f : ℕ → ℕ). getD (words-with ct t) (f j) 0 ≡ k → f j ≡ cell-holding (words-with ct t) f k (cs .most) (f 0)) (sym cells) (near-holds-with ct t c h k (cs .most) bound o j on))
+
+    pub chain-near : (k : ℕ) → (k ≢ 0 → Absent k (chain-of c t) → ⊥) → (j : ℕ) → (1 ≤ j → Absent j (chain-of c t) → ⊥) → Near ws cs k j
+    chain-near k o j on =
+        record {
+          inside = λ p. own-inside j (each-on (Stands t c) (chain-of c t) j (h .members) (on p));
+          found = λ p. subst (λ (i : ℕ). getD ws i 0 ≡ k → i ≡ cell-holding ws (cell-of cs) k (cs .most) (cs .head)) (cell-positive cs j p) (near-at k o j (on p));
+        }
 
     head-inside : cs .head < length ws
     head-inside = rw (ap (λ (f : ℕ → ℕ). f 0) (cells-now c ws cs e)) (inside (head c) (h .present))

@@ -141,7 +141,7 @@ module _ (t : Tables) (core : Core t) (c : LockChain) (f : ℕ) (links : (k : �
 pub chain-first : (t : Tables) (c : LockChain) → Present t (of-locks c) → (ws : List ℕ) → ws ≡ words t → word-in ws (head (of-locks c)) ≡ first (chain t c)
 chain-first t c there ws is =
     ap (λ (w : List ℕ). word-in w (head (of-locks c))) is ∙ word-read t (head (of-locks c)) there
-    ∙ ap (word-value (tally t) t) (linked-head t (of-locks c) there .says) ∙ next-here 0 0 (chain t c) refl
+    ∙ ap (word-value t) (linked-head t (of-locks c) there .says) ∙ next-here 0 0 (chain t c) refl
 
 -- the blocked and the notice chain
 module _ {ws : List ℕ} {x : ℕ} (s : Some Core ws) where

@@ -1,33 +1,53 @@
 -- What each step of a lock's move is: premises as the code's places have them.
-use mathlib.Core.Path.{_≡_, sym, _∙_, ap, ap₂, subst}
-use mathlib.Core.Bool.{Bool, true, false}
+use mathlib.Core.Path.{_≡_, refl, sym, _∙_, ap, ap₂, subst}
+use mathlib.Core.Bool.{Bool, true, false, not}
 use mathlib.Core.List.{List}
 use Prim.Native.Nat.{ℕ, _*_, _≤_}
 use native.Mathlib.Omega.{arith}
 use borrow.Author.Needs.{needs}
+use borrow.Author.Tests.{not-false}
 use lib.ListN.{getD, length}
 use lib.Dec.{eqb}
 use Rattle.tables.specs.declared.Lock.{Lock}
 use Rattle.tables.specs.State.{Tables, most-locks, last-mode, lock, blocked-lock, noticed, blocked, notices, of-locks, chain-of, home, move}
 use Rattle.tables.specs.Grants.{holds-mode, tally}
-use Rattle.tables.specs.Layout.{of-resource, head, count-field, Counts, words, words-with, resources-in, locks-in, read-lock}
+use Rattle.tables.specs.Layout.{of-resource, head, count-field, words, resources-in, locks-in, read-lock}
 use Rattle.tables.specs.Threads.{Absent, In, Present, Sane, Seat, Whole}
-use Rattle.tables.specs.Stores.{cell-place, leave-cells, stays, shift-cells, arrive-cells, set-cells, resettle-cells, side-cells, move-cells, count-place, lower-count, raise-count}
+use Rattle.tables.specs.Stores.{Counts, words-with, cell-place, leave-cells, stays, shift-cells, arrive-cells, set-cells, resettle-cells, side-cells, move-cells, count-place, lower-count, raise-count}
 use Rattle.tables.proofs.Counts.{within-le}
-use Rattle.tables.proofs.Numbered.{put-lock}
+use Rattle.tables.proofs.Numbered.{put-lock, lock-put-other, chains-put-lock}
 use Rattle.tables.proofs.Frame.{homed}
-use Rattle.tables.proofs.ReadBack.{lock-read}
-use Rattle.tables.proofs.HomeChange.{most-homed, lifted, sane-set, present-set, stands-set}
-use Rattle.tables.proofs.MoveSteps.{unblock, notify, sane-own, lifted-words, set-words, sane-unblock, seat-notices, sane-notify, lock-notify, present-notify, old-notify, on-notify, unblock-words, notify-words}
+use Rattle.tables.proofs.WordChanges.{words-true}
+use Rattle.tables.proofs.ReadBack.{lock-read, lock-read-with}
+use Rattle.tables.proofs.HomeChange.{most-homed, lifted, lock-lifted, sane-set, present-set, stands-set}
+use Rattle.tables.proofs.MoveSteps.{unblock, notify, sane-own, stays-home, lifted-keeps, lifted-words, set-words, sane-unblock, notices-unblock, seat-notices, sane-notify, lock-unblock, lock-notify, present-notify, old-notify, home-notify, unblock-words, notify-words}
 use Rattle.tables.proofs.Wholeness.{present-home, core-whole}
 use Rattle.tables.proofs.Tallies.{lowered, tally-after, tally-same, lock-counted, tally-few, lowered-less, count-at, counted-at, lower-words, raise-words}
 use Rattle.tables.proofs.MovedWords.{moved-with}
 use Rattle.table_fields.specs.Sizes.{Sized, Kept}
 use Rattle.table_fields.proofs.StateWords.{resources-is, locks-is, core-sized}
 use Rattle.table_chains.specs.declared.Cells.{Cells}
-use Rattle.table_chains.specs.Cells.{cell-of, cells-at, lock-cells, Leaves, Shifts, Arrives, Housed}
-use Rattle.table_chains.specs.Contracts.{Movable, Moving, Moved, Counting, Sided, Homing}
-use Rattle.table_chains.proofs.ChainCells.{kept-trans, blocked-cells, notice-cells, by-cells, resources-with, locks-with, within-words, chain-joins, chain-leaves, chain-pushes}
+use Rattle.table_chains.specs.Cells.{cell-of, cells-at, lock-cells, Near, Leaves, Shifts, Arrives, Housed}
+use Rattle.table_chains.specs.Contracts.{Movable, Moving, Moved, Counting, AtHome, WithNotice, Sided, Homing}
+use Rattle.table_chains.proofs.CellWalks.{near-none}
+use Rattle.table_chains.proofs.ChainCells.{kept-trans, blocked-cells, notice-cells, by-cells, resources-with, locks-with, within-words, chain-joins, chain-leaves, chain-near, chain-pushes}
+
+-- HINTS. What has been looked at
+pub home-none : (ws : List ℕ) (l : Lock) (k : ℕ) → AtHome ws l k 0
+home-none ws l k = record { high = λ p. absurd (omega arith); other = λ p. absurd (omega arith); home = λ p. absurd (omega arith) }
+
+pub home-other : (ws : List ℕ) (l : Lock) (k j : ℕ) → (j ≡ k → ⊥) → (n : ℕ) → n ≡ locks-in ws → j ≤ n → (o : Lock) → o ≡ read-lock ws j → (b : Bool) → b ≡ stays o l → not b ≡ false → AtHome ws l k j
+home-other ws l k j d n en h o eo b eb g = record { high = λ p. omega arith; other = λ p. d; home = λ p. rw (← eo, ← eb) (not-false b g) }
+
+pub ruleset at-home-laws = (needs, home-none, home-other)
+
+pub notice-none : (ws : List ℕ) → WithNotice ws 0
+notice-none ws = record { high = λ p. absurd (omega arith); notice = λ p. absurd (omega arith) }
+
+pub notice-has : (ws : List ℕ) (j n : ℕ) → n ≡ locks-in ws → j ≤ n → (o : Lock) → o ≡ read-lock ws j → (b : Bool) → b ≡ noticed o → not b ≡ false → WithNotice ws j
+notice-has ws j n en h o eo b eb g = record { high = λ p. omega arith; notice = λ p. rw (← eo, ← eb) (not-false b g) }
+
+pub ruleset with-notice-laws = (needs, notice-none, notice-has)
 
 -- SIDES. The words after the first of the two chains, at any state
 module _ (ct : Counts) (k : ℕ) (o m : Lock) (a : List ℕ) (t : Tables) (whole : Whole (length (t .resources)) (length (t .locks)) t) (low : 1 ≤ k) (high : k ≤ length (t .locks))
@@ -41,6 +61,9 @@ module _ (ct : Counts) (k : ℕ) (o m : Lock) (a : List ℕ) (t : Tables) (whole
       rw (first-words, resources-with ct t a is, locks-with ct t a is, ← here) (notify-words (length (t .resources)) (length (t .locks)) t whole k m low high new ct)
 
 module _ (k : ℕ) (o m : Lock) (a : List ℕ) (s : Sided k o m a) where
+  pub side-sized : Sized a
+  side-sized = s .sized
+
   side-high : k ≤ length (s .state .locks)
   side-high = omega (arith, s .high, locks-with (s .counts) (s .state) a (s .is))
 
@@ -67,6 +90,15 @@ module _ (k : ℕ) (o m : Lock) (a : List ℕ) (s : Sided k o m a) where
       first-sane : Sane (length (s .state .resources)) (length (s .state .locks)) (unblock k m (s .state))
       first-sane = sane-unblock (length (s .state .resources)) (length (s .state .locks)) (s .state) (s .whole) k m (s .low) side-high (s .new)
 
+      noticed-on : (j : ℕ) → WithNotice b j → 1 ≤ j → Absent j (unblock k m (s .state) .notices) → ⊥
+      noticed-on j n p =
+          let r = length (s .state .resources) in
+          let l = length (s .state .locks) in
+          let high : j ≤ length (unblock k m (s .state) .locks) = omega (arith, n .high p, locks-with (s .counts) (unblock k m (s .state)) b first-is) in
+          let is : read-lock b j ≡ lock (s .state) j = rw first-is (lock-read-with (s .counts) (unblock k m (s .state)) j p high) ∙ lock-unblock r l (s .state) (s .whole) k m (s .low) side-high (s .new) j in
+          subst (λ (z : Bool). Seat z j (unblock k m (s .state) .notices)) (sym (ap noticed is) ∙ n .notice p)
+          (rw (notices-unblock r l (s .state) (s .whole) k m (s .low) side-high (s .new)) (s .whole .on-notices j p (omega (arith, first-sane .locks))))
+
       module _ (ns : Cells) (en : ns ≡ lock-cells 6 2 b) (u : Bool) (eu : u ≡ noticed o) where
         seat-second : u ≡ true → Absent k (unblock k m (s .state) .notices) → ⊥
         seat-second p =
@@ -82,13 +114,18 @@ module _ (k : ℕ) (o m : Lock) (a : List ℕ) (s : Sided k o m a) where
               joins = chain-joins (s .counts) (unblock k m (s .state)) b first-is (of-locks notices) h ns e (kb .sized);
             }
 
+        pub side-near : (j : ℕ) → WithNotice b j → Near b ns 0 j
+        side-near j n =
+            let h = first-sane .chains (of-locks notices) (omega arith) in
+            chain-near (s .counts) (unblock k m (s .state)) b first-is (of-locks notices) h ns (en ∙ notice-cells b) (kb .sized) 0 (λ z a. z refl) j (noticed-on j n)
+
         pub sides-shifted : (v : Bool) (d : List ℕ) → v ≡ noticed m → d ≡ shift-cells u v (cell-of ns) (ns .most) k b → d ≡ side-cells (resources-in a) (locks-in a) k o m a
         unfolding side-cells
         sides-shifted v d ev ed =
             ed ∙ by-cells (of-locks notices) b ns (en ∙ notice-cells b) (λ f n. shift-cells u v f n k b)
             ∙ rw (eu, ev, kb .same-resources, kb .same-locks) (ap (shift-cells (noticed o) (noticed m) (cell-place (resources-in a) (of-locks notices)) (locks-in a) k) first-now)
 
-pub ruleset side-laws = (needs, side-first, side-second, sides-shifted, kept-trans)
+pub ruleset side-laws = (needs, side-sized, near-none, side-first, side-second, side-near, sides-shifted, kept-trans)
 
 -- HOME
 module _ (k : ℕ) (o m : Lock) (a : List ℕ) (s : Homing k o m a) where
@@ -98,12 +135,27 @@ module _ (k : ℕ) (o m : Lock) (a : List ℕ) (s : Homing k o m a) where
   pub home-old : Housed (o .state) (o .resource) a
   home-old = record { sized = s .sized; some-lock = omega (arith, s .low, s .high); inside = within-words (s .counts) (s .state) a (s .is) (head (of-locks (home o))) (s .old) }
 
+  pub home-sized : Sized a
+  home-sized = s .sized
+
   was-home : Present (s .state) (of-locks (home (lock (s .state) k)))
   was-home = rw (s .here) (s .old)
 
+  on-home : Absent k (chain-of (of-locks (home o)) (s .state)) → ⊥
+  on-home = subst (λ (l : Lock). Absent k (chain-of (of-locks (home l)) (s .state)) → ⊥) (s .here) (s .at-home k (s .low) home-high)
+
+  old-on : (j : ℕ) → AtHome a o k j → 1 ≤ j → Absent j (chain-of (of-locks (home o)) (s .state)) → ⊥
+  old-on j n p =
+      let high : j ≤ length (s .state .locks) = omega (arith, n .high p, locks-with (s .counts) (s .state) a (s .is)) in
+      let is : read-lock a j ≡ lock (s .state) j = rw (s .is) (lock-read-with (s .counts) (s .state) j p high) in
+      rw (stays-home (lock (s .state) j) o (rw (← is) (n .home p))) (s .at-home j p high)
+
   module _ (cs : Cells) (ec : cs ≡ cells-at (of-locks (home o)) a) where
     pub home-leaves : Leaves a cs k
-    home-leaves = chain-leaves (s .counts) (s .state) a (s .is) (of-locks (home o)) (s .sane .chains (of-locks (home o)) (s .old)) cs ec (s .sized) k (s .on-home)
+    home-leaves = chain-leaves (s .counts) (s .state) a (s .is) (of-locks (home o)) (s .sane .chains (of-locks (home o)) (s .old)) cs ec (s .sized) k on-home
+
+    pub home-near : (j : ℕ) → AtHome a o k j → Near a cs k j
+    home-near j n = chain-near (s .counts) (s .state) a (s .is) (of-locks (home o)) (s .sane .chains (of-locks (home o)) (s .old)) cs ec (s .sized) k (λ z. on-home) j (old-on j n)
 
     module _ (b : List ℕ) (eb : b ≡ leave-cells (cell-of cs) (cs .most) k a) where
       left-now : b ≡ leave-cells (cell-place (resources-in a) (of-locks (home o))) (locks-in a) k a
@@ -113,7 +165,7 @@ module _ (k : ℕ) (o m : Lock) (a : List ℕ) (s : Homing k o m a) where
       left-is =
           left-now
           ∙ rw (← (s .here), resources-with (s .counts) (s .state) a (s .is), locks-with (s .counts) (s .state) a (s .is), s .is)
-          (lifted-words (length (s .state .resources)) (length (s .state .locks)) (s .state) (s .sane) k m (s .low) home-high was-home (s .new) (s .counts) (rw (s .here) (s .on-home)))
+          (lifted-words (length (s .state .resources)) (length (s .state .locks)) (s .state) (s .sane) k m (s .low) home-high was-home (s .new) (s .counts) (rw (s .here) on-home))
 
       module _ (kb : Kept a b) (d : List ℕ) (ed : d ≡ set-cells (resources-in b) k m b) (kd : Kept b d) where
         set-is : d ≡ words-with (s .counts) (put-lock k m (lifted k (s .state)))
@@ -127,6 +179,16 @@ module _ (k : ℕ) (o m : Lock) (a : List ℕ) (s : Homing k o m a) where
 
         set-present : Present (put-lock k m (lifted k (s .state))) (of-locks (home m))
         set-present = present-set (length (s .state .resources)) (length (s .state .locks)) (s .state) (s .sane) k was-home m (s .low) home-high (s .new)
+
+        new-on : (j : ℕ) → AtHome d m k j → 1 ≤ j → Absent j (chain-of (of-locks (home m)) (put-lock k m (lifted k (s .state)))) → ⊥
+        new-on j n p q =
+            let r = length (s .state .resources) in
+            let l = length (s .state .locks) in
+            let high : j ≤ length (put-lock k m (lifted k (s .state)) .locks) = omega (arith, n .high p, locks-with (s .counts) (put-lock k m (lifted k (s .state))) d set-is) in
+            let is : read-lock d j ≡ lock (s .state) j =
+            rw set-is (lock-read-with (s .counts) (put-lock k m (lifted k (s .state))) j p high) ∙ lock-put-other (lifted k (s .state)) k m j (n .other p) ∙ lock-lifted r l (s .state) (s .sane) k was-home j in
+            rw (← (stays-home (lock (s .state) j) m (rw (← is) (n .home p)))) at (s .at-home j p (omega (arith, set-sane .locks)))
+            (lifted-keeps r l (s .state) (s .sane) k m (s .low) home-high was-home (s .new) (of-locks (home m)) j (n .other p) (rw (chains-put-lock (lifted k (s .state)) k m (of-locks (home m))) at q))
 
         pub home-new : Housed (m .state) (m .resource) d
         home-new =
@@ -146,6 +208,10 @@ module _ (k : ℕ) (o m : Lock) (a : List ℕ) (s : Homing k o m a) where
                 joins = chain-joins (s .counts) (put-lock k m (lifted k (s .state))) d set-is (of-locks (home m)) h ns en (kd .sized);
               }
 
+          pub new-near : (j : ℕ) → AtHome d m k j → Near d ns 0 j
+          new-near j n =
+              chain-near (s .counts) (put-lock k m (lifted k (s .state))) d set-is (of-locks (home m)) (set-sane .chains (of-locks (home m)) set-present) ns en (kd .sized) 0 (λ z a. z refl) j (new-on j n)
+
           pub rehomed : (e : List ℕ) → e ≡ arrive-cells (eqb (m .state) 0) (cell-of ns) (ns .most) k d → e ≡ resettle-cells false (resources-in a) (locks-in a) k o m a
           unfolding resettle-cells
           rehomed e ee =
@@ -154,7 +220,7 @@ module _ (k : ℕ) (o m : Lock) (a : List ℕ) (s : Homing k o m a) where
               (ap (arrive-cells (eqb (m .state) 0) (cell-place (resources-in a) (of-locks (home m))) (locks-in a) k)
               (ed ∙ ap₂ (λ (r : ℕ) (ws : List ℕ). set-cells r k m ws) (kb .same-resources) left-now))
 
-pub ruleset home-laws = (needs, home-old, home-leaves, home-new, home-arrives, rehomed, kept-trans)
+pub ruleset home-laws = (needs, home-sized, home-old, home-leaves, home-near, home-new, home-arrives, new-near, rehomed, kept-trans)
 
 -- BOTH, whatever the counts
 module _ (k : ℕ) (o m : Lock) (a : List ℕ) (s : Sided k o m a) where
@@ -185,7 +251,7 @@ module _ (k : ℕ) (o m : Lock) (a : List ℕ) (s : Sided k o m a) where
           sane = sane-own (length (t .resources)) (length (t .locks)) (notify k m t) n;
           here = here;
           old = subst (λ (l : Lock). Present (notify k m t) (of-locks (home l))) here (old-notify (length (t .resources)) (length (t .locks)) t w k m (s .low) relink-high (s .new));
-          on-home = subst (λ (l : Lock). Absent k (chain-of (of-locks (home l)) (notify k m t)) → ⊥) here (on-notify (length (t .resources)) (length (t .locks)) t w k m (s .low) relink-high (s .new));
+          at-home = λ j p q. home-notify (length (t .resources)) (length (t .locks)) t w k m (s .low) relink-high (s .new) j p (omega (arith, n .locks));
           new = present-notify (length (t .resources)) (length (t .locks)) t w k m (s .low) relink-high (s .new) (of-locks (home m)) (s .new);
           counts = s .counts;
           is = eb ∙ side-words (s .counts) k o m a t w (s .low) relink-high (s .here) (s .new) (s .is);
@@ -244,7 +310,7 @@ module _ (k : ℕ) (o m : Lock) (z : List ℕ) (eo : o ≡ read-lock z k) where
     lock-is = sym (eo ∙ rw is (lock-read t k (move-low r k m t p) (move-high r k m t p)))
 
     uncounted-is : (y : List ℕ) → y ≡ lower-count (resources-in z) o z → y ≡ words-with (lowered (lock t k) (tally t)) t
-    uncounted-is y ey = ey ∙ rw (← lock-is, resources-is t z is, is) (lower-words (tally t) t (lock t k) (counted-at t (lock t k) (p .core .lock-ok k)))
+    uncounted-is y ey = ey ∙ rw (← lock-is, resources-is t z is, is, ← (words-true t)) (lower-words (tally t) t (lock t k) (counted-at t (lock t k) (p .core .lock-ok k)))
 
     counted-is : (y : List ℕ) → y ≡ lower-count (resources-in z) o z → (a : List ℕ) → a ≡ raise-count (resources-in y) m y → a ≡ words-with (tally (move r k m t)) t
     counted-is y ey a ea =
@@ -265,7 +331,7 @@ module _ (k : ℕ) (o m : Lock) (z : List ℕ) (eo : o ≡ read-lock z k) where
           low = λ e. counted-at t l ok e .1 .0;
           high = λ e. rw (resources-is t z (s .is)) (counted-at t l ok e .1 .1);
           mode = λ e. counted-at t l ok e .0;
-          number = λ e. omega (arith, count-is (tally t) t z (s .is) l (counted-at t l ok e), lock-counted (s .resource) k m t (g .core) (g .in-range) (g .near-old) (g .near-new) (g .ok) e);
+          number = λ e. omega (arith, count-is (tally t) t z (s .is ∙ sym (words-true t)) l (counted-at t l ok e), lock-counted (s .resource) k m t (g .core) (g .in-range) (g .near-old) (g .near-new) (g .ok) e);
         })
 
     module _ (y : List ℕ) (ey : y ≡ lower-count (resources-in z) o z) (ky : Kept z y) where
@@ -307,7 +373,7 @@ module _ (k : ℕ) (o m : Lock) (z : List ℕ) (eo : o ≡ read-lock z k) where
         record {
           then = λ r t p is. let ct = tally (move r k m t) in
               let ia = counted-is r t p is y ey a ea in
-              ee ∙ rw (← (lock-is r t p is), resources-with ct t a ia, locks-with ct t a ia, ia) (sym (moved-with r k m t (p .core) (p .in-range) (p .near-old) (p .near-new) (p .ok) ct));
+              ee ∙ rw (← (lock-is r t p is), resources-with ct t a ia, locks-with ct t a ia, ia) (sym (moved-with r k m t (p .core) (p .in-range) (p .near-old) (p .near-new) (p .ok) ct)) ∙ words-true (move r k m t);
         }
 
 -- a lock that stays at home and holds what it held: no count changes
@@ -320,19 +386,20 @@ module _ (k : ℕ) (o m : Lock) (a : List ℕ) (eo : o ≡ read-lock a k) (same 
         let low = move-low r k m t p in
         let high = move-high r k m t p in
         let new = move-new r k m t p in
-        resources-with (tally t) (notify k m t) b (eb ∙ side-words (tally t) k o m a t w low high (lock-is k o m a eo r t p is) new is)
+        resources-with (tally t) (notify k m t) b (eb ∙ side-words (tally t) k o m a t w low high (lock-is k o m a eo r t p is) new (is ∙ sym (words-true t)))
         ∙ sane-notify (length (t .resources)) (length (t .locks)) t w k m low high new .resources ∙ sym (resources-is t a is)
 
     same-counts : words-with (tally t) (move r k m t) ≡ words (move r k m t)
     same-counts =
         ap (λ (ct : Counts). words-with ct (move r k m t))
         (sym (tally-same r k m t (p .core) (p .in-range) (p .near-old) (p .near-new) (p .ok) (λ s h. ap (λ (l : Lock). holds-mode l s h) (lock-is k o m a eo r t p is) ∙ same s h)))
+        ∙ words-true (move r k m t)
 
   pub moved-uncounted : w ≡ true → e ≡ set-cells (resources-in b) k m b → Moved k m a e
   moved-uncounted q ee =
       record {
         then = λ r t p is. stored-at-home k o m a b eb w ew e (same-size r t p is) q ee
-            ∙ rw (← (lock-is k o m a eo r t p is), resources-is t a is, locks-is t a is, is) (sym (moved-with r k m t (p .core) (p .in-range) (p .near-old) (p .near-new) (p .ok) (tally t)))
+            ∙ rw (← (lock-is k o m a eo r t p is), resources-is t a is, locks-is t a is, is, ← (words-true t)) (sym (moved-with r k m t (p .core) (p .in-range) (p .near-old) (p .near-new) (p .ok) (tally t)))
             ∙ same-counts r t p is;
       }
 

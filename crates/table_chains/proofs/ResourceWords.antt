@@ -11,14 +11,14 @@ use borrow.Author.Tests.{ne-eqb}
 use Rattle.tables.specs.Lists.{null}
 use Rattle.tables.specs.State.{Resource, Tables, resource, free-resources, move-resource}
 use Rattle.tables.specs.Grants.{tally}
-use Rattle.tables.specs.Layout.{of-resource, Counts, words, words-with, resources-in, word-in}
+use Rattle.tables.specs.Layout.{of-resource, words, resources-in, word-in}
 use Rattle.tables.proofs.Counts.{within-le, le-within}
-use Rattle.tables.proofs.WordChanges.{stands}
+use Rattle.tables.proofs.WordChanges.{words-true, stands}
 use Rattle.tables.proofs.ReadBack.{word-read}
 use Rattle.tables.specs.Threads.{Seat}
 use Rattle.tables.proofs.ThreadedChains.{core-threaded}
 use Rattle.tables.proofs.Wholeness.{counted-seat}
-use Rattle.tables.specs.Stores.{front-cells}
+use Rattle.tables.specs.Stores.{Counts, words-with, front-cells}
 use Rattle.tables.proofs.ResourceMoved.{set-resource-cells, relinked, relinked-words, set-relinked, tally-refilled}
 use Rattle.table_fields.specs.Sizes.{Sized, Kept}
 use Rattle.table_fields.specs.declared.ResourceFields.{ResourceFields}
@@ -73,8 +73,8 @@ module _ (r : ℕ) (a : List ℕ) (s : Some (Resourced r) a) where
       let seat : Seat (null (resource t r .name)) r (t .free-resources) = counted-seat (null (resource t r .name)) r (t .free-resources) (rw (le-within (length (t .resources)) r low high) at (s .good .core .spare r)) in
       let free : eqb (old .bytes) 0 ≡ null (resource t r .name) = ap (λ (x : ℕ). eqb x 0) (bytes-are a r old en ∙ length-is r t (s .good) a (s .is)) ∙ null-length (resource t r .name) in
       record {
-        leaves = λ q. chain-leaves (tally t) t a (s .is) free-resources h cs ec resource-sized r (subst (λ (b : Bool). Seat b r (t .free-resources)) (sym free ∙ q) seat);
-        pushes = chain-pushes (tally t) t a (s .is) free-resources h cs ec resource-sized r (stands t free-resources r low (low, high, omega arith) refl);
+        leaves = λ q. chain-leaves (tally t) t a (s .is ∙ sym (words-true t)) free-resources h cs ec resource-sized r (subst (λ (b : Bool). Seat b r (t .free-resources)) (sym free ∙ q) seat);
+        pushes = chain-pushes (tally t) t a (s .is ∙ sym (words-true t)) free-resources h cs ec resource-sized r (stands t free-resources r low (low, high, omega arith) refl);
       }
 
 module _ (r n v : ℕ) (a : List ℕ) (old : ResourceFields) (en : old ≡ read-fields a r) (cs : Cells) (ec : cs ≡ cells-at free-resources a)
@@ -93,7 +93,7 @@ module _ (r n v : ℕ) (a : List ℕ) (old : ResourceFields) (en : old ≡ read-
     linked-is : b ≡ words-with (tally t) (relinked r x t)
     linked-is =
         eb ∙ by-cells free-resources a cs ec (λ f i. front-cells (eqb (old .bytes) 0) (eqb n 0) f i r a)
-        ∙ rw (was-free, is-free, resources-is t a is, is) (relinked-words r x t (p .core) (resource-low r t here) (resource-high r t here) (tally t))
+        ∙ rw (was-free, is-free, resources-is t a is, is, ← (words-true t)) (relinked-words r x t (p .core) (resource-low r t here) (resource-high r t here) (tally t))
 
     stored : e ≡ set-resource-cells (length (t .resources)) r x b
     unfolding set-resource-cells with-fields
@@ -102,6 +102,7 @@ module _ (r n v : ℕ) (a : List ℕ) (old : ResourceFields) (en : old ≡ read-
     moved : e ≡ words (move-resource r x t)
     moved = stored ∙ ap (set-resource-cells (length (t .resources)) r x) linked-is ∙ set-relinked r x t (p .core) (resource-low r t here) (resource-high r t here) (p .queues) (tally t)
         ∙ ap (λ (ct : Counts). words-with ct (move-resource r x t)) (sym (tally-refilled r x t (p .core) (resource-low r t here) (resource-high r t here) (p .queues)))
+        ∙ words-true (move-resource r x t)
 
   pub resource-moved : ResourceMoved r n v a e
   resource-moved = record { then = moved }

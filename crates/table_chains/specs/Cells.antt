@@ -3,12 +3,11 @@ use mathlib.Core.Path.{_≡_}
 use mathlib.Core.Bool.{Bool, true}
 use mathlib.Core.List.{List}
 use Prim.Native.Nat.{ℕ, _+_, _-_, _*_, _<_, _≤_}
-use lib.ListN.{length}
+use lib.ListN.{getD, length}
 use Rattle.tables.specs.State.{Chain, of-locks, home-at}
 use Rattle.tables.specs.Layout.{of-lock, place, head, link, lock-width, resources-in, locks-in, most}
 use Rattle.tables.specs.Threads.{Within}
-use Rattle.tables.specs.Stores.{cell-at, Safe}
-use Rattle.tables.specs.Stores.{stride}
+use Rattle.tables.specs.Stores.{cell-holding, cell-at, Safe, stride}
 use Rattle.table_fields.specs.Sizes.{Sized}
 use Rattle.table_chains.specs.declared.Cells.{Cells}
 
@@ -35,6 +34,11 @@ pub record Walks (ws : List ℕ) (c : Cells) (k : ℕ) : Type 0 where
   pub head-past : 2 ≤ c .head
   pub first-past : 2 ≤ c .first
   pub walk : Safe ws (cell-of c) k (c .most) (c .head)
+
+-- the record j, if there is one, is on the chain: if its cell holds k (0: is the last), the walk comes to that cell
+pub record Near (ws : List ℕ) (c : Cells) (k j : ℕ) : Type 0 where
+  pub inside : 1 ≤ j → c .first + c .width * (j - 1) < length ws
+  pub found : 1 ≤ j → getD ws (c .first + c .width * (j - 1)) 0 ≡ k → c .first + c .width * (j - 1) ≡ cell-holding ws (cell-of c) k (c .most) (c .head)
 
 -- k can leave the chain; k can join it in front
 pub record Leaves (ws : List ℕ) (c : Cells) (k : ℕ) : Type 0 where

@@ -1,15 +1,16 @@
 -- What a function is told, and says, of the state whose words it is lent.
 use mathlib.Core.Path.{_≡_}
+use mathlib.Core.Logic.{_≢_}
 use mathlib.Core.Bool.{true}
 use mathlib.Core.List.{List}
 use Prim.Native.Nat.{ℕ, _≤_}
 use lib.ListN.{getD, length}
 use Rattle.tables.specs.declared.Lock.{Lock}
 use Rattle.tables.specs.Lists.{within}
-use Rattle.tables.specs.State.{Resource, Tables, last-mode, lock, resource, holds, Queue, queue-of, of-locks, chain-of, home, move, move-resource}
-use Rattle.tables.specs.Layout.{Counts, words, words-with, slots, resources-in, locks-in}
+use Rattle.tables.specs.State.{Resource, Tables, last-mode, lock, resource, holds, noticed, Queue, queue-of, of-locks, chain-of, home, move, move-resource}
+use Rattle.tables.specs.Layout.{words, slots, resources-in, locks-in, read-lock}
 use Rattle.tables.specs.Threads.{Absent, Present, Sane, Whole}
-use Rattle.tables.specs.Stores.{count-place}
+use Rattle.tables.specs.Stores.{Counts, words-with, stays, count-place}
 use Rattle.tables.specs.Validity.{used, LockOk, Core, Near}
 use Rattle.table_fields.specs.Sizes.{Sized}
 
@@ -79,6 +80,16 @@ pub record Counting (P : ℕ → Type 0) (l : Lock) (ws : List ℕ) : Type 0 whe
   pub mode : holds l ≡ true → l .held ≤ last-mode
   pub number : holds l ≡ true → P (getD ws (count-place (resources-in ws) l) 0)
 
+-- HINTS. The lock j, if there is one, is another one than k at the home of l; it belongs on the notice chain
+pub record AtHome (ws : List ℕ) (l : Lock) (k j : ℕ) : Type 0 where
+  pub high : 1 ≤ j → j ≤ locks-in ws
+  pub other : 1 ≤ j → j ≢ k
+  pub home : 1 ≤ j → stays (read-lock ws j) l ≡ true
+
+pub record WithNotice (ws : List ℕ) (j : ℕ) : Type 0 where
+  pub high : 1 ≤ j → j ≤ locks-in ws
+  pub notice : 1 ≤ j → noticed (read-lock ws j) ≡ true
+
 -- STEPS of a move. The lock k is o and may become m: every lock stands where its record says. The counts may be those of another state
 pub record Sided (k : ℕ) (o m : Lock) (ws : List ℕ) : Type 0 where
   pub sized : Sized ws
@@ -91,7 +102,7 @@ pub record Sided (k : ℕ) (o m : Lock) (ws : List ℕ) : Type 0 where
   pub counts : Counts
   pub is : ws ≡ words-with counts state
 
--- k stands on the home of o and may go to that of m
+-- k is o and may go to the home of m: every lock stands on the home that its record says
 pub record Homing (k : ℕ) (o m : Lock) (ws : List ℕ) : Type 0 where
   pub sized : Sized ws
   pub low : 1 ≤ k
@@ -100,7 +111,7 @@ pub record Homing (k : ℕ) (o m : Lock) (ws : List ℕ) : Type 0 where
   pub sane : Sane (length (state .resources)) (length (state .locks)) state
   pub here : lock state k ≡ o
   pub old : Present state (of-locks (home o))
-  pub on-home : Absent k (chain-of (of-locks (home o)) state) → ⊥
+  pub at-home : (j : ℕ) → 1 ≤ j → j ≤ length (state .locks) → Absent j (chain-of (of-locks (home (lock state j))) state) → ⊥
   pub new : Present state (of-locks (home m))
   pub counts : Counts
   pub is : ws ≡ words-with counts state

@@ -15,8 +15,8 @@ ghost use Rattle.tables.specs.Stores.{«cell-holding», «push-cells», «leave
 ghost use Rattle.tables.specs.Stores.{stays, «shift-cells», «arrive-cells», «resettle-cells», «side-cells», «move-cells»};
 ghost use Rattle.tables.specs.Stores.{«count-place», «lower-count», «raise-count»};
 ghost use Rattle.table_fields.specs.Sizes.{Sized, Kept};
-ghost use Rattle.table_chains.specs.Cells.{«cell-of», «cells-at», «lock-cells», Walks, Leaves, Pushes, Shifts, Fronts, Arrives, Housed};
-ghost use Rattle.table_chains.specs.Contracts.{Some, Moving, Moved, Resourced, ResourceMoved, Counting, Sided, Homing};
+ghost use Rattle.table_chains.specs.Cells.{«cell-of», «cells-at», «lock-cells», Walks, Near, Leaves, Pushes, Shifts, Fronts, Arrives, Housed};
+ghost use Rattle.table_chains.specs.Contracts.{Some, Moving, Moved, Resourced, ResourceMoved, Counting, AtHome, WithNotice, Sided, Homing};
 
 // The cells of a chain: each names the record that follows, the last one 0. The fields are the place of the head, the
 // place of record 1's cell, how far apart the records' cells stand, and how many records there can be.
@@ -26,6 +26,16 @@ pub struct Cells {
     pub width: usize,
     pub most: usize,
 }
+
+// Locks that may spare a walk: one that may stand right before the lock that moves, on the home chain that it leaves, and
+// one that may stand last on a chain that it joins. 0 is none. Nothing is promised of them: each is looked at before it is
+// believed.
+pub struct Hints {
+    pub before: u32,
+    pub last: u32,
+}
+
+pub const NO_HINTS: Hints = Hints { before: 0, last: 0 };
 
 // The cells of a chain of locks, from the place of its head and the field that it goes by.
 pub fn lock_cells(words: &[u32], head: usize, link: usize) -> Cells
@@ -99,6 +109,21 @@ pub fn holding(words: &[u32], cells: Cells, k: u32) -> usize
     at
 }
 
+// The same, where j is 0 or a record of the chain: no walk is needed if its cell is the one.
+fn holding_near(words: &[u32], cells: Cells, k: u32, j: u32) -> usize
+    requires { ⌜ Walks (now words) cells k ⌝ }
+    requires { ⌜ Near (now words) cells k j ⌝ }
+    ensures { λ r. ⌜ r ≡ cell-holding (now (words .entry)) (cell-of cells) k (cells .most) (cells .head) ⌝ }
+{
+    if j != 0 {
+        let at = cells.first + cells.width * (j as usize - 1);
+        if words[at] == k {
+            return at;
+        }
+    }
+    holding(words, cells, k)
+}
+
 // The record k joins a chain in front.
 pub fn push(words: &mut [u32], cells: Cells, k: u32)
     requires { ⌜ Pushes (now words) cells k ⌝ }
@@ -111,32 +136,35 @@ pub fn push(words: &mut [u32], cells: Cells, k: u32)
     words[head] = k;
 }
 
-// The record k joins a chain at its end.
-pub fn join(words: &mut [u32], cells: Cells, k: u32)
+// The record k joins a chain at its end. The record `last`, if it is not 0, is on the chain.
+fn join(words: &mut [u32], cells: Cells, k: u32, last: u32)
     requires { ⌜ Walks (now words) cells 0 ⌝ }
+    requires { ⌜ Near (now words) cells 0 last ⌝ }
     ensures { λ _. ⌜ now (words .exit) ≡ join-cells (cell-of cells) (cells .most) k (now (words .entry)) ⌝ }
     ensures { λ _. ⌜ Kept (now (words .entry)) (now (words .exit)) ⌝ }
 {
-    let at = holding(words, cells, 0);
+    let at = holding_near(words, cells, 0, last);
     words[at] = k;
 }
 
-// The record k leaves a chain.
-pub fn leave(words: &mut [u32], cells: Cells, k: u32)
+// The record k leaves a chain. The record `before`, if it is not 0, is on the chain.
+fn leave(words: &mut [u32], cells: Cells, k: u32, before: u32)
     requires { ⌜ Leaves (now words) cells k ⌝ }
+    requires { ⌜ Near (now words) cells k before ⌝ }
     ensures { λ _. ⌜ now (words .exit) ≡ leave-cells (cell-of cells) (cells .most) k (now (words .entry)) ⌝ }
     ensures { λ _. ⌜ Kept (now (words .entry)) (now (words .exit)) ⌝ }
 {
-    let at = holding(words, cells, k);
+    let at = holding_near(words, cells, k, before);
     let own = cells.first + cells.width * (k as usize - 1);
     words[at] = words[own];
     words[own] = 0;
 }
 
 // The record k joins a chain or leaves it: `was` says whether it was on the chain, `is` whether it is to be. It joins
-// at the end.
-fn shift(words: &mut [u32], cells: Cells, was: bool, is: bool, k: u32)
+// at the end. The record `last`, if it is not 0, is on the chain.
+fn shift(words: &mut [u32], cells: Cells, was: bool, is: bool, k: u32, last: u32)
     requires { ⌜ Shifts was (now words) cells k ⌝ }
+    requires { ⌜ Near (now words) cells 0 last ⌝ }
     ensures { λ _. ⌜ now (words .exit) ≡ shift-cells was is (cell-of cells) (cells .most) k (now (words .entry)) ⌝ }
     ensures { λ _. ⌜ Kept (now (words .entry)) (now (words .exit)) ⌝ }
 {
@@ -144,11 +172,11 @@ fn shift(words: &mut [u32], cells: Cells, was: bool, is: bool, k: u32)
         if is {
             return;
         }
-        leave(words, cells, k);
+        leave(words, cells, k, 0);
         return;
     }
     if is {
-        join(words, cells, k);
+        join(words, cells, k, last);
     }
 }
 
@@ -162,7 +190,7 @@ fn shift_front(words: &mut [u32], cells: Cells, was: bool, is: bool, k: u32)
         if is {
             return;
         }
-        leave(words, cells, k);
+        leave(words, cells, k, 0);
         return;
     }
     if is {
@@ -170,16 +198,17 @@ fn shift_front(words: &mut [u32], cells: Cells, was: bool, is: bool, k: u32)
     }
 }
 
-// The record k joins a chain, in front or at its end.
-fn arrive(words: &mut [u32], cells: Cells, front: bool, k: u32)
+// The record k joins a chain, in front or at its end. The record `last`, if it is not 0, is on the chain.
+fn arrive(words: &mut [u32], cells: Cells, front: bool, k: u32, last: u32)
     requires { ⌜ Arrives (now words) cells k ⌝ }
+    requires { ⌜ Near (now words) cells 0 last ⌝ }
     ensures { λ _. ⌜ now (words .exit) ≡ arrive-cells front (cell-of cells) (cells .most) k (now (words .entry)) ⌝ }
     ensures { λ _. ⌜ Kept (now (words .entry)) (now (words .exit)) ⌝ }
 {
     if front {
         push(words, cells, k);
     } else {
-        join(words, cells, k);
+        join(words, cells, k, last);
     }
 }
 
@@ -189,8 +218,45 @@ fn keeps_home(l: Lock, m: Lock) -> bool
     (l.state == m.state) & (l.resource == m.resource)
 }
 
+// The lock j, if it is another one than k at the home of l; else 0.
+fn at_home(words: &[u32], l: Lock, k: u32, j: u32) -> u32
+    requires { ⌜ Sized (now words) ⌝ }
+    ensures { λ x. ⌜ AtHome (now (words .entry)) l k x ⌝ }
+{
+    if j == 0 {
+        return 0;
+    }
+    if j == k {
+        return 0;
+    }
+    if table_fields::lock_count(words) < j {
+        return 0;
+    }
+    if !keeps_home(table_fields::lock_at(words, j), l) {
+        return 0;
+    }
+    j
+}
+
+// The lock j, if it belongs on the notice chain; else 0.
+fn with_notice(words: &[u32], j: u32) -> u32
+    requires { ⌜ Sized (now words) ⌝ }
+    ensures { λ x. ⌜ WithNotice (now (words .entry)) x ⌝ }
+{
+    if j == 0 {
+        return 0;
+    }
+    if table_fields::lock_count(words) < j {
+        return 0;
+    }
+    if !is_noticed(table_fields::lock_at(words, j)) {
+        return 0;
+    }
+    j
+}
+
 // The lock k, which is o and is to become m, joins or leaves the blocked chain and the notice chain.
-fn shift_sides(words: &mut [u32], k: u32, o: Lock, m: Lock)
+fn shift_sides(words: &mut [u32], k: u32, o: Lock, m: Lock, last: u32)
     requires { ⌜ Sided k o m (now words) ⌝ }
     ensures { λ _. ⌜ now (words .exit) ≡ side-cells (resources-in (now (words .entry))) (locks-in (now (words .entry))) k o m (now (words .entry)) ⌝ }
     ensures { λ _. ⌜ Kept (now (words .entry)) (now (words .exit)) ⌝ }
@@ -200,36 +266,39 @@ fn shift_sides(words: &mut [u32], k: u32, o: Lock, m: Lock)
         table_fields::BLOCKED,
         table_fields::LOCK_NEXT_BLOCKED,
     );
-    shift(words, blocked, is_blocked(o), is_blocked(m), k);
+    shift(words, blocked, is_blocked(o), is_blocked(m), k, 0);
     let notices = lock_cells(words, table_fields::NOTICES, table_fields::LOCK_NEXT_NOTICE);
-    shift(words, notices, is_noticed(o), is_noticed(m), k);
+    let near = with_notice(words, last);
+    shift(words, notices, is_noticed(o), is_noticed(m), k, near);
 }
 
 // The lock k, which is o, becomes m, which has another home.
-fn rehome(words: &mut [u32], k: u32, o: Lock, m: Lock)
+fn rehome(words: &mut [u32], k: u32, o: Lock, m: Lock, hints: Hints)
     requires { ⌜ Homing k o m (now words) ⌝ }
     ensures { λ _. ⌜ now (words .exit) ≡ resettle-cells false (resources-in (now (words .entry))) (locks-in (now (words .entry))) k o m (now (words .entry)) ⌝ }
     ensures { λ _. ⌜ Kept (now (words .entry)) (now (words .exit)) ⌝ }
 {
     let old = home_cells(words, o);
-    leave(words, old, k);
+    let before = at_home(words, o, k, hints.before);
+    leave(words, old, k, before);
     put_lock(words, k, m);
     let new = home_cells(words, m);
-    arrive(words, new, m.state == table_fields::STATE_FREE, k);
+    let last = at_home(words, m, k, hints.last);
+    arrive(words, new, m.state == table_fields::STATE_FREE, k, last);
 }
 
 // The lock k, which is o, becomes m but for the counts: it leaves each chain on which it no longer belongs, and joins
 // each on which it now belongs.
-fn relink(words: &mut [u32], k: u32, o: Lock, m: Lock)
+fn relink(words: &mut [u32], k: u32, o: Lock, m: Lock, hints: Hints)
     requires { ⌜ Sided k o m (now words) ⌝ }
     ensures { λ _. ⌜ now (words .exit) ≡ move-cells (resources-in (now (words .entry))) (locks-in (now (words .entry))) k o m (now (words .entry)) ⌝ }
     ensures { λ _. ⌜ Kept (now (words .entry)) (now (words .exit)) ⌝ }
 {
-    shift_sides(words, k, o, m);
+    shift_sides(words, k, o, m, hints.last);
     if keeps_home(o, m) {
         put_lock(words, k, m);
     } else {
-        rehome(words, k, o, m);
+        rehome(words, k, o, m, hints);
     }
 }
 
@@ -269,7 +338,7 @@ fn count(words: &mut [u32], l: Lock)
 
 // The lock k becomes m: what it held is no longer counted, what it now holds is, and it goes from chain to chain. No call
 // changes a count but through this.
-pub fn move_lock(words: &mut [u32], k: u32, m: Lock)
+pub fn move_lock(words: &mut [u32], k: u32, m: Lock, hints: Hints)
     requires { ⌜ Moving k m (now words) ⌝ }
     ensures { λ _. ⌜ Moved k m (now (words .entry)) (now (words .exit)) ⌝ }
     ensures { λ _. ⌜ Kept (now (words .entry)) (now (words .exit)) ⌝ }
@@ -277,7 +346,7 @@ pub fn move_lock(words: &mut [u32], k: u32, m: Lock)
     let o = table_fields::lock_at(words, k);
     uncount(words, o);
     count(words, m);
-    relink(words, k, o, m);
+    relink(words, k, o, m, hints);
 }
 
 // The resource r gets another name length and flag. A length of 0 means that it is free: it leaves the free resources

@@ -45,7 +45,7 @@ module _ (t : Tables) (ws : List ℕ) (is : ws ≡ words t) where
   unfolding read-counts
   counts-is r p q =
       let at-mode : (m : ℕ) → m ≤ last-mode → word-in ws (of-resource r (count-field m)) ≡ tally t r m
-      = λ m n. word-is (of-resource r (count-field m)) (p, q, omega arith) ∙ ap (word-value (tally t) t) (count-word t r m n) in
+      = λ m n. word-is (of-resource r (count-field m)) (p, q, omega arith) ∙ ap (word-value t) (count-word t r m n) in
       λ i. record {
         nl = at-mode NL (omega arith) i;
         cr = at-mode CR (omega arith) i;

@@ -16,7 +16,7 @@ ghost use Rattle.tables.specs.State.{«name-width», «value-width»};
 ghost use Rattle.tables.specs.Layout.{«of-resource», «slot-width», slot, «resources-in», «word-in», «slot-in»};
 ghost use Rattle.rules.specs.Calls.{«new-resource»};
 ghost use Rattle.table_names.specs.Names.{«name-in», «slot-fine», «find-in»};
-ghost use Rattle.table_names.specs.Contracts.{Slotted, Short, Named, «with-slot», blank};
+ghost use Rattle.table_names.specs.Contracts.{Slotted, Short, «with-slot», blank};
 
 // A slot: a name of at most 64 bytes, zeros after it, and a value block.
 pub const NAME_BYTES: usize = 64;
@@ -183,13 +183,27 @@ pub fn name_length(words: &[u32], r: u32) -> usize
     wide(resource_word(words, r, RESOURCE_NAME_LENGTH))
 }
 
-// Resource r has this name: it is as long, and of the same bytes.
+// How many bytes of its slot the name of resource r takes up: as many as its length says, or all, if that says more.
+fn name_span(words: &[u32], slots: &[u8], r: u32) -> usize
+    requires { ⌜ Slotted (now words) (now slots) ⌝ }
+    requires { ⌜ (1 ≤ r) × (r ≤ resources-in (now words)) ⌝ }
+    ensures { λ x. ⌜ (x ≡ length (name-in (now (words .entry)) (now (slots .entry)) r)) × (x ≤ slot-width) ⌝ }
+{
+    let length = wide(resource_word(words, r, RESOURCE_NAME_LENGTH));
+    if SLOT_BYTES < length {
+        return SLOT_BYTES;
+    }
+    length
+}
+
+// Resource r has this name: it is as long, and of the same bytes. A name can be looked up before the tables are checked:
+// only the sizes have to be right.
 pub fn has_name(words: &[u32], slots: &[u8], r: u32, name: &[u8]) -> bool
-    requires { ⌜ Named (now words) (now slots) ⌝ }
+    requires { ⌜ Slotted (now words) (now slots) ⌝ }
     requires { ⌜ (1 ≤ r) × (r ≤ resources-in (now words)) ⌝ }
     ensures { λ x. ⌜ x ≡ same (name-in (now (words .entry)) (now (slots .entry)) r) (now (name .entry)) ⌝ }
 {
-    let length = name_length(words, r);
+    let length = name_span(words, slots, r);
     if length != name.len() {
         return false;
     }
@@ -200,7 +214,7 @@ pub fn has_name(words: &[u32], slots: &[u8], r: u32, name: &[u8]) -> bool
 
 // The first resource of that name, or 0.
 pub fn find(words: &[u32], slots: &[u8], name: &[u8]) -> u32
-    requires { ⌜ Named (now words) (now slots) ⌝ }
+    requires { ⌜ Slotted (now words) (now slots) ⌝ }
     ensures { λ x. ⌜ x ≡ find-in (now (words .entry)) (now (slots .entry)) (now (name .entry)) ⌝ }
 {
     let n = resource_count(words);

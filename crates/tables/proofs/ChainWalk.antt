@@ -1,5 +1,5 @@
 -- Following a chain through the words.
-use mathlib.Core.Path.{_≡_, refl, sym, _∙_, ap}
+use mathlib.Core.Path.{_≡_, refl, sym, _∙_, ap, subst}
 use mathlib.Core.Logic.{_≢_}
 use mathlib.Core.List.{List, [], _∷_}
 use Prim.Native.Nat.{ℕ, zero, suc, _<_, _≤_}
@@ -10,14 +10,14 @@ use borrow.Author.Tests.{eq-eqb, ne-eqb}
 use Rattle.tables.specs.Lists.{next}
 use Rattle.tables.specs.State.{Tables, Chain, chain-of}
 use Rattle.tables.specs.Grants.{tally}
-use Rattle.tables.specs.Layout.{Counts, cell, word-value, words, words-with, follow}
+use Rattle.tables.specs.Layout.{cell, words, follow}
 use Rattle.tables.specs.Threads.{Absent, Distinct, Each}
-use Rattle.tables.proofs.Links.{holder, each-map, holder-here, holder-past, next-here, next-past}
+use Rattle.tables.proofs.Links.{holder, each-map, each-on, holder-here, holder-past, next-here, next-past, next-holder}
 use Rattle.tables.proofs.Grid.{place-size}
 use Rattle.tables.proofs.Chains.{spot}
 use Rattle.tables.specs.Threads.{Stands, LinkedAt, Threaded}
-use Rattle.tables.proofs.WordChanges.{linked-head, no-zero, length-words-with, read-word-with, holding}
-use Rattle.tables.specs.Stores.{cell-holding, Safe}
+use Rattle.tables.proofs.WordChanges.{linked-head, no-zero, length-words-with, read-word-with, words-true, holding}
+use Rattle.tables.specs.Stores.{Counts, words-with, value-with, cell-holding, Safe}
 
 -- f leads from y through ys, and from the last to 0
 abbrev pub Leads : (ℕ → ℕ) → ℕ → List ℕ → Type 0
@@ -75,7 +75,7 @@ follow-leads f (suc n) y (suc x ∷ xs) h a p = rw (h .0) (ap (λ (ys : List ℕ
 
 module _ (ct : Counts) (t : Tables) (c : Chain) where
   pub cell-word : (j : ℕ) → LinkedAt t c j → getD (words-with ct t) (spot t (cell c j)) 0 ≡ next j (0 ∷ chain-of c t)
-  cell-word j l = read-word-with ct t (cell c j) (l .inside) ∙ ap (word-value ct t) (l .says)
+  cell-word j l = read-word-with ct t (cell c j) (l .inside) ∙ ap (value-with ct t) (l .says)
 
 module _ (ct : Counts) (t : Tables) (c : Chain) (h : Threaded t c) where
   pub words-lead-with : Leads (λ j. getD (words-with ct t) (spot t (cell c j)) 0) 0 (chain-of c t)
@@ -99,9 +99,18 @@ module _ (ct : Counts) (t : Tables) (c : Chain) (h : Threaded t c) where
   unfolding holding
   walk-holds-with k n p o = holding-leads (words-with ct t) (λ j. spot t (cell c j)) k n 0 (chain-of c t) words-lead-with p o
 
+  -- if the cell of a record of the chain names k, it is that cell
+  pub near-holds-with : (k n : ℕ) → length (chain-of c t) ≤ n → (k ≢ 0 → Absent k (chain-of c t) → ⊥) → (j : ℕ) → (Absent j (chain-of c t) → ⊥)
+      → getD (words-with ct t) (spot t (cell c j)) 0 ≡ k → spot t (cell c j) ≡ cell-holding (words-with ct t) (λ j. spot t (cell c j)) k n (spot t (cell c 0))
+  unfolding holding
+  near-holds-with k n p o j on e =
+      let s = each-on (Stands t c) (chain-of c t) j (h .members) on in
+      let is : holder 0 k (chain-of c t) ≡ j = next-holder j k 0 (chain-of c t) (no-zero t c h, h .distinct) (no-zero t c h) (λ a. on (a .1)) (sym (cell-word ct t c j (s .1)) ∙ e) in
+      ap (λ (i : ℕ). spot t (cell c i)) (sym is) ∙ sym (walk-holds-with k n p o)
+
 module _ (t : Tables) (c : Chain) (h : Threaded t c) where
   pub words-lead : Leads (λ j. getD (words t) (spot t (cell c j)) 0) 0 (chain-of c t)
-  words-lead = words-lead-with (tally t) t c h
+  words-lead = subst (λ (ws : List ℕ). Leads (λ j. getD ws (spot t (cell c j)) 0) 0 (chain-of c t)) (words-true t) (words-lead-with (tally t) t c h)
 
   pub walk-safe : (k n : ℕ) → length (chain-of c t) ≤ n → (k ≢ 0 → Absent k (chain-of c t) → ⊥) → Safe (words t) (λ j. spot t (cell c j)) k n (spot t (cell c 0))
-  walk-safe = walk-safe-with (tally t) t c h
+  walk-safe k n p o = subst (λ (ws : List ℕ). Safe ws (λ j. spot t (cell c j)) k n (spot t (cell c 0))) (words-true t) (walk-safe-with (tally t) t c h k n p o)

@@ -7,11 +7,11 @@ use native.Mathlib.Omega.{arith}
 use lib.ListN.{length}
 use Rattle.tables.specs.Lists.{remove, next}
 use Rattle.tables.specs.State.{Lock, Tables, lock, free-locks, denied, blocked, notices, queue, Chain, free-resources, of-locks, chain-of, home}
-use Rattle.tables.specs.Layout.{Counts, of-lock, place, head, link, lock-links, lock-fields, following, words-with, most}
+use Rattle.tables.specs.Layout.{of-lock, place, head, link, lock-links, lock-fields, following, most}
 use Rattle.tables.proofs.Numbered.{put-lock, locks-put, lock-put-here, chains-put-lock}
 use Rattle.tables.specs.Threads.{Absent, Distinct, Each}
 use Rattle.tables.proofs.Links.{each-absent, each-append, each-remove, distinct-append, distinct-remove, removed, next-absent}
-use Rattle.tables.specs.Stores.{store-run}
+use Rattle.tables.specs.Stores.{Counts, words-with, store-run}
 use Rattle.tables.specs.Threads.{In, Present}
 use Rattle.tables.proofs.Chains.{chain?, with-chain, chain-same, chain-other, same-locks, lock-with, resource-count}
 use Rattle.tables.specs.Threads.{Stands, Threaded}
@@ -101,9 +101,9 @@ module _ (r l : ℕ) (t : Tables) (h : Sane r l t) (k : ℕ) (old : Present t (o
   unfolding lifted
   sane-lifted = sane-leave r l t h (of-locks (home (lock t k))) k old
 
-  pub lock-lifted : lock (lifted k t) k ≡ lock t k
+  pub lock-lifted : (j : ℕ) → lock (lifted k t) j ≡ lock t j
   unfolding lifted leave
-  lock-lifted = lock-with (of-locks (home (lock t k))) _ t k
+  lock-lifted j = lock-with (of-locks (home (lock t k))) _ t j
 
   pub present-lifted : (c : Chain) → Present t c → Present (lifted k t) c
   present-lifted c = in-same t (lifted k t) (sane-lifted .resources ∙ sym (h .resources)) (sane-lifted .locks ∙ sym (h .locks)) (head c)

@@ -105,6 +105,27 @@ pub next-last : (k x : ℕ) → next k (x ∷ []) ≡ 0
 unfolding next
 next-last k x = elim (ℕ-discrete k x) [ yes e ↦ next-here k x [] e | no n ↦ next-past k x [] n ]
 
+-- what follows a number stands further on in the list
+pub next-further : (j x y : ℕ) (xs : List ℕ) → x ≢ 0 → Absent x xs → next j (y ∷ xs) ≢ x
+next-further j x y [] z a e = z (sym (sym (next-last j y) ∙ e))
+next-further j x y (w ∷ xs) z a e =
+    elim (ℕ-discrete j y) [
+      | yes f ↦ a .0 (sym (sym (next-here j y (w ∷ xs) f) ∙ e))
+      | no n ↦ next-further j x w xs z (a .1) (sym (next-past j y (w ∷ xs) n) ∙ e)
+    ]
+
+-- the number on the list that k follows is the one that stands before k
+pub next-holder : (j k y : ℕ) (xs : List ℕ) → Distinct (y ∷ xs) → Absent 0 xs → (Absent j (y ∷ xs) → ⊥) → next j (y ∷ xs) ≡ k → holder y k xs ≡ j
+unfolding holder
+next-holder j k y [] d z o e = elim (ℕ-discrete j y) [ yes f ↦ sym f | no n ↦ absurd (o (n, tt)) ]
+next-holder j k y (x ∷ xs) d z o e =
+    elim (ℕ-discrete j y) [
+      | yes f ↦ holder-here k x y xs (sym e ∙ next-here j y (x ∷ xs) f) ∙ sym f
+      | no n ↦
+          let g : next j (x ∷ xs) ≡ k = sym (next-past j y (x ∷ xs) n) ∙ e in
+          holder-past k x y xs (λ f. next-further j x x xs (λ h. z .0 (sym h)) (d .1 .0) (g ∙ f)) ∙ next-holder j k x xs (d .1) (z .1) (λ a. o (n, a)) g
+    ]
+
 -- the holder stands on the list, or is what stands before it
 pub holder-differs : (i j k : ℕ) (xs : List ℕ) → Absent i (j ∷ xs) → holder j k xs ≢ i
 unfolding holder

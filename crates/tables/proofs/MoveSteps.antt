@@ -11,12 +11,12 @@ use lib.Dec.{eqb}
 use borrow.Author.Tests.{eqb-true}
 use Rattle.tables.specs.Lists.{put, remove, next}
 use Rattle.tables.specs.State.{Lock, Resource, Tables, lock, resource, blocked-lock, noticed, Queue, blocked, notices, Chain, free-resources, of-locks, LockChain, chain-of, home-at, home, shift}
-use Rattle.tables.specs.Layout.{Counts, of-lock, place, head, lock-links, lock-fields, words-with}
+use Rattle.tables.specs.Layout.{of-lock, place, head, lock-links, lock-fields}
 use Rattle.tables.proofs.Cases.{and-left, and-right}
 use Rattle.tables.proofs.Numbered.{put-lock, locks-put, lock-put-here, lock-put-other, resource-put-lock, chains-put-lock, lock-by-locks}
 use Rattle.tables.specs.Threads.{Absent}
 use Rattle.tables.proofs.Links.{removed, without, absent-remove, on-remove, absent-append, on-append, on-end}
-use Rattle.tables.specs.Stores.{store-run}
+use Rattle.tables.specs.Stores.{Counts, words-with, store-run}
 use Rattle.tables.specs.Threads.{Present}
 use Rattle.tables.proofs.Chains.{chain?, with-queue, chain-same, chain-other, same-locks, resource-rest}
 use Rattle.tables.specs.Threads.{Stands}
@@ -183,7 +183,7 @@ module _ (r l : ℕ) (t : Tables) (h : Sane r l t) (k : ℕ) (m : Lock) (low : 1
   unfolding set-cells
   set-words ct =
       sym (put-lock-words ct (lifted k t) k m low (high-lifted r l t h k old m low high new)
-      (link-zero r l t h k old m low high new m new ∙ sym (rw (lock-lifted r l t h k old) (link-zero r l t h k old m low high new (lock t k) old)))
+      (link-zero r l t h k old m low high new m new ∙ sym (rw (lock-lifted r l t h k old k) (link-zero r l t h k old m low high new (lock t k) old)))
       ∙ ap (λ (n : ℕ). store-run (λ f. place n (of-lock k f)) lock-links (lock-fields m) (words-with ct (lifted k t))) (sane-lifted r l t h k old .resources))
 
   pub arriving-words : (ct : Counts) → arrive-cells (eqb (m .state) 0) (cell-place r (of-locks (home m))) l k (words-with ct (put-lock k m (lifted k t))) ≡ words-with ct (resettle false k m t)
@@ -205,7 +205,7 @@ module _ (r l : ℕ) (t : Tables) (h : Sane r l t) (k : ℕ) (m : Lock) (low : 1
   unfolding lifted leave
   lifted-here j n a = on-remove j k (chain-of (of-locks (home (lock t k))) t) n (rw (chain-same (of-locks (home (lock t k))) (remove k (chain-of (of-locks (home (lock t k))) t)) t old) at a)
 
-  lifted-keeps : (c : Chain) (j : ℕ) → j ≢ k → Absent j (chain-of c (lifted k t)) → Absent j (chain-of c t)
+  pub lifted-keeps : (c : Chain) (j : ℕ) → j ≢ k → Absent j (chain-of c (lifted k t)) → Absent j (chain-of c t)
   unfolding lifted leave
   lifted-keeps c j n a =
       elim (chain? c (of-locks (home (lock t k)))) [
@@ -281,6 +281,10 @@ module _ (r l : ℕ) (t : Tables) (h : Whole r l t) (k : ℕ) (m : Lock) (low : 
   unfolding notify unblock
   locks-notify = shift-chain-locks (noticed (lock t k)) (noticed m) (of-locks notices) k (unblock k m t) ∙ shift-chain-locks (blocked-lock (lock t k)) (blocked-lock m) (of-locks blocked) k t
 
+  pub lock-unblock : (j : ℕ) → lock (unblock k m t) j ≡ lock t j
+  unfolding unblock
+  lock-unblock j = lock-by-locks (unblock k m t) t j (shift-chain-locks (blocked-lock (lock t k)) (blocked-lock m) (of-locks blocked) k t)
+
   pub lock-notify : (j : ℕ) → lock (notify k m t) j ≡ lock t j
   lock-notify j = lock-by-locks (notify k m t) t j locks-notify
 
@@ -296,11 +300,14 @@ module _ (r l : ℕ) (t : Tables) (h : Whole r l t) (k : ℕ) (m : Lock) (low : 
   pub old-notify : Present (notify k m t) (of-locks (home (lock (notify k m t) k)))
   old-notify = subst (λ (o : Lock). Present (notify k m t) (of-locks (home o))) (sym (lock-notify k)) (present-notify (of-locks (home (lock t k))) (h .homes k low high))
 
-  pub on-notify : Absent k (chain-of (of-locks (home (lock (notify k m t) k))) (notify k m t)) → ⊥
-  on-notify a =
-      h .at-home k low high
-      (rw (homes-notify (of-locks (home (lock t k))) (homed (lock t k .state) (lock t k .resource))) at
-      (subst (λ (o : Lock). Absent k (chain-of (of-locks (home o)) (notify k m t))) (lock-notify k) a))
+  pub home-notify : (j : ℕ) → 1 ≤ j → j ≤ l → Absent j (chain-of (of-locks (home (lock (notify k m t) j))) (notify k m t)) → ⊥
+  home-notify j p q a =
+      h .at-home j p q
+      (rw (homes-notify (of-locks (home (lock t j))) (homed (lock t j .state) (lock t j .resource))) at
+      (subst (λ (o : Lock). Absent j (chain-of (of-locks (home o)) (notify k m t))) (lock-notify j) a))
+
+  on-notify : Absent k (chain-of (of-locks (home (lock (notify k m t) k))) (notify k m t)) → ⊥
+  on-notify = home-notify k low high
 
   stays-notify : stays (lock t k) m ≡ true → home m ≡ home (lock (notify k m t) k)
   stays-notify e = stays-home (lock t k) m e ∙ ap home (sym (lock-notify k))

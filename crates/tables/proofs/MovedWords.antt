@@ -11,13 +11,12 @@ use lib.Dec.{eqb}
 use borrow.Author.Tests.{eqb-true, eq-eqb}
 use Rattle.tables.specs.Lists.{within, count, bit, remove}
 use Rattle.tables.specs.State.{Lock, Resource, Tables, no-resource, lock, resource, granted, converting, waiting, Queue, grants, converts, waits, LockChain, free-locks, denied, blocked, notices, queue, of-locks, chain, home-at, home, belongs, shift, shift-front, relist, move}
-use Rattle.tables.specs.Layout.{Counts, words-with}
 use Rattle.tables.proofs.Cases.{by-cases, clash, and-left, and-right, and-intro}
 use Rattle.tables.proofs.Counts.{within-le, remove-absent, shift-off}
 use Rattle.tables.specs.Threads.{Present}
 use Rattle.tables.proofs.Chains.{chain?, with-queue, home-past}
 use Rattle.tables.proofs.Frame.{Homed, homed}
-use Rattle.tables.specs.Stores.{stays, move-cells}
+use Rattle.tables.specs.Stores.{Counts, words-with, stays, move-cells}
 use Rattle.tables.specs.Threads.{Whole}
 use Rattle.tables.proofs.MoveSteps.{stays-home, move-steps, move-words, sane-move, locks-move, blocked-move, notices-move, move-removes, move-keeps, move-pushes, move-joins, free-resources-move, rest-move}
 use Rattle.tables.specs.Validity.{used, LockOk, Core, Near}

@@ -1,5 +1,5 @@
 -- What is read back from the words and slots of a state is the state.
-use mathlib.Core.Path.{_≡_, sym, _∙_, ap, ap₂}
+use mathlib.Core.Path.{_≡_, sym, _∙_, ap, ap₂, subst}
 use mathlib.Core.List.{List, _++_, map, append-assoc}
 use Prim.Native.Nat.{ℕ, zero, suc, _+_, _-_, _*_, _<_, _≤_}
 use native.Mathlib.Omega.{arith}
@@ -10,14 +10,15 @@ use lib.Seq.{take-append-seam, take-at, drop-at}
 use Rattle.tables.specs.Lists.{from}
 use Rattle.tables.specs.State.{Resource, Tables, name-width, value-width, no-lock, no-resource, lock, resource, grants, converts, waits, free-locks, denied, blocked, notices, queue, Chain, free-resources, of-locks, chain-of}
 use Rattle.tables.specs.Grants.{tally}
-use Rattle.tables.specs.Layout.{Counts, resource-width, lock-width, Address, of-header, of-resource, of-lock, place, cell, link, content, content-with, words, words-with, slot-width, slot, slots, word-in, follow, most, read-chain, read-lock, slot-in, read-resource, read}
+use Rattle.tables.specs.Layout.{resource-width, lock-width, Address, of-header, of-resource, of-lock, place, cell, link, content, words, slot-width, slot, slots, word-in, follow, most, read-chain, read-lock, slot-in, read-resource, read}
 use Rattle.tables.proofs.Blocks.{drop-blocks, tabulated}
 use Rattle.tables.proofs.Links.{each-map, few}
 use Rattle.tables.specs.Threads.{In, Present}
 use Rattle.tables.proofs.Chains.{spot}
 use Rattle.tables.specs.Threads.{Stands, Threaded}
-use Rattle.tables.proofs.WordChanges.{no-zero, read-word-with}
+use Rattle.tables.proofs.WordChanges.{no-zero, read-word, read-word-with, words-true}
 use Rattle.tables.proofs.ChainWalk.{follow-leads, words-lead-with}
+use Rattle.tables.specs.Stores.{Counts, content-with, words-with}
 
 pub record Readable (t : Tables) : Type 0 where
   pub chains : (c : Chain) → Present t c → Threaded t c
@@ -73,7 +74,7 @@ module _ (ct : Counts) (t : Tables) where
       ap₂ (λ (r l : ℕ). follow (λ k. getD (words-with ct t) (place r (cell c k)) 0) (most r l c) (getD (words-with ct t) (place r (cell c 0)) 0)) resources-word-with locks-word-with
       ∙ follow-leads (λ k. getD (words-with ct t) (spot t (cell c k)) 0) _ 0 (chain-of c t) (words-lead-with ct t c h) (no-zero t c h) (chain-most t c h)
 
-  lock-read-with : (k : ℕ) → 1 ≤ k → k ≤ length (t .locks) → read-lock (words-with ct t) k ≡ lock t k
+  pub lock-read-with : (k : ℕ) → 1 ≤ k → k ≤ length (t .locks) → read-lock (words-with ct t) k ≡ lock t k
   unfolding read-lock
   lock-read-with k p q =
       let at-field : (f : ℕ) → f < lock-width → word-in (words-with ct t) (of-lock k f) ≡ content-with ct t (of-lock k f) = λ f m. word-read-with (of-lock k f) (p, q, m) in
@@ -89,19 +90,19 @@ module _ (ct : Counts) (t : Tables) where
 
 module _ (t : Tables) where
   pub resources-word : getD (words t) 0 0 ≡ length (t .resources)
-  resources-word = resources-word-with (tally t) t
+  resources-word = rw (← (words-true t)) (resources-word-with (tally t) t)
 
   pub locks-word : getD (words t) 1 0 ≡ length (t .locks)
-  locks-word = locks-word-with (tally t) t
+  locks-word = rw (← (words-true t)) (locks-word-with (tally t) t)
 
   pub word-read : (a : Address) → In t a → word-in (words t) a ≡ content t a
-  word-read = word-read-with (tally t) t
+  word-read a h = ap (λ (r : ℕ). getD (words t) (place r a) 0) resources-word ∙ read-word t a h
 
   pub chain-read : (c : Chain) → Threaded t c → read-chain (words t) c ≡ chain-of c t
-  chain-read = chain-read-with (tally t) t
+  chain-read = subst (λ (ws : List ℕ). (c : Chain) → Threaded t c → read-chain ws c ≡ chain-of c t) (words-true t) (chain-read-with (tally t) t)
 
   pub lock-read : (k : ℕ) → 1 ≤ k → k ≤ length (t .locks) → read-lock (words t) k ≡ lock t k
-  lock-read = lock-read-with (tally t) t
+  lock-read = subst (λ (ws : List ℕ). (k : ℕ) → 1 ≤ k → k ≤ length (t .locks) → read-lock ws k ≡ lock t k) (words-true t) (lock-read-with (tally t) t)
 
   module _ (h : Readable t) where
     -- the slot of a resource stands in its place

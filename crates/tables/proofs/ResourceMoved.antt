@@ -8,14 +8,14 @@ use lib.ListN.{length, take, drop}
 use Rattle.tables.specs.Lists.{nth, count, null}
 use Rattle.tables.specs.State.{Resource, Tables, no-resource, lock, resource, Queue, grants, converts, Chain, free-resources, queue-of, chain-of, shift-front, move-resource}
 use Rattle.tables.specs.Grants.{holders, tally}
-use Rattle.tables.specs.Layout.{of-resource, place, resource-links, resource-fields, Counts, words, words-with, slot-width, slot, slots}
+use Rattle.tables.specs.Layout.{of-resource, place, resource-links, resource-fields, words, slot-width, slot, slots}
 use Rattle.tables.proofs.Counts.{le-within}
 use Rattle.tables.proofs.Numbered.{put-resource, resource-put-blind}
-use Rattle.tables.specs.Stores.{store-run}
+use Rattle.tables.specs.Stores.{Counts, words-with, store-run}
 use Rattle.tables.specs.Threads.{Present}
 use Rattle.tables.proofs.Chains.{with-chain}
 use Rattle.tables.specs.Threads.{Stands}
-use Rattle.tables.proofs.WordChanges.{stands, put-resource-words}
+use Rattle.tables.proofs.WordChanges.{words-true, stands, put-resource-words}
 use Rattle.tables.proofs.ReadBack.{chain-most}
 use Rattle.tables.proofs.SlotChanges.{slots-put, slots-move-resource}
 use Rattle.tables.specs.Stores.{cell-place}
@@ -129,7 +129,7 @@ module _ (r : ℕ) (x : Resource) (t : Tables) (core : Core t) (low : 1 ≤ r) (
 
     pub resource-moved-words : words (move-resource r x t) ≡ resource-cells (length (t .resources)) r (resource t r) x (words t)
     unfolding resource-cells
-    resource-moved-words = rw (relinked-words (tally t), set-relinked (tally t), tally-refilled)
+    resource-moved-words = rw (← (words-true t), ← (words-true (move-resource r x t)), relinked-words (tally t), set-relinked (tally t), tally-refilled)
 
   pub resource-moved-slots : slots (move-resource r x t) ≡ take (slot-width * (r - 1)) (slots t) ++ (slot x ++ drop (slot-width * r) (slots t))
   resource-moved-slots =

@@ -11,7 +11,7 @@ use borrow.Author.Tests.{eqb-true, eq-eqb, ne-eqb, leb-true, not-true}
 use Rattle.modes.specs.Modes.{compatible}
 use Rattle.tables.specs.Lists.{within, count, bit, all, null, next}
 use Rattle.tables.specs.State.{Lock, name-width, value-width, no-value, no-resource, lock, resource, holds, Queue, grants, converts, waits, LockChain, free-locks, denied, blocked, notices, queue, queue-of, Chain, free-resources, of-locks, chain, chain-of, home-at, belongs}
-use Rattle.tables.specs.Layout.{resource-width, Address, queue-head, count-field, of-header, of-resource, of-lock, place, head, word-value, content, by-address, words, words-with, slots, resources-in, locks-in, word-in, link-in, read-lock, slot-in, read}
+use Rattle.tables.specs.Layout.{resource-width, Address, queue-head, count-field, of-header, of-resource, of-lock, place, head, word-value, content, by-address, words, slots, resources-in, locks-in, word-in, link-in, read-lock, slot-in, read}
 use Rattle.tables.specs.Grants.{tally, holders, empty}
 use Rattle.tables.specs.Sound.{free-resource-right, name-unique, used-resource-right, holders-compatible, sound}
 use Rattle.tables.proofs.Cases.{by-cases, clash, eqb-same, parts}
@@ -28,6 +28,7 @@ use Rattle.tables.proofs.ReadState.{resources-read, locks-read, lock-of
 use Rattle.tables.proofs.Tallies.{count-word}
 use Rattle.tables.proofs.Conditions.{names-differ, resources-low, resources-high, locks-low, locks-high, words-sized, slots-sized, header-zero, counts-true, chain-inside, chain-links, by-use, name-short, name-zeros, slot-wide, name-is, name-length, value-is, valid-is, fields-tested, stands-as, blocked-off, notice-off, compatible-tested, heads-tested}
 use Rattle.tables.proofs.Fields.{fields-are}
+use Rattle.tables.specs.Stores.{words-with}
 
 nobody-zero : (n : ℕ) (xs : List ℕ) → Each (λ k. (1 ≤ k) × (k ≤ n)) xs → (k : ℕ) → within n k ≡ false → count k xs ≡ 0
 nobody-zero n xs e k w = absent-count k xs (each-absent (λ k. (1 ≤ k) × (k ≤ n)) xs k e (λ m. clash (within n k) (le-within n k (m .0) (m .1)) w))
@@ -254,7 +255,7 @@ module _ (ws ss : List ℕ) (h : sound ws ss ≡ true) where
   word-is (of-resource (suc r) (suc (suc (suc (suc (suc zero)))))) i = sym (valid-is ws ss h (suc r) (i .0) (i .1))
   word-is (of-resource (suc r) (suc (suc (suc (suc (suc (suc f))))))) i =
       let e : count-field f ≡ suc (suc (suc (suc (suc (suc f))))) = omega arith in
-      rw e at (counts-true ws ss h (suc r) (i .0) (i .1) f (omega (arith, i .2)) ∙ sym (ap (word-value (tally (read ws ss)) (read ws ss)) (count-word (read ws ss) (suc r) f (omega (arith, i .2)))))
+      rw e at (counts-true ws ss h (suc r) (i .0) (i .1) f (omega (arith, i .2)) ∙ sym (ap (word-value (read ws ss)) (count-word (read ws ss) (suc r) f (omega (arith, i .2)))))
   word-is (of-lock zero f) i = absurd (omega arith)
   word-is (of-lock (suc k) zero) i = home-link k (i .1) (lock (read ws ss) (suc k) .state) refl (ok-numbered (lock-is (suc k)))
   word-is (of-lock (suc k) (suc zero)) i = side-link k (i .1) blocked (omega arith) (blocked-off ws ss h (suc k) (i .0) (i .1))
@@ -269,7 +270,7 @@ module _ (ws ss : List ℕ) (h : sound ws ss ≡ true) where
   word-is (of-lock (suc k) (suc (suc (suc (suc (suc (suc (suc (suc (suc (suc f))))))))))) i = absurd (omega arith)
 
   pub sound-words : ws ≡ words (read ws ss)
-  unfolding words-with
+  unfolding words
   sound-words =
       is-written (resources-in ws) (locks-in ws) (content (read ws ss)) ws (words-sized ws ss h) word-is
       ∙ sym (ap₂ (λ (r l : ℕ). by-address r l (content (read ws ss))) (resources-read ws ss) (locks-read ws ss))

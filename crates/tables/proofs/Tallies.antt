@@ -11,7 +11,7 @@ use borrow.Author.Tests.{eqb-true, ne-eqb}
 use Rattle.tables.specs.Lists.{within, count, bit, remove, null}
 use Rattle.tables.specs.State.{Lock, Tables, most-locks, lock, resource, granted, converting, holds, Queue, grants, converts, queue, of-locks, chain, belongs, shift, move}
 use Rattle.tables.specs.Grants.{holders, holds-mode, tally, empty}
-use Rattle.tables.specs.Layout.{Address, of-resource, count-field, Word, plain, following, tallied, word-at, Counts, word-value, content-with, words-with}
+use Rattle.tables.specs.Layout.{Address, of-resource, count-field, Word, plain, following, tallied, word-at}
 use Rattle.tables.proofs.Cases.{by-cases, by-equal, clash, eqb-same, and-left, and-right}
 use Rattle.tables.proofs.Counts.{within-le, count-same, count-other, count-append, count-remove, count-nil, remove-head}
 use Rattle.tables.proofs.Links.{remove-past}
@@ -21,7 +21,7 @@ use Rattle.tables.proofs.Chains.{spot}
 use Rattle.tables.proofs.WordChanges.{Placed, placed, read-word-with, words-are}
 use Rattle.tables.proofs.ReadBack.{chain-most}
 use Rattle.tables.proofs.ThreadedChains.{core-threaded}
-use Rattle.tables.specs.Stores.{lower-count, raise-count}
+use Rattle.tables.specs.Stores.{Counts, content-with, words-with, value-with, lower-count, raise-count}
 use Rattle.tables.specs.Validity.{used, LockOk, Core, Near}
 use Rattle.tables.proofs.Valid.{used-within, holder-place, lock-same, lock-other, chain-move}
 
@@ -144,7 +144,7 @@ count-word t r (suc (suc (suc (suc (suc zero))))) p = refl
 count-word t r (suc (suc (suc (suc (suc (suc h)))))) p = absurd (omega arith)
 
 pub count-at : (ct : Counts) (t : Tables) (r h : ℕ) → h ≤ 5 → In t (of-resource r (count-field h)) → getD (words-with ct t) (spot t (of-resource r (count-field h))) 0 ≡ ct r h
-count-at ct t r h mode inside = read-word-with ct t (of-resource r (count-field h)) inside ∙ ap (word-value ct t) (count-word t r h mode)
+count-at ct t r h mode inside = read-word-with ct t (of-resource r (count-field h)) inside ∙ ap (value-with ct t) (count-word t r h mode)
 
 -- one count changes
 module _ (ct cu : Counts) (t : Tables) (r h : ℕ) (mode : h ≤ 5) (inside : In t (of-resource r (count-field h))) (rest : (s g : ℕ) → (s ≡ r → g ≡ h → ⊥) → cu s g ≡ ct s g) where
@@ -152,18 +152,18 @@ module _ (ct cu : Counts) (t : Tables) (r h : ℕ) (mode : h ≤ 5) (inside : In
   rest-word b i n = go (word-at t b) refl
     where
       go : (w : Word) → word-at t b ≡ w → content-with cu t b ≡ content-with ct t b
-      go (plain v) e = ap (word-value cu t) e ∙ sym (ap (word-value ct t) e)
-      go (following c k) e = ap (word-value cu t) e ∙ sym (ap (word-value ct t) e)
+      go (plain v) e = ap (value-with cu t) e ∙ sym (ap (value-with ct t) e)
+      go (following c k) e = ap (value-with cu t) e ∙ sym (ap (value-with ct t) e)
       go (tallied s g) e =
-          ap (word-value cu t) e
+          ap (value-with cu t) e
           ∙ rest s g (λ p q. n (sym (subst (Placed b) e (placed t b i)) ∙ ap₂ (λ (s g : ℕ). of-resource s (count-field g)) p q))
-          ∙ sym (ap (word-value ct t) e)
+          ∙ sym (ap (value-with ct t) e)
 
   recount-word : words-with cu t ≡ set (words-with ct t) (spot t (of-resource r (count-field h))) (cu r h)
   recount-word =
       words-are cu t t (update (of-resource r (count-field h)) (cu r h) (content-with ct t)) refl refl
       (λ b i. elim (address? b (of-resource r (count-field h))) [
-        | yes e ↦ rw e (ap (word-value cu t) (count-word t r h mode) ∙ sym (update-here (of-resource r (count-field h)) (cu r h) _))
+        | yes e ↦ rw e (ap (value-with cu t) (count-word t r h mode) ∙ sym (update-here (of-resource r (count-field h)) (cu r h) _))
         | no n ↦ rest-word b i n ∙ sym (update-past (of-resource r (count-field h)) b (cu r h) _ n)
       ])
       ∙ unfold words-with in sym (set-written _ _ (content-with ct t) (of-resource r (count-field h)) (cu r h) inside)

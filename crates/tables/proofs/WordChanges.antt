@@ -10,11 +10,11 @@ use lib.Seq.{set-set, getD-drop}
 use Rattle.tables.specs.Lists.{remove, first, next}
 use Rattle.tables.specs.State.{Lock, Resource, Tables, lock, resource, Queue, grants, converts, waits, free-locks, denied, blocked, notices, queue, Chain, free-resources, of-locks, queue-of, chain-of, home-at, home}
 use Rattle.tables.specs.Grants.{tally}
-use Rattle.tables.specs.Layout.{lock-width, Address, of-header, of-resource, of-lock, size, by-address, link, cell, resource-links, lock-links, resource-fields, lock-fields, count-field, Word, plain, following, header-words, resource-words, lock-words, word-at, Counts, tallied, word-value, content, content-with, words, words-with}
+use Rattle.tables.specs.Layout.{lock-width, Address, of-header, of-resource, of-lock, size, by-address, link, cell, resource-links, lock-links, resource-fields, lock-fields, count-field, Word, plain, following, header-words, resource-words, lock-words, word-at, tallied, word-value, content, words}
 use Rattle.tables.proofs.Numbered.{put-lock, put-resource, locks-put, lock-put-here, lock-put-other, resource-put-lock, chains-put-lock, resources-put, resource-put-here, resource-put-other, lock-put-resource, chains-put-resource}
 use Rattle.tables.specs.Threads.{Absent}
 use Rattle.tables.proofs.Links.{holder, each-on, each-absent, holder-on, next-here, next-past, next-append-here, next-append-past, next-remove-here, next-remove-gone, next-remove-past, next-push-past}
-use Rattle.tables.specs.Stores.{store-run}
+use Rattle.tables.specs.Stores.{Counts, content-with, words-with, value-with, store-run}
 use Rattle.tables.proofs.Grid.{address?, update, update-here, update-past, Side, on, off, lock-side, resource-side, updates, stores-written, updates-past, row-agrees, length-written, getD-written, written-same, set-written}
 use Rattle.tables.specs.Threads.{In, Present}
 use Rattle.tables.proofs.Chains.{chain?, with-chain, with-queue, spot, chain-same, chain-other, same-locks, lock-with, resource-count, resource-rest, home-past}
@@ -29,10 +29,22 @@ unfolding words-with
 read-word-with ct t a h = getD-written _ _ (content-with ct t) a h
 
 pub length-words : (t : Tables) → length (words t) ≡ size (length (t .resources)) (length (t .locks))
-length-words t = length-words-with (tally t) t
+unfolding words
+length-words t = length-written _ _ (content t)
 
 pub read-word : (t : Tables) (a : Address) → In t a → getD (words t) (spot t a) 0 ≡ content t a
-read-word t a h = read-word-with (tally t) t a h
+unfolding words
+read-word t a h = getD-written _ _ (content t) a h
+
+-- with the true counts these are the words of the state
+true-value : (t : Tables) (w : Word) → value-with (tally t) t w ≡ word-value t w
+true-value t (plain v) = refl
+true-value t (following c k) = refl
+true-value t (tallied r m) = refl
+
+pub words-true : (t : Tables) → words-with (tally t) t ≡ words t
+unfolding words words-with
+words-true t = written-same _ _ (content-with (tally t) t) (content t) (λ a h. true-value t (word-at t a))
 
 -- a state of the size of t is known by its content at each address
 pub words-are : (ct : Counts) (t u : Tables) (f : Address → ℕ) → length (u .resources) ≡ length (t .resources) → length (u .locks) ≡ length (t .locks)
@@ -114,11 +126,11 @@ seen : (ct : Counts) (t : Tables) (c : Chain) (xs : List ℕ) → Present t c �
 seen ct t c xs h a i = go (word-at t a) refl
   where
     go : (w : Word) → word-at t a ≡ w → Seen ct t c xs a
-    go (plain v) e = apart (ap (word-value ct (with-chain c xs t)) (word-with t c xs a ∙ e) ∙ sym (ap (word-value ct t) e))
-    go (tallied r m) e = apart (ap (word-value ct (with-chain c xs t)) (word-with t c xs a ∙ e) ∙ sym (ap (word-value ct t) e))
+    go (plain v) e = apart (ap (value-with ct (with-chain c xs t)) (word-with t c xs a ∙ e) ∙ sym (ap (value-with ct t) e))
+    go (tallied r m) e = apart (ap (value-with ct (with-chain c xs t)) (word-with t c xs a ∙ e) ∙ sym (ap (value-with ct t) e))
     go (following d k) e =
-        let new : content-with ct (with-chain c xs t) a ≡ next k (0 ∷ chain-of d (with-chain c xs t)) = ap (word-value ct (with-chain c xs t)) (word-with t c xs a ∙ e) in
-        let old : content-with ct t a ≡ next k (0 ∷ chain-of d t) = ap (word-value ct t) e in
+        let new : content-with ct (with-chain c xs t) a ≡ next k (0 ∷ chain-of d (with-chain c xs t)) = ap (value-with ct (with-chain c xs t)) (word-with t c xs a ∙ e) in
+        let old : content-with ct t a ≡ next k (0 ∷ chain-of d t) = ap (value-with ct t) e in
         let where-it-is : cell d k ≡ a = subst (Placed a) e (placed t a i) in
         elim (chain? d c) [
           | yes f ↦ inside-chain k (rw f at where-it-is) (rw f at old) ((rw f at new) ∙ ap (λ (l : List ℕ). next k (0 ∷ l)) (chain-same c xs t h))
@@ -127,7 +139,7 @@ seen ct t c xs h a i = go (word-at t a) refl
 
 cell-with : (ct : Counts) (t : Tables) (c : Chain) (xs : List ℕ) (k : ℕ) → Present t c → LinkedAt t c k → content-with ct (with-chain c xs t) (cell c k) ≡ next k (0 ∷ xs)
 cell-with ct t c xs k h l =
-    ap (word-value ct (with-chain c xs t)) (word-with t c xs (cell c k) ∙ l .says) ∙ ap (λ (ys : List ℕ). next k (0 ∷ ys)) (chain-same c xs t h)
+    ap (value-with ct (with-chain c xs t)) (word-with t c xs (cell c k) ∙ l .says) ∙ ap (λ (ys : List ℕ). next k (0 ∷ ys)) (chain-same c xs t h)
 
 -- a chain changes: the cells of p and q are written, and what follows any other record stays
 module _ (ct : Counts) (t : Tables) (c : Chain) (xs : List ℕ) (p q v u : ℕ)
@@ -205,24 +217,24 @@ module _ (ct : Counts) (t u : Tables) (resources : length (u .resources) ≡ len
     (others : (b : Address) → ((i : ℕ) → b ≢ a i) → word-at u b ≡ word-at t b)
     (fields : (i : ℕ) → i < length vs → getD new (m + i) (plain 0) ≡ plain (getD vs i 0))
     (past : (i : ℕ) → m + length vs ≤ i → getD new i (plain 0) ≡ getD old i (plain 0))
-    (links : (i : ℕ) → i < m → word-value ct t (getD new i (plain 0)) ≡ word-value ct t (getD old i (plain 0)))
+    (links : (i : ℕ) → i < m → value-with ct t (getD new i (plain 0)) ≡ value-with ct t (getD old i (plain 0)))
     (inside : (i : ℕ) → m ≤ i → i < m + length vs → In t (a i)) where
-  same-value : (w : Word) → word-value ct u w ≡ word-value ct t w
+  same-value : (w : Word) → value-with ct u w ≡ value-with ct t w
   same-value (plain v) = refl
   same-value (tallied r m) = refl
   same-value (following c j) = ap (λ (xs : List ℕ). next j (0 ∷ xs)) (chains c)
 
-  record-row : (f : ℕ) → word-value ct t (getD new f (plain 0)) ≡ updates a m vs (content-with ct t) (a f)
+  record-row : (f : ℕ) → value-with ct t (getD new f (plain 0)) ≡ updates a m vs (content-with ct t) (a f)
   record-row f =
-      row-agrees a injective m vs (content-with ct t) (λ i. word-value ct t (getD new i (plain 0)))
-      (λ i p. links i p ∙ sym (ap (word-value ct t) (is-old i)))
-      (λ i p. ap (word-value ct t) (fields i p))
-      (λ i p. ap (word-value ct t) (past i p ∙ sym (is-old i)))
+      row-agrees a injective m vs (content-with ct t) (λ i. value-with ct t (getD new i (plain 0)))
+      (λ i p. links i p ∙ sym (ap (value-with ct t) (is-old i)))
+      (λ i p. ap (value-with ct t) (fields i p))
+      (λ i p. ap (value-with ct t) (past i p ∙ sym (is-old i)))
       f
 
   record-agrees : (b : Address) → Side a b → content-with ct u b ≡ updates a m vs (content-with ct t) b
-  record-agrees b (on i e) = subst (λ (b : Address). content-with ct u b ≡ updates a m vs (content-with ct t) b) e (same-value (word-at u (a i)) ∙ ap (word-value ct t) (is-new i) ∙ record-row i)
-  record-agrees b (off n) = same-value (word-at u b) ∙ ap (word-value ct t) (others b n) ∙ sym (updates-past a m vs (content-with ct t) b n)
+  record-agrees b (on i e) = subst (λ (b : Address). content-with ct u b ≡ updates a m vs (content-with ct t) b) e (same-value (word-at u (a i)) ∙ ap (value-with ct t) (is-new i) ∙ record-row i)
+  record-agrees b (off n) = same-value (word-at u b) ∙ ap (value-with ct t) (others b n) ∙ sym (updates-past a m vs (content-with ct t) b n)
 
   pub record-words : words-with ct u ≡ store-run (λ f. spot t (a f)) m vs (words-with ct t)
   unfolding words-with
@@ -233,7 +245,7 @@ module _ (ct : Counts) (t u : Tables) (resources : length (u .resources) ≡ len
 -- the fields of a lock change, and its home link stays: the lock keeps its home, or stands neither on the old nor on the new
 module _ (ct : Counts) (t : Tables) (k : ℕ) (l : Lock) (low : 1 ≤ k) (high : k ≤ length (t .locks))
     (kept : next k (0 ∷ chain-of (of-locks (home l)) t) ≡ next k (0 ∷ chain-of (of-locks (home (lock t k))) t)) where
-  lock-links-kept : (i : ℕ) → i < lock-links → word-value ct t (getD (lock-words k l) i (plain 0)) ≡ word-value ct t (getD (lock-words k (lock t k)) i (plain 0))
+  lock-links-kept : (i : ℕ) → i < lock-links → value-with ct t (getD (lock-words k l) i (plain 0)) ≡ value-with ct t (getD (lock-words k (lock t k)) i (plain 0))
   lock-links-kept zero p = kept
   lock-links-kept (suc zero) p = refl
   lock-links-kept (suc (suc zero)) p = refl
@@ -257,7 +269,7 @@ module _ (ct : Counts) (t : Tables) (k : ℕ) (l : Lock) (low : 1 ≤ k) (high :
 
 -- the fields of a resource change, and its chains stay
 module _ (ct : Counts) (t : Tables) (r : ℕ) (x : Resource) (low : 1 ≤ r) (high : r ≤ length (t .resources)) (kept : (q : Queue) → queue-of q x ≡ queue-of q (resource t r)) where
-  resource-links-kept : (i : ℕ) → i < resource-links → word-value ct t (getD (resource-words r x) i (plain 0)) ≡ word-value ct t (getD (resource-words r (resource t r)) i (plain 0))
+  resource-links-kept : (i : ℕ) → i < resource-links → value-with ct t (getD (resource-words r x) i (plain 0)) ≡ value-with ct t (getD (resource-words r (resource t r)) i (plain 0))
   resource-links-kept zero p = refl
   resource-links-kept (suc zero) p = refl
   resource-links-kept (suc (suc zero)) p = refl

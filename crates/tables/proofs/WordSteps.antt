@@ -6,13 +6,13 @@ use native.Mathlib.Omega.{arith}
 use lib.ListN.{set, length}
 use Rattle.tables.specs.Lists.{remove, next}
 use Rattle.tables.specs.State.{Tables, free-locks, denied, blocked, notices, queue, Chain, free-resources, of-locks, chain-of}
-use Rattle.tables.specs.Layout.{Counts, place, head, link, cell, words-with}
+use Rattle.tables.specs.Layout.{place, head, link, cell}
 use Rattle.tables.specs.Threads.{Absent}
 use Rattle.tables.proofs.Links.{each-on, next-past}
 use Rattle.tables.proofs.Chains.{with-chain, spot}
 use Rattle.tables.specs.Threads.{Stands, Threaded}
 use Rattle.tables.proofs.WordChanges.{linked-head, linked-on, append-words, remove-words, push-words}
-use Rattle.tables.specs.Stores.{cell-at}
+use Rattle.tables.specs.Stores.{Counts, words-with, cell-at}
 use Rattle.tables.proofs.ChainWalk.{walk-holds-with, cell-word}
 use Rattle.tables.specs.Stores.{join-cells, push-cells, leave-cells, cell-place, stride}
 

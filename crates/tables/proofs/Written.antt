@@ -258,7 +258,7 @@ module _ (t : Tables) (c : Core t) where
   unfolding counts-right
   counts-are r p q =
       all-modes-intro (λ m. eqb (word-in (words t) (of-resource r (count-field m))) (tally t r m))
-      (λ m n. eq-eqb _ (tally t r m) (word-read t (of-resource r (count-field m)) (p, q, omega arith) ∙ ap (word-value (tally t) t) (count-word t r m n)))
+      (λ m n. eq-eqb _ (tally t r m) (word-read t (of-resource r (count-field m)) (p, q, omega arith) ∙ ap (word-value t) (count-word t r m n)))
 
 module _ (t : Tables) (v : Valid t) where
   state-is : state-right (words t) (slots t) t ≡ true

@@ -120,27 +120,17 @@ word-at t (of-header f) = getD (header-words (length (t .resources)) (length (t 
 word-at t (of-resource r f) = getD (resource-words r (resource t r)) f (plain 0)
 word-at t (of-lock k f) = getD (lock-words k (lock t k)) f (plain 0)
 
--- how many locks hold a mode on a resource, as the words are to say. While a lock moves, the counts are already those of the state to come
-abbrev pub Counts : Type 0
-Counts = ℕ → ℕ → ℕ
+abbrev pub word-value : Tables → Word → ℕ
+word-value t (plain v) = v
+word-value t (following c k) = next k (0 ∷ chain-of c t)
+word-value t (tallied r m) = tally t r m
 
-abbrev pub word-value : Counts → Tables → Word → ℕ
-word-value counts t (plain v) = v
-word-value counts t (following c k) = next k (0 ∷ chain-of c t)
-word-value counts t (tallied r m) = counts r m
-
-abbrev pub content-with : Counts → Tables → Address → ℕ
-content-with counts t a = word-value counts t (word-at t a)
-
-unfoldable pub words-with : Counts → Tables → List ℕ
-words-with counts t = by-address (length (t .resources)) (length (t .locks)) (content-with counts t)
-
--- THE WORDS of a state: its counts are true
+-- THE WORDS of a state
 abbrev pub content : Tables → Address → ℕ
-content t a = content-with (tally t) t a
+content t a = word-value t (word-at t a)
 
-abbrev pub words : Tables → List ℕ
-words t = words-with (tally t) t
+unfoldable pub words : Tables → List ℕ
+words t = by-address (length (t .resources)) (length (t .locks)) (content t)
 
 -- THE SLOTS of a state: for each resource its name, zeros up to the longest name, its value block
 abbrev pub slot-width : ℕ

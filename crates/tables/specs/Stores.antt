@@ -5,8 +5,9 @@ use mathlib.Core.List.{List, [], _∷_}
 use Prim.Native.Nat.{ℕ, zero, suc, _+_, _-_, _*_, _≤_, _<_}
 use lib.ListN.{getD, set, length}
 use lib.Dec.{eqb}
-use Rattle.tables.specs.State.{Lock, state-free, holds, blocked-lock, noticed, blocked, notices, Chain, free-resources, of-locks, home}
-use Rattle.tables.specs.Layout.{resource-width, lock-width, of-resource, of-lock, place, cell, lock-links, lock-fields, count-field}
+use Rattle.tables.specs.Lists.{next}
+use Rattle.tables.specs.State.{Lock, Tables, state-free, holds, blocked-lock, noticed, blocked, notices, Chain, free-resources, of-locks, chain-of, home}
+use Rattle.tables.specs.Layout.{resource-width, lock-width, Address, of-resource, of-lock, place, by-address, cell, lock-links, lock-fields, count-field, Word, plain, following, tallied, word-at}
 
 -- a run of stores: vs at the places at-field f, at-field (f + 1), ..
 abbrev pub store-run : (ℕ → ℕ) → ℕ → List ℕ → List ℕ → List ℕ
@@ -98,3 +99,18 @@ lower-count r l ws = cond (holds l) (set ws (count-place r l) (getD ws (count-pl
 
 unfoldable pub raise-count : ℕ → Lock → List ℕ → List ℕ
 raise-count r l ws = cond (holds l) (set ws (count-place r l) (getD ws (count-place r l) 0 + 1)) ws
+
+-- the words of a state with any counts of the held modes: while a lock moves, they are already those of the state to come
+abbrev pub Counts : Type 0
+Counts = ℕ → ℕ → ℕ
+
+abbrev pub value-with : Counts → Tables → Word → ℕ
+value-with counts t (plain v) = v
+value-with counts t (following c k) = next k (0 ∷ chain-of c t)
+value-with counts t (tallied r m) = counts r m
+
+abbrev pub content-with : Counts → Tables → Address → ℕ
+content-with counts t a = value-with counts t (word-at t a)
+
+unfoldable pub words-with : Counts → Tables → List ℕ
+words-with counts t = by-address (length (t .resources)) (length (t .locks)) (content-with counts t)

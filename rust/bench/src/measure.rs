@@ -1,9 +1,9 @@
 //! Timing: the same calls on the library and on `flat`, by turns.
 
-use crate::beside::Beside;
+use crate::beside::{Beside, REFUSED};
 use crate::call::{Areas, Call, Flat, Library, Manager, Tables};
 use crate::fill::{Fill, Size, filled};
-use crate::rows::{Row, SOUND};
+use crate::rows::Row;
 use crate::worst::Worst;
 use std::hint::black_box;
 use std::time::{Duration, Instant};
@@ -50,10 +50,11 @@ pub fn measure(row: &Row, size: Size, fill: Fill, effort: Effort) -> Cell {
     measure_calls(row.title, base, calls, copies, effort)
 }
 
-/// Times a call on a name that so many locks hold, and right before it the check alone, since a machine isn't always as quick.
+/// Times a call on a name that so many locks hold, and right before it one that is refused, which takes the check and no more: a machine isn't
+/// always as quick, nor is the check in each of the library's objects.
 pub fn measure_beside(beside: &Beside, holders: u32, effort: Effort) -> Whole {
     let (base, call) = beside.tables(holders);
-    let check = measure_calls(SOUND, base.clone(), vec![Call::Sound], 1, effort);
+    let check = measure_calls("a refused release", base.clone(), vec![REFUSED], 1, effort);
     Whole { check, call: measure_calls(beside.title, base, vec![call], 1, effort) }
 }
 

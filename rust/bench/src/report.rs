@@ -125,9 +125,11 @@ fn beside_table(page: &mut String, beside: &[[Whole; HOLDERS.len()]]) {
         page,
         "\n## Beside many holders\n\n\
          Tables of R {resources}, L {locks}, and calls on a name that few or many locks hold in CR, made by `rust/bench/src/beside.rs`. In \
-         brackets is what a call takes beside the check, which was timed alone right before it; some tens of nanoseconds are noise. All \
-         that a call has to know of held modes is counted in the resource's record. A conversion in place keeps its lock where it stands; \
-         a lock that is granted otherwise goes to the end of the grant queue, which is found by a walk along it.\n\n| entry |"
+         brackets is what a call takes beside the check: a release that is refused after it was timed right before; some tens of nanoseconds \
+         are noise. All \
+         that a call has to know of held modes is counted in the resource's record. A lock that is granted goes to the end of the grant \
+         queue; the library's check has passed it and hands it on, flat walks along the queue. In the last row the locks wait for CR, and \
+         the release grants them all.\n\n| entry |"
     );
     for holders in HOLDERS {
         let _ = write!(page, " {holders} holders: library | flat | ratio |");
@@ -172,8 +174,8 @@ fn stack_table(page: &mut String) {
          | | before R-4 | now |\n|---|--:|--:|\n\
          | a level of the recursion | 448 | 176 |\n\
          | of it arrays | 256 | 0 |\n\
-         | break at its deepest, 1,024 locks that are all blocked | 466,135 | 197,583 |\n\
-         | break that finds no deadlock | 12,711 | 18,871 |\n",
+         | break at its deepest, 1,024 locks that are all blocked | 466,135 | 198,527 |\n\
+         | break that finds no deadlock | 12,711 | 20,903 |\n",
     );
 }
 

@@ -66,6 +66,12 @@ pub const WORST: &[Worst] = &[
         what: "The same with 50 lines, so that each search enters a crowd of 469 locks too.",
         make: chain_before_a_crowd,
     },
+    Worst {
+        title: "a chain of lines before a crowd of readers",
+        what: "The same with a client that holds PW, and another one that converts from CR to EX: break passes over no holder of CR, as it does over \
+               those of NL.",
+        make: chain_before_readers,
+    },
 ];
 
 impl Worst {
@@ -152,18 +158,19 @@ impl Maker {
         self.request(SECOND, EX, first);
     }
 
-    /// A client holds EX on a name, where another one converts many locks from NL to EX; then the first waits there for each other mode twice.
-    /// EX is in the way of all five modes, and of the locks that ask for one mode on a name two look at the holders: so ten locks look at all
-    /// of them. The other client has blocked locks, too, and is in nobody's way: no look can end at a holder's owner, before its mode. So
-    /// many locks are left.
-    fn crowd(&mut self, left: u32) {
-        let at = self.held_by(CROWD);
-        let converting = left + OTHER_MODES.len() as u32..self.left;
-        let converting: Vec<u32> = converting.map(|_| self.request(CONVERTING, NL, at)).collect();
+    /// A client holds a name, where another one converts many locks to EX; then the first waits there for other modes, each twice. What it
+    /// holds is in the way of all of them, and of the locks that ask for one mode on a name two look at the holders: so all of them, and two
+    /// of the conversions, look at all holders. The other client has blocked locks, too, and is in nobody's way: no look can end at a
+    /// holder's owner, before its mode. So many locks are left.
+    fn crowd(&mut self, crowd: &Crowd, left: u32) {
+        let at = self.fresh();
+        self.request(CROWD, crowd.holds, at);
+        let converting = left + crowd.waits.len() as u32..self.left;
+        let converting: Vec<u32> = converting.map(|_| self.request(CONVERTING, crowd.others, at)).collect();
         for lock in converting {
             self.convert_to_ex(CONVERTING, lock);
         }
-        self.ask(CROWD, &OTHER_MODES, at);
+        self.ask(CROWD, crowd.waits, at);
     }
 
     /// A client waits for a name once for each of some modes.
@@ -199,19 +206,30 @@ impl Maker {
 
     /// So many lines, of which each waits for the client of the next, the last for the crowd; a circle waits for the first. They are blocked
     /// in this order.
-    fn lines(&mut self, count: u32) {
+    fn lines(&mut self, count: u32, crowd: &Crowd) {
         let names: Vec<u32> = (1..count).map(|next| self.held_by(other(next))).collect();
         let last = self.held_by(CROWD);
         for (number, at) in (0..).zip(names.into_iter().chain([last])) {
             self.line(other(number), at);
         }
-        self.crowd(5);
+        self.crowd(crowd, 5);
         self.circle_behind(other(0));
     }
 }
 
 /// The modes that a lock can wait for, but EX, each twice.
 const OTHER_MODES: [u32; 8] = [PW, PW, PR, PR, CW, CW, CR, CR];
+
+/// What the first client of a crowd holds and then waits for, and what the second one's locks hold.
+struct Crowd {
+    holds: u32,
+    others: u32,
+    waits: &'static [u32],
+}
+
+const IDLE: Crowd = Crowd { holds: EX, others: NL, waits: &OTHER_MODES };
+
+const READERS: Crowd = Crowd { holds: PW, others: CR, waits: &[PW, PW, PR, PR, CW, CW] };
 
 fn one_line(maker: &mut Maker) {
     let at = maker.held_by(FIRST);
@@ -257,14 +275,14 @@ fn conversions_behind_a_circle(maker: &mut Maker) {
 fn chain_from_its_end(maker: &mut Maker) {
     let names = maker.links(250);
     maker.wait_for_next(&names, true);
-    maker.crowd(0);
+    maker.crowd(&IDLE, 0);
 }
 
 fn chain_from_its_beginning(maker: &mut Maker) {
     let mut names = maker.links(245);
     names.push(maker.held_by(CROWD));
     maker.wait_for_next(&names, false);
-    maker.crowd(0);
+    maker.crowd(&IDLE, 0);
 }
 
 fn lines_between_circles(maker: &mut Maker) {
@@ -272,14 +290,18 @@ fn lines_between_circles(maker: &mut Maker) {
         let at = maker.held_by(CROWD);
         maker.line(BETWEEN, at);
     }
-    maker.crowd(5);
+    maker.crowd(&IDLE, 5);
     maker.circle_behind(BETWEEN);
 }
 
 fn chain_of_lines(maker: &mut Maker) {
-    maker.lines(90);
+    maker.lines(90, &IDLE);
 }
 
 fn chain_before_a_crowd(maker: &mut Maker) {
-    maker.lines(50);
+    maker.lines(50, &IDLE);
+}
+
+fn chain_before_readers(maker: &mut Maker) {
+    maker.lines(50, &READERS);
 }

@@ -1,4 +1,4 @@
-use Rattle.check_locks.proofs.LockStates.{granted-stands}
+use Rattle.check_locks.proofs.LockStates.{granted-off, granted-on}
 use borrow.Author.Needs.{needs}
 use Rattle.check_locks.proofs.stands_granted.Statement.{statement}
 use Rattle.check_locks.proofs.stands_granted.Tie as tie
@@ -11,5 +11,6 @@ stands-granted-spec =
     (λ c κs. search needs)
     (λ c κs. search needs)
     (λ c κs. search needs)
+    (λ c. search granted-off)
     (λ c κs. search needs)
-    (λ c. search granted-stands))
+    (λ c. search granted-on))

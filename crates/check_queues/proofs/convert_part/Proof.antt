@@ -3,6 +3,11 @@ use borrow.Author.Needs.{needs}
 use Rattle.check_queues.proofs.convert_part.Statement.{statement}
 use Rattle.check_queues.proofs.convert_part.Tie as tie
 
+returns-2 : tie.Need-returns-2
+returns-2 c =
+    let given = c .before .before .before .before .before .before .before .before .before .before .before .before .pre in
+    search over-counts
+
 wait-part-requires : tie.Need-wait-part-requires
 wait-part-requires c κs =
     let walk = c .before .before .before .before .before .before in
@@ -22,6 +27,6 @@ convert-part-spec =
     (λ c. search needs)
     (λ c κs. search needs)
     (λ c κs. search needs)
-    (λ c. search over-counts)
+    returns-2
     wait-part-requires
     (λ c. search needs))

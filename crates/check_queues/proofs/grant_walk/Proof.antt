@@ -11,7 +11,7 @@ use Rattle.check_queues.proofs.grant_walk.Statement.{statement}
 use Rattle.check_queues.proofs.grant_walk.Tie as tie
 
 abbrev Inv-loop : tie.InvT-loop
-Inv-loop words r n k₀ met₀ set₀ noticed₀ digits₀ k met set noticed digits =
+Inv-loop words r watched n k₀ met₀ set₀ noticed₀ digits₀ before₀ last₀ k met set noticed digits before last =
     (met ≤ n)
     × ((set < 64)
     × ((noticed ≤ met + 1)
@@ -19,7 +19,7 @@ Inv-loop words r n k₀ met₀ set₀ noticed₀ digits₀ k met set noticed dig
     × (grant-walk words r ≡ modes-left words 1 r fits-set n met k set noticed digits))))
 
 abbrev μ-loop : tie.MeasureT-loop
-μ-loop words r n k₀ met₀ set₀ noticed₀ digits₀ k met set noticed digits = n - met
+μ-loop words r watched n k₀ met₀ set₀ noticed₀ digits₀ before₀ last₀ k met set noticed digits before last = n - met
 
 returns-4 : tie.Need-returns-4 Inv-loop μ-loop
 returns-4 c =
@@ -28,18 +28,18 @@ returns-4 c =
     let head = stands .before .before in
     let loop = head .before .before .before .loop in
     modes-clash _ 1 _ fits-set _ _ _ (loop .inv .1 .1 .1 .1) (head .before .before .loop-test .taken) (head .before .if1 .left) (head .if2 .left)
-    (stands .before .stands-granted .ensures) (stands .if3 .left) (fits .before .lock-word .ensures) (fits .fits-by-masks .ensures) (c .before .if4 .taken) (c .over4 .ensures)
+    (stands .before .stands-granted .ensures) (stands .if3 .left) (fits .before .lock-word .ensures) (fits .fits-by-masks .ensures) (c .before .if4 .taken) (c .grants-over4 .ensures)
 
 loop-again : tie.Need-loop-again Inv-loop μ-loop
 loop-again c =
-    let fits = c .before .before .before .before .before in
+    let fits = c .before .before .before .before .before .before in
     let stands = fits .before .before in
     let head = stands .before .before in
     let loop = head .before .before .before .loop in
     let on =
     modes-on _ 1 _ fits-set _ _ _ (loop .inv .1 .1 .1 .1) (head .before .before .loop-test .taken) (head .before .if1 .left) (head .if2 .left)
-    (stands .before .stands-granted .ensures) (stands .if3 .left) (fits .before .lock-word .ensures) (fits .fits-by-masks .ensures) (c .before .before .before .before .if4 .left)
-    (c .before .before .before .with-mode .ensures .0) (c .before .before .notice-bit .ensures .0) (c .before .digit .ensures .0) (c .lock-word2 .ensures) in
+    (stands .before .stands-granted .ensures) (stands .if3 .left) (fits .before .lock-word .ensures) (fits .fits-by-masks .ensures) (c .before .before .before .before .before .if4 .left)
+    (c .before .before .before .before .with-mode .ensures .0) (c .before .before .before .notice-bit .ensures .0) (c .before .before .digit .ensures .0) (c .before .lock-word2 .ensures) in
     (omega arith, (omega arith, (omega arith, (omega arith, on))))
 
 pub grant-walk-spec : {M : Type 1} → statement M
@@ -67,6 +67,7 @@ grant-walk-spec =
     (λ c. search needs)
     (λ c κs. search stands-held)
     (λ c. search needs)
+    (λ c κs. search needs)
     (λ c κs. search needs)
     (λ c. search needs)
     (λ c. search needs)

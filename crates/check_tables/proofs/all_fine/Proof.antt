@@ -8,9 +8,12 @@ all-fine-spec =
     tie.close
     (tie.spec
     (λ c κs. search sounding)
-    (λ c. search sounding)
     (λ c κs. search sounding)
     (λ c. search sounding)
+    (λ c κs. search sounding)
+    (λ c κs. search sounding)
+    (λ c. search sounding)
+    (λ c κs. search sounding)
     (λ c κs. search sounding)
     (λ c. search sounding)
     (λ c κs. search sounding)

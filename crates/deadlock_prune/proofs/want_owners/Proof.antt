@@ -1,4 +1,5 @@
-use Rattle.deadlock_prune.proofs.WantedOwners.{wanting-laws, Wanting}
+use Rattle.deadlock_prune.proofs.WantedOwners.{wanting-laws, wanting-row, Wanting}
+use native.Mathlib.Omega.{arith}
 use lib.ListN.{length}
 use Rattle.tables.specs.State.{lock}
 use Rattle.deadlock_graph.specs.Contracts.{seen}
@@ -23,7 +24,7 @@ want-owners-spec =
     (λ c κs. search wanting-laws)
     (λ c. search wanting-laws)
     (λ c κs. search wanting-laws)
-    (λ c κs. search wanting-laws)
+    (λ c κs. (omega arith, search wanting-row))
     (λ c. search wanting-laws)
     (λ c. search wanting-laws)
     (λ c. search wanting-laws)

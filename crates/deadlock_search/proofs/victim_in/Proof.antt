@@ -11,7 +11,7 @@ clear-ends-requires : tie.Need-clear-ends-requires
 clear-ends-requires c κs = room-prunes (c .before .before .before .before .before .before .before .before .before .before .before .before .before .before .before .before .before .before .before .before .before .before .before .before .before .before .pre) (c .before .before .before .before .before .before .before .before .before .before .before .before .before .before .before .before .before .link-lines .ensures) (c .before .before .before .before .before .before .before .before .links2 .given) (c .before .before .before .before .before .before .before .before .before .number-owners .ensures)
 
 returns : tie.Need-returns
-returns c = all-free (c .before .before .before .clear-ends .ensures) (c .if1 .taken)
+returns c = all-free (c .before .before .clear-ends .ensures) (c .if1 .taken)
 
 first-on-cycle-requires : tie.Need-first-on-cycle-requires
 first-on-cycle-requires c κs = (room-ready (c .before .before .before .before .before .before .before .before .before .before .before .before .before .before .before .before .before .before .before .before .before .before .before .before .before .before .before .before .before .before .before .before .before .pre) (c .before .before .before .before .before .before .before .before .before .before .before .before .before .before .before .before .before .before .before .before .before .before .before .before .link-lines .ensures) (c .before .before .before .before .before .before .before .before .before .before .before .before .before .before .before .links2 .given) (c .before .before .before .before .before .before .before .before .before .before .before .before .before .before .before .before .number-owners .ensures) (c .before .before .before .before .before .before .clear-ends .ensures), (c .before .before .before .before .before .before .before .before .before .before .before .heads .given) ∙ (c .before .before .before .before .before .before .before .before .before .before .before .before .before .before .before .before .before .before .before .before .before .before .before .before .before .before .before .before .before .before .before .before .before .pre .same) ∙ sym (c .before .before .before .before .before .before .before .before .before .before .before .before .before .firsts .given))
@@ -21,11 +21,9 @@ victim-in-spec =
     tie.close
     (tie.spec
     (λ c. search needs)
-    (λ c. search needs)
     (λ c κs. search room-laws)
     (λ c. search needs)
     number-owners-requires
-    (λ c. search needs)
     (λ c. search needs)
     clear-ends-requires
     (λ c. search needs)

@@ -5,7 +5,7 @@ use Rattle.deadlock_search.proofs.victim_large.Statement.{statement}
 use Rattle.deadlock_search.proofs.victim_large.Tie as tie
 
 victim-in-requires : tie.Need-victim-in-requires
-victim-in-requires c κs = free-room 4100 1025 (c .before .before .before .before .pre) refl refl
+victim-in-requires c κs = free-room 5125 1025 (c .before .before .before .before .before .pre) refl refl
 
 pub victim-large-spec : {M : Type 1} → statement M
 victim-large-spec =

@@ -5,7 +5,7 @@ use Rattle.deadlock_search.proofs.victim_middle.Statement.{statement}
 use Rattle.deadlock_search.proofs.victim_middle.Tie as tie
 
 victim-in-requires : tie.Need-victim-in-requires
-victim-in-requires c κs = free-room 1028 257 (c .before .before .before .before .pre) refl refl
+victim-in-requires c κs = free-room 1285 257 (c .before .before .before .before .before .pre) refl refl
 
 pub victim-middle-spec : {M : Type 1} → statement M
 victim-middle-spec =

@@ -5,7 +5,7 @@ use Rattle.deadlock_search.proofs.victim_small.Statement.{statement}
 use Rattle.deadlock_search.proofs.victim_small.Tie as tie
 
 victim-in-requires : tie.Need-victim-in-requires
-victim-in-requires c κs = free-room 132 33 (c .before .before .before .before .pre) refl refl
+victim-in-requires c κs = free-room 165 33 (c .before .before .before .before .before .pre) refl refl
 
 pub victim-small-spec : {M : Type 1} → statement M
 victim-small-spec =

@@ -5,7 +5,7 @@ use Rattle.entry_locks.proofs.convert.Tie as tie
 
 convert-change-requires : tie.Need-convert-change-requires
 convert-change-requires c κs =
-    convert-lent _ _ _ (c .before .before .before .before .before .before .sound .ensures) (search needs) _ _ _ _ _ _ (c .before .before .before .convert-refusal .ensures) (search needs)
+    convert-lent _ _ _ (c .before .before .before .before .before .before .before .survey .ensures) (search needs) _ _ _ _ _ _ (c .before .before .before .convert-refusal .ensures) (search needs)
 
 pub convert-spec : {M : Type 1} → statement M
 convert-spec =

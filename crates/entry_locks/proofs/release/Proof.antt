@@ -5,7 +5,7 @@ use Rattle.entry_locks.proofs.release.Tie as tie
 
 release-change-requires : tie.Need-release-change-requires
 release-change-requires c κs =
-    release-lent _ _ _ (c .before .before .before .before .before .before .sound .ensures) (search needs) _ _ _ _ _ (c .before .before .before .release-refusal .ensures) (search needs)
+    release-lent _ _ _ (c .before .before .before .before .before .before .before .survey .ensures) (search needs) _ _ _ _ _ (c .before .before .before .release-refusal .ensures) (search needs)
 
 pub release-spec : {M : Type 1} → statement M
 release-spec =

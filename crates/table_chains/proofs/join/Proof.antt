@@ -4,7 +4,7 @@ use Rattle.table_chains.proofs.join.Statement.{statement}
 use Rattle.table_chains.proofs.join.Tie as tie
 
 mul-words : tie.Need-mul-words
-mul-words c = omega (arith, found-inside _ _ _ _ (c .holding .ensures) (c .before .before .before .pre))
+mul-words c = omega (arith, found-inside _ _ _ _ (c .holding-near .ensures) (c .before .before .before .pre .0))
 
 pub join-spec : {M : Type 1} → statement M
 join-spec =

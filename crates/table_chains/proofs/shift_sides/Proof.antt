@@ -14,5 +14,6 @@ shift-sides-spec =
     (λ c κs. search side-laws)
     (λ c κs. search side-laws)
     (λ c κs. search side-laws)
+    (λ c κs. search side-laws)
     (λ c. search side-laws)
     (λ c. search side-laws))
