@@ -1,3 +1,4 @@
+#![tactic(auto)]
 // What the calls answer, and what each answer says: the papers' numbers, as specs/Answers.antt gives them.
 ghost use Rattle.rules.specs.Calls.{accepted_with, accepted};
 ghost use Rattle.answers.specs.Answers.{refused_with, done, released, requested, converted, cancelled, purged, broken, polled, list_said};

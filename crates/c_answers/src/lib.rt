@@ -1,3 +1,4 @@
+#![tactic(auto)]
 // What a call says as one number of 64 bits, for callers that know no enums. include/zamgyorud.h says how it is read.
 ghost use Rattle.std.specs.Prelude.{◌≡◌, ◌<◌, ◌^◌};
 ghost use Rattle.rules.specs.Numbers.{Small};

@@ -1,3 +1,4 @@
+#![tactic(auto)]
 // Read, list and the soundness check for C: over numbers and slices, which C lends as a pointer and a length.
 // include/zamgyorud.h declares these functions.
 ghost use Rattle.std.specs.Prelude.{◌≡◌};

@@ -1,3 +1,4 @@
+#![tactic(auto)]
 // The arguments of a call: the client, the name, the value, and whose lock a number is. Flags are in the crate `flags`.
 ghost use Rattle.std.specs.Prelude.{◌≡◌};
 ghost use Rattle.tables.specs.Sound.{client_right};

@@ -1,3 +1,4 @@
+#![tactic(auto)]
 // A conversion's change, on the lent words and slots: the lock takes the mode where it stands, or joins the convert
 // queue.
 ghost use Rattle.std.specs.Prelude.{◌≡◌};

@@ -1,3 +1,4 @@
+#![tactic(auto)]
 // Notices: a lock's completion, its mark, or both. To break a deadlock a lock is denied, which leaves its client a
 // completion. A client reads its notices one by one. Both calls change the lent words in place; the slots stay as they
 // are.

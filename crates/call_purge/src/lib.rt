@@ -1,3 +1,4 @@
+#![tactic(auto)]
 // A purge, in place: every lock of a client is freed, and then each resource on which it stood is settled.
 ghost use Rattle.std.specs.Prelude.{◌≡◌, ◌<◌, length};
 ghost use Rattle.tables.specs.State.{most_locks};

@@ -1,3 +1,4 @@
+#![tactic(auto)]
 // Why a call is turned down: for each call the number of the first refusal that fits, or 0 if none does.
 ghost use Rattle.std.specs.Prelude.{◌≡◌, ◌<◌};
 ghost use Rattle.tables.specs.Validity.{Core};

@@ -1,3 +1,4 @@
+#![tactic(auto)]
 // Releasing a lock, and cancelling one that is blocked: what these calls change, in place on the lent words and slots.
 ghost use Rattle.std.specs.Prelude.{◌≡◌};
 ghost use Rattle.rules.specs.Calls.{release_change, restored, cancel_change};

@@ -1,3 +1,4 @@
+#![tactic(auto)]
 // A request's change, in place. It takes a lock, and if its name is new also a resource. Then it is granted, or waits
 // and those in its way are told.
 ghost use Rattle.std.specs.Prelude.{◌≡◌};

@@ -1,3 +1,4 @@
+#![tactic(auto)]
 // Fresh tables, whatever the lent ones held before: all records free, chained upward.
 ghost use Rattle.std.specs.Prelude.{◌≡◌, ◌-◌, ◌≤◌, length, replicate};
 ghost use Rattle.tables.specs.Layout.{header_width};

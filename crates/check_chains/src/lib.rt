@@ -1,3 +1,4 @@
+#![tactic(auto)]
 // How many records each chain has, in whatever tables are lent. A walk counts its steps, so that it ends. Along a home
 // chain it also tests each lock.
 // In a run of records the successor of each is the next number, as in fresh tables. A walk has an inner loop for runs:

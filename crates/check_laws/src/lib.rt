@@ -1,3 +1,4 @@
+#![tactic(auto)]
 // What the soundness check computes, pass by pass (specs/), and the proof that this is what makes tables sound (proofs/).
 // The code is in the other crates of the check, `check_resources` to `check_tables`, so that an edit of it does not prove
 // the laws again.

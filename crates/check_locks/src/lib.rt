@@ -1,3 +1,4 @@
+#![tactic(auto)]
 // Tests of a lock that is met on a home chain, one for each state.
 ghost use Rattle.std.specs.Prelude.{◌≡◌, true, ◌&&◌, ◌||◌, ◌≤◌, eqb};
 ghost use Rattle.tables.specs.State.{noticed, state_free, state_granted, state_converting, state_waiting, state_denied};

@@ -1,3 +1,4 @@
+#![tactic(auto)]
 // No two resources have one name. In large tables each name gets a number, and names are compared only where numbers are
 // equal.
 ghost use Rattle.std.specs.Prelude.{◌≡◌, ◌*◌, ◌<◌, ◌≤◌, ◌^◌, eqb, length};

@@ -1,3 +1,4 @@
+#![tactic(auto)]
 // One resource's queues: each lock on them is fine, the held modes are compatible, the counts of the modes are true, and no
 // head can be granted.
 ghost use Rattle.std.specs.Prelude.{◌≡◌, true, ◌+◌, ◌-◌, ◌*◌, ◌^◌, ◌<◌, ◌≤◌};

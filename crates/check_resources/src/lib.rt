@@ -1,3 +1,4 @@
+#![tactic(auto)]
 // Tests of the sizes, the header and the resources of whatever tables are lent.
 ghost use Rattle.std.specs.Prelude.{◌≡◌, ◌≤◌, eqb};
 ghost use Rattle.tables.specs.Layout.{of_header, resources_in, word_in};

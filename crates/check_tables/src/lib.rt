@@ -1,3 +1,4 @@
+#![tactic(auto)]
 // The check of whatever tables are lent: it needs nothing of them, looks at each of their records once, and walks each of
 // their chains once.
 ghost use Rattle.std.specs.Prelude.{◌≡◌, false, ◌+◌, ◌*◌, ◌≤◌};

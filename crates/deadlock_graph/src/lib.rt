@@ -1,3 +1,4 @@
+#![tactic(auto)]
 // Blocked locks in the lent words: who has a lock, who is in whose way, and the locks of a chain one after the other. The
 // definitions and laws that `deadlock_lines`, `deadlock_owners`, `deadlock_prune` and `deadlock_search` share are here, so
 // that an edit of their code does not prove these again.

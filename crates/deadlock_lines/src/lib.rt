@@ -1,3 +1,4 @@
+#![tactic(auto)]
 // The lines of blocked locks, linked: who stands right ahead of whom, and who begins to look at which holder.
 ghost use Rattle.std.specs.Prelude.{◌≡◌, ◌≤◌, length};
 ghost use Rattle.tables.specs.Lists.{first};

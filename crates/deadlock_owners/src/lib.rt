@@ -1,3 +1,4 @@
+#![tactic(auto)]
 // A small number for each owner that has a blocked lock: the number of the first of its locks on the blocked chain. The search
 // for deadlocks finds an owner's blocked locks by it.
 ghost use Rattle.std.specs.Prelude.{[], ◌∷◌, ◌++◌, ◌+◌, ◌*◌, ◌≤◌, ◌<◌, length};

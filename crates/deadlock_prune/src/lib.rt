@@ -1,3 +1,4 @@
+#![tactic(auto)]
 // Clearing blocked locks that are on no cycle, before any search: cheaply where a line leads nowhere, then from both ends.
 ghost use Rattle.std.specs.Prelude.{◌≡◌, ◌≤◌, length};
 ghost use Rattle.tables.specs.Lists.{any};

@@ -1,3 +1,4 @@
+#![tactic(auto)]
 // Breaking deadlocks: the first blocked lock that leads back to itself, found in the lent words.
 ghost use Rattle.std.specs.Prelude.{◌≡◌, ◌≢◌, length};
 ghost use Rattle.tables.specs.State.{most_locks};

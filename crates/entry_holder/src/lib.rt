@@ -1,3 +1,4 @@
+#![tactic(auto)]
 // The takeover program's question: who holds a name EX in the tables of an image. They are read where they stand in it.
 ghost use Rattle.std.specs.Prelude.{◌≡◌, true, ◌≤◌, ◌<◌, get_or};
 ghost use Rattle.tables.specs.Lists.{same};

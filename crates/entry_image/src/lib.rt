@@ -1,3 +1,4 @@
+#![tactic(auto)]
 // The image of the two tables, first the words, little-endian, and then the slots; and loading an image.
 ghost use Rattle.std.specs.Prelude.{◌≡◌};
 ghost use Rattle.rules.specs.Images.{image_sound, image_entry, load_entry};

@@ -1,3 +1,4 @@
+#![tactic(auto)]
 // The locks on a resource into a lent list of lock entries. What is listed is computed by value; two thin functions,
 // proved by hand, put it into the list.
 ghost use Rattle.std.specs.Prelude.{◌≡◌};

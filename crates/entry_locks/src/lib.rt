@@ -1,3 +1,4 @@
+#![tactic(auto)]
 // The lock manager: the entries by which clients ask for locks, over the two lent tables. Each checks the tables, then
 // gives the first refusal that fits, then makes its change. Any numbers, names and values may be passed. A refused call
 // changes nothing that is lent.

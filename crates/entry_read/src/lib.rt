@@ -1,3 +1,4 @@
+#![tactic(auto)]
 // The entry that reads: the value block of a lock's resource.
 ghost use Rattle.std.specs.Prelude.{◌≡◌};
 ghost use Rattle.rules.specs.Entries.{read_entry};

@@ -1,3 +1,4 @@
+#![tactic(auto)]
 // The lock manager: the entries that end waiting and holding in other ways than by a release. A blocked lock is taken back,
 // a client that is gone is purged, a deadlock is broken, and a client takes its notices. Each checks the tables, then gives
 // the first refusal that fits, then makes its change, as those of `entry_locks` do.

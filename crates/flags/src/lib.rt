@@ -1,3 +1,4 @@
+#![tactic(auto)]
 // The flags of a call: 1 stores the value, 2 makes it not valid, 4 refuses to queue; and which of them each call takes.
 ghost use Rattle.std.specs.Prelude.{◌≡◌};
 ghost use Rattle.rules.specs.Calls.{stores, spoils, no_queue, request_flags, convert_flags, release_flags};

@@ -1,3 +1,4 @@
+#![tactic(auto)]
 // The locks on a resource in grant, convert, wait order: the first, what follows one, how many there are, and a walker
 // that goes along them.
 ghost use Rattle.std.specs.Prelude.{◌≡◌};

@@ -1,3 +1,4 @@
+#![tactic(auto)]
 // Plays the lines of standard input on fresh tables and prints a line for each. What comes is played as soon as it is
 // there, so that a user at a terminal sees each answer at once.
 ghost use Rattle.std.specs.Prelude.{◌≡◌, ◌≤◌, length};

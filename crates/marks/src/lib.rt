@@ -1,3 +1,4 @@
+#![tactic(auto)]
 // When a lock begins to wait, each lock that is in its way is told: it gets a mark, and a place on the notice chain if it
 // has none there. The end of the notice chain is looked for once, and each lock that joins is the next end.
 ghost use Rattle.std.specs.Prelude.{◌≡◌};

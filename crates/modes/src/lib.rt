@@ -1,3 +1,4 @@
+#![tactic(auto)]
 // Lock modes: the mode type, the compatibility matrix, sets of modes, and down conversions.
 // A mode is given as its number, NL 0 to EX 5, and a set of modes as a number below 64 whose bit m is for mode m.
 ghost use Rattle.std.specs.Prelude.{◌≡◌, ◌<◌};

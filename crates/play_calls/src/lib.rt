@@ -1,3 +1,4 @@
+#![tactic(auto)]
 // Does what a line of lockplay asks: the call is made, and its answer is what is printed.
 ghost use Rattle.std.specs.Prelude.{◌≡◌, [], ◌≤◌, length};
 ghost use Rattle.rules.specs.Entries.{lent, to_request, to_convert, to_release, to_cancel, to_purge, to_break, to_poll};

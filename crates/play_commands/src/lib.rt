@@ -1,3 +1,4 @@
+#![tactic(auto)]
 // What a line of the program lockplay asks.
 ghost use Rattle.std.specs.Prelude.{◌≤◌, length, drop};
 ghost use Rattle.play_numbers.specs.Fields.{parted};

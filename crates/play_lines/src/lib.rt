@@ -1,3 +1,4 @@
+#![tactic(auto)]
 // How the lines of the program lockplay are gathered from the input's bytes, and what a gathered line asks.
 ghost use Rattle.std.specs.Prelude.{◌≡◌, false, List, ℕ, take};
 ghost use Rattle.play_commands.specs.Forms.{Means};

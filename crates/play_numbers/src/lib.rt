@@ -1,3 +1,4 @@
+#![tactic(auto)]
 // The numbers in a line's fields: up to the next space, or to the line's end.
 ghost use Rattle.std.specs.Prelude.{◌≡◌, ◌+◌, ◌≤◌, ◌<◌, length, drop};
 ghost use Rattle.play_numbers.specs.Fields.{until};

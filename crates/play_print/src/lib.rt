@@ -1,3 +1,4 @@
+#![tactic(auto)]
 // What is printed for a line of the program lockplay.
 ghost use Rattle.std.specs.Prelude.{◌≡◌, ◌+◌, ◌*◌, ◌%◌, ◌≤◌, ◌<◌, length, take};
 ghost use Rattle.play_print.specs.Decimal.{decimal};

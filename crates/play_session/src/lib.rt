@@ -1,3 +1,4 @@
+#![tactic(auto)]
 // What lockplay does with its input: it gathers lines, does what each asks, and prints its answer.
 ghost use Rattle.std.specs.Prelude.{◌≡◌, [], ◌*◌, length, take};
 ghost use Rattle.tables.specs.Layout.{size, slot_width};

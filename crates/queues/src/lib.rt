@@ -1,3 +1,4 @@
+#![tactic(auto)]
 // The parts of the calls' changes, in place on the lent words and slots: deciding what is granted, granting, freeing,
 // settling.
 ghost use Rattle.std.specs.Prelude.{◌≡◌, true, false, ◌<◌};

@@ -1,3 +1,4 @@
+#![tactic(auto)]
 // The rules of the lock manager: definitions in specs/, laws in proofs/. The code here is the record that definitions and
 // code share.
 

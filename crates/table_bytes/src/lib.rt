@@ -1,3 +1,4 @@
+#![tactic(auto)]
 // Words as bytes, little-endian, and back.
 ghost use Rattle.std.specs.Prelude.{◌≡◌, ◌+◌, ◌*◌, ◌%◌, ◌<◌, ◌≤◌, ◌^◌, length};
 ghost use Rattle.rules.specs.Images.{word_from};

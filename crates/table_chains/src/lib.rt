@@ -1,3 +1,4 @@
+#![tactic(auto)]
 // Changes of the words in place: the cells of a chain, a lock that becomes another, the words of a resource.
 ghost use Rattle.std.specs.Prelude.{◌≡◌, false, ◌+◌, ◌*◌, ◌-◌, ◌<◌, ◌≤◌};
 ghost use Rattle.tables.specs.State.{most_locks, last_mode, home, home_at, blocked, notices, free_resources, of_locks};

@@ -1,3 +1,4 @@
+#![tactic(auto)]
 // The words of the lock manager's table: a header, a row for each resource, a row for each lock. Widths and field
 // numbers stand here alone. Records are numbered from 1.
 ghost use Rattle.std.specs.Prelude.{◌≡◌, ◌+◌, ◌*◌, ◌-◌, ◌<◌, ◌≤◌, ◌^◌};

@@ -1,3 +1,4 @@
+#![tactic(auto)]
 // Names and value blocks: bytes, and the slots of the lock manager's table. Widths stand here alone. Also the copying of words and of
 // numbers.
 ghost use Rattle.std.specs.Prelude.{◌≡◌, ◌++◌, ◌*◌, ◌-◌, ◌≤◌, length, replicate, take, drop};

@@ -1,3 +1,4 @@
+#![tactic(auto)]
 // The two lent tables of the lock manager. The code here is the records that definitions and code share. specs/ says what
 // tables are and when they are sound, proofs/ has the laws between a state and its written form.
 
