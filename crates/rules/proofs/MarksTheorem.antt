@@ -10,7 +10,7 @@ use lib.Dec.{eqb, ltb}
 use borrow.Author.Tests.{eqb-true, eqb-false, eq-eqb, ne_eqb, not-true}
 use Rattle.tables.specs.declared.Lock.{Lock}
 use Rattle.tables.specs.Lists.{within, count, keep, first, first_that, null}
-use Rattle.tables.specs.State.{Tables, started, no_lock, denied_lock, lock, resource, converting, has_mark, unread, noticed, holds, shift, move, move_resource, notices, queue, grants, converts, of_locks}
+use Rattle.tables.specs.State.{Tables, started, no_lock, denied_lock, lock, converting, has_mark, unread, noticed, holds, shift, move, move_resource, notices, queue, grants, converts, of_locks}
 use Rattle.tables.specs.Layout.{read_chain, read_lock, words}
 use Rattle.tables.specs.Grants.{holders}
 use Rattle.tables.specs.Validity.{used, Core, Valid}
@@ -263,13 +263,17 @@ steady_deny k t =
     (λ h. rw (h, deny) (steady_then t _ _ (steady_move _ k (restored 3 (lock t k)) t (λ n. (refl, refl))) (steady_sweep _ _)))
     (λ h. rw (h, deny) (steady_then t _ _ (steady_move _ k (denied_lock (lock t k)) t (λ n. (refl, refl))) (steady_sweep _ _)))
 
-break_marks : (t : Tables) → Valid t → StateMarks to_break t (break t)
-break_marks t val =
-    steady_marks to_break t (break t) (break_after t val).valid (unfold begins_to_wait in refl) (λ j. unfold answers_lock in refl) (unfold break in go (victim t))
+steady_break : (t : Tables) → Steady t (break t).tables
+unfolding break
+steady_break t = go (victim t)
   where
     go : (n : ℕ) → Steady t (deny_victim n t).tables
     go zero = unfold deny_victim in steady_same t
     go (suc k) = unfold deny_victim in steady_deny (suc k) t
+
+break_marks : (t : Tables) → Valid t → StateMarks to_break t (break t)
+break_marks t val =
+    steady_marks to_break t (break t) (break_after t val).valid (unfold begins_to_wait in refl) (λ j. unfold answers_lock in refl) (steady_break t)
 
 -- POLL
 take_other : (k : ℕ) (t : Tables) (j : ℕ) → j ≢ k → lock (take_notice k t) j ≡ lock t j

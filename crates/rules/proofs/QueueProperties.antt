@@ -13,7 +13,7 @@ use Rattle.tables.specs.Lists.{within, count, bit, any, first, keep, from}
 use Rattle.tables.specs.declared.Lock.{Lock}
 use Rattle.tables.specs.State.{Tables, last_mode, lock, resource, holds, Queue, queue_of, grants, converts, waits, LockChain, free_locks, denied, blocked, notices, queue, of_locks, chain, belongs}
 use Rattle.tables.specs.Layout.{resource_width, of_resource, queue_head, count_field, resources_in, locks_in, word_in, link_in, read_chain, read_lock, word_value, words, slots}
-use Rattle.tables.specs.Grants.{holds_mode, tally, fits, convert_grantable}
+use Rattle.tables.specs.Grants.{holds_mode, fits, convert_grantable}
 use Rattle.tables.specs.Sound.{ends, chain_ends, chains_end, sound}
 use Rattle.tables.proofs.Cases.{by_cases, by_equal, clash, parts}
 use Rattle.tables.proofs.Counts.{within_le, le_within, count_same, count_from, from_in, all_at, any_intro, keep_cong}

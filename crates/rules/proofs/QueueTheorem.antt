@@ -10,7 +10,7 @@ use borrow.Author.Tests.{leb-true}
 use Rattle.tables.specs.declared.Lock.{Lock}
 use Rattle.tables.specs.Lists.{bit}
 use Rattle.tables.specs.State.{Tables, no_lock, blocked_lock, unread, started, most_resources, most_locks}
-use Rattle.tables.specs.Layout.{words, slots}
+use Rattle.tables.specs.Layout.{words}
 use Rattle.tables.proofs.Cases.{parts}
 use Rattle.tables.proofs.ReadBack.{tables_read}
 use Rattle.tables.specs.Validity.{Valid}

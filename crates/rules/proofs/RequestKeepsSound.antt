@@ -12,7 +12,7 @@ use Rattle.modes.specs.Modes.{NL}
 use Rattle.modes.proofs.Laws.{null_goes}
 use Rattle.tables.specs.declared.Lock.{Lock}
 use Rattle.tables.specs.Lists.{within, count, first, null, from, same}
-use Rattle.tables.specs.State.{Resource, Tables, no_lock, lock, resource, waiting, holds, LockChain, chain, shift, relist, move, move_resource, grants, converts, waits, free_locks, queue, last_client, last_mode, name_width}
+use Rattle.tables.specs.State.{Resource, Tables, no_lock, lock, resource, waiting, holds, LockChain, chain, shift, relist, move, move_resource, grants, converts, waits, queue, last_client, last_mode, name_width}
 use Rattle.tables.specs.Grants.{fits}
 use Rattle.tables.proofs.Cases.{by_cases, clash, eqb_same}
 use Rattle.tables.proofs.Counts.{count_same, head_in, count_from, null_nil, nil_of_counts, same_eq, same_refl, first_passes, first_none}

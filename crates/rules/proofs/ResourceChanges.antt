@@ -82,6 +82,15 @@ pub record SameChains (x y : Resource) : Type 0 where
   pub convert : x.convert ≡ y.convert
   pub wait : x.wait ≡ y.wait
 
+-- the free chain of resources, at r and elsewhere
+spare_here : (r : ℕ) (x : Resource) (t : Tables) → count r t.free_resources ≡ bit (null (resource t r).name) → count r (move_resource r x t).free_resources ≡ bit (null x.name)
+unfolding move_resource
+spare_here r x t h = count_front (null (resource t r).name) (null x.name) r t.free_resources h
+
+spare_other : (r : ℕ) (x : Resource) (t : Tables) (s : ℕ) → s ≢ r → count s (move_resource r x t).free_resources ≡ count s t.free_resources
+unfolding move_resource
+spare_other r x t s n = count_front_other (null (resource t r).name) (null x.name) s r t.free_resources n
+
 pub core_resource : (r : ℕ) (x : Resource) (t : Tables) → Core t → within (length t.resources) r ≡ true → SameChains x (resource t r) → ResourceOk x →
     ((s : ℕ) → s ≢ r → null x.name ≡ false → x.name ≢ (resource t s).name) → (null x.name ≡ true → empty (resource t r) ≡ true) →
     Core (move_resource r x t)
@@ -111,8 +120,8 @@ core_resource r x t c w same ok new none =
     spare : (s : ℕ) → count s (move_resource r x t).free_resources ≡ bit (within (length t.resources) s && null (resource (move_resource r x t) s).name)
     spare s =
         by_equal s r
-        (λ e. rw (e, changed r x t w, w) (unfold move_resource in count_front (null (resource t r).name) (null x.name) r t.free_resources (rw w at (c.spare r))))
-        (λ n. rw (unchanged r x t s n) (unfold move_resource in count_front_other (null (resource t r).name) (null x.name) s r t.free_resources n ∙ c.spare s))
+        (λ e. rw (e, changed r x t w, w) (spare_here r x t (rw w at (c.spare r))))
+        (λ n. rw (unchanged r x t s n) (spare_other r x t s n ∙ c.spare s))
 
     housed : (k : ℕ) → used t (lock t k).resource ≡ true → used (move_resource r x t) (lock t k).resource ≡ true
     housed k u =
