@@ -1,0 +1,13 @@
+-- The bytes before i and those that are left decide the whole.
+use mathlib.Core.Path.{◌≡◌}
+use mathlib.Core.Bool.{◌&&◌}
+use Prim.Native.Nat.{◌-◌}
+use lib.ListN.{length, drop}
+use Rattle.tables.specs.Sound.{all_zero}
+use Rattle.table_names.proofs.all_zero.Given as goal
+
+abbrev pub invariant-loop-i : goal.invariant-loop-i
+invariant-loop-i l = all_zero l.a ≡ (l.zeros && all_zero (drop l.i l.a))
+
+abbrev pub decreases-loop-i : goal.decreases-loop-i
+decreases-loop-i l = length l.a - l.i
