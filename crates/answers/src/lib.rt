@@ -35,7 +35,7 @@ fn refused(refusal: u32) -> Said
 }
 
 // Start, image and load: done, or refused.
-#[derive(Drop)]
+#[derive(Clone, Copy)]
 pub enum Done {
     Accepted,
     Refused(u32),
@@ -53,7 +53,7 @@ impl Done {
 }
 
 // A request: its lock is granted, or waits.
-#[derive(Drop)]
+#[derive(Clone, Copy)]
 pub enum Requested {
     Granted(u32),
     Waiting(u32),
@@ -73,7 +73,7 @@ impl Requested {
 }
 
 // A conversion: granted in place, or on the convert queue.
-#[derive(Drop)]
+#[derive(Clone, Copy)]
 pub enum Converted {
     Granted,
     Waiting,
@@ -93,7 +93,7 @@ impl Converted {
 }
 
 // A release: the lock was freed.
-#[derive(Drop)]
+#[derive(Clone, Copy)]
 pub enum Released {
     Freed,
     Refused(u32),
@@ -111,7 +111,7 @@ impl Released {
 }
 
 // A cancel: the conversion was taken back, or the request.
-#[derive(Drop)]
+#[derive(Clone, Copy)]
 pub enum Cancelled {
     Conversion,
     Request,
@@ -131,7 +131,7 @@ impl Cancelled {
 }
 
 // A purge: how many locks it freed, how many of them were blocked, and how many had a completion unread.
-#[derive(Drop)]
+#[derive(Clone, Copy)]
 pub enum Purged {
     Freed(u32, u32, u32),
     Refused(u32),
@@ -149,7 +149,7 @@ impl Purged {
 }
 
 // A break: the lock that was denied, if there was a deadlock.
-#[derive(Drop)]
+#[derive(Clone, Copy)]
 pub enum Broken {
     Denied(u32),
     NoDeadlock,
@@ -170,7 +170,7 @@ impl Broken {
 
 // A poll: the client's first notice, if there was one. It has the lock, and with it the mark: 0 for none, or the largest
 // mode that had to wait because of the lock. A denied request has no mark; `Marked` is a mark alone.
-#[derive(Drop)]
+#[derive(Clone, Copy)]
 pub enum Polled {
     Granted(u32, u32),
     RequestDenied(u32),
@@ -196,7 +196,7 @@ impl Polled {
 }
 
 // A list: how many locks stand on the resource.
-#[derive(Drop)]
+#[derive(Clone, Copy)]
 pub enum Listed {
     Count(u32),
     Refused(u32),

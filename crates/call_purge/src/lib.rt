@@ -26,7 +26,7 @@ use tables::Lock;
 const SPOIL: u32 = 2;
 
 // What a purge counts: the locks that it freed, those of them that were blocked, and those that had a completion unread.
-#[derive(Drop)]
+#[derive(Clone, Copy)]
 pub struct Counts {
     pub freed: u32,
     pub blocked: u32,

@@ -10,7 +10,7 @@ use lib.Dec.{eqb}
 use borrow.Author.Tests.{eqb-true, eq-eqb, ne_eqb}
 use Rattle.tables.specs.declared.Lock.{Lock}
 use Rattle.tables.specs.Lists.{within, count, bit, from}
-use Rattle.tables.specs.State.{granted, converting, waiting, Queue, grants, converts, waits, denied}
+use Rattle.tables.specs.State.{granted, converting, waiting, Queue, grants, converts, waits}
 use Rattle.tables.specs.Layout.{flat_map, resources_in, locks_in, follow, read_lock}
 use Rattle.tables.proofs.Cases.{by_cases, by_equal, clash, and_intro}
 use Rattle.tables.proofs.Counts.{within_le, le_within, count_nil, count_same, count_step, count_append, count_from, bit_le, from_in}

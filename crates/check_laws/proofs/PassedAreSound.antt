@@ -9,7 +9,7 @@ use lib.Dec.{eqb, leb}
 use borrow.Author.Tests.{not-true, eqb-true, eq-eqb, leb-true, le-leb}
 use Rattle.modes.proofs.Laws.{all_modes_intro}
 use Rattle.tables.specs.Lists.{count, bit, all, from}
-use Rattle.tables.specs.State.{most_locks, resource, blocked_lock, noticed, Queue, grants, converts, waits, LockChain, free_locks, denied, blocked, notices, queue, free_resources, of_locks, chain, belongs}
+use Rattle.tables.specs.State.{most_locks, blocked_lock, noticed, Queue, grants, converts, waits, LockChain, free_locks, denied, blocked, notices, queue, free_resources, of_locks, chain, belongs}
 use Rattle.tables.specs.Layout.{of_header, of_resource, of_lock, slot_width, resources_in, locks_in, word_in, link_in, read_chain, read_lock, read, count_in}
 use Rattle.tables.specs.Grants.{tally, no_grantable_head}
 use Rattle.tables.specs.Sound.{sizes_right, zeros_right, resource_index, lock_index, indices_right, chain_ends, chains_end, resource_right, stands_right, home_right, fields_right, lock_right, linked_right, holders_compatible, counts_right, state_right, sound}

@@ -9,7 +9,7 @@ use lib.Dec.{eqb}
 use borrow.Author.Tests.{eqb-true, eq-eqb, le-leb}
 use Rattle.tables.specs.declared.Lock.{Lock}
 use Rattle.tables.specs.Lists.{within, count, bit, all, from}
-use Rattle.tables.specs.State.{resource, blocked_lock, noticed, Queue, grants, converts, waits, LockChain, free_locks, denied, blocked, notices, queue, Chain, free_resources, of_locks, chain, chain_of, belongs}
+use Rattle.tables.specs.State.{blocked_lock, noticed, Queue, grants, converts, waits, LockChain, free_locks, denied, blocked, notices, queue, Chain, free_resources, of_locks, chain, chain_of, belongs}
 use Rattle.tables.specs.Layout.{of_header, of_lock, queue_head, resource_width, head, slot_width, resources_in, locks_in, word_in, most, link_in, read_chain, read_lock, read, held_in}
 use Rattle.tables.specs.Sound.{sizes_right, ends, chain_ends, resource_right, fields_right, state_right, sound}
 use Rattle.tables.proofs.Cases.{by_cases, and_left, and_right, and_intro, or_right, parts}

@@ -4,7 +4,7 @@
 // the laws again.
 
 // The words of a resource before its counts.
-#[derive(Drop)]
+#[derive(Clone, Copy)]
 pub struct ResourceRow {
     pub next: u32,
     pub grant: u32,
@@ -16,7 +16,7 @@ pub struct ResourceRow {
 
 // What a walk along holders finds: how many, the set of their modes, how many of them belong on the notice chain, and
 // their modes added up, a digit of 12 bits for each mode from CR on; or one more than there may be, and nothing else.
-#[derive(Drop)]
+#[derive(Clone, Copy)]
 pub struct HolderCount {
     pub met: u32,
     pub modes: u32,

@@ -27,7 +27,7 @@ const DIGIT: u64 = 1 << DIGIT_BITS;
 // What the walk along a grant chain finds, and two locks that it passed: the one before the watched lock, and the last
 // one; 0 is none. Nothing is promised of these two. They are a hint where in the chain to look, for code that looks at
 // their records before it believes it.
-#[derive(Drop)]
+#[derive(Clone, Copy)]
 pub struct Grants {
     pub found: HolderCount,
     pub before: u32,
@@ -36,7 +36,7 @@ pub struct Grants {
 
 // What the walks along a resource's queues find: how many locks, or more than there are if something is wrong; how many
 // of them belong on the blocked chain, and how many on the notice chain; and what was passed on the grant chain.
-#[derive(Drop)]
+#[derive(Clone, Copy)]
 pub struct Census {
     pub met: u32,
     pub blocked: u32,

@@ -18,7 +18,7 @@ use table_fields::{LOCK_RESOURCE, LOCKS, RESOURCES, lock_word};
 // Whether the tables are sound, and what the check passed on its way: the lock before the watched one, and the last one, on
 // the grant chain of the watched resource; 0 is none. Nothing is promised of these two: whoever uses them looks at their
 // records before it believes them, and is spared a walk along the chain.
-#[derive(Drop)]
+#[derive(Clone, Copy)]
 pub struct Sighting {
     pub sound: bool,
     pub before: u32,
@@ -26,7 +26,7 @@ pub struct Sighting {
 }
 
 // The same where a name was looked up: its resource, or 0, and the last lock on the grant chain of that.
-#[derive(Drop)]
+#[derive(Clone, Copy)]
 pub struct NameSighting {
     pub sound: bool,
     pub found: u32,
@@ -36,7 +36,7 @@ pub struct NameSighting {
 // What the pass over the resources finds: each is fine, each lock stands on one home chain, so many resources are free,
 // and so many locks belong on the blocked and on the notice chain; or something is wrong. And what it passed of what is
 // watched.
-#[derive(Drop)]
+#[derive(Clone, Copy)]
 pub struct HomeCounts {
     pub fine: bool,
     pub free: u32,

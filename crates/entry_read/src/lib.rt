@@ -11,7 +11,7 @@ use table_fields::{lock_word, resource_word};
 use table_names::VALUE_BYTES;
 
 // What a read gives: a refusal or 0, and the value block with its validity, zeros where refused.
-#[derive(Drop)]
+#[derive(Clone, Copy)]
 pub struct ValueRead {
     pub refusal: u32,
     pub value: [u8; VALUE_BYTES],

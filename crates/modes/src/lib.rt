@@ -7,11 +7,11 @@ ghost use Rattle.modes.specs.Sets.{fits_set, FitsRow, with_mode};
 ghost use Rattle.modes.specs.Made.{made_numbers, made};
 
 // A lock mode.
-#[derive(Drop)]
+#[derive(Clone, Copy)]
 pub struct Mode(pub u32);
 
 // What `from_number` answers.
-#[derive(Drop)]
+#[derive(Clone, Copy)]
 pub enum Made {
     Mode(Mode),
     Refused,

@@ -7,7 +7,7 @@ ghost use Rattle.play_commands.specs.Forms.{Means, meant, of_letter, as_request,
 use play_numbers::{Next, Number, last_number, next_number};
 
 // What a line asks. The last number of a request is the place in the line where its name starts.
-#[derive(Drop)]
+#[derive(Clone, Copy)]
 pub enum Command {
     Request(u32, u32, u32, usize),
     Convert(u32, u32, u32, u32),

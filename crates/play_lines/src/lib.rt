@@ -7,14 +7,14 @@ ghost use Rattle.play_lines.specs.InputLines.{keeps, begun, Room, Feeds, meant_k
 use play_commands::{Command, LINE_BYTES, parse};
 
 // A line that is being gathered: how many of its bytes are in the buffer, and whether it has more than the longest may have.
-#[derive(Drop)]
+#[derive(Clone, Copy)]
 pub struct Line {
     pub len: usize,
     pub over: bool,
 }
 
 // After a byte: the line has one byte more, or byte 10 ended it.
-#[derive(Drop)]
+#[derive(Clone, Copy)]
 pub enum Fed {
     More(Line),
     Whole(Line),

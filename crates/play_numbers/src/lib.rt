@@ -5,14 +5,14 @@ ghost use Rattle.play_numbers.specs.Fields.{until};
 ghost use Rattle.play_numbers.specs.Steps.{number_in, next_field};
 
 // What a field says.
-#[derive(Drop)]
+#[derive(Clone, Copy)]
 pub enum Number {
     Is(u32),
     NoNumber,
 }
 
 // A number with a space after it: its value, and the place after the space.
-#[derive(Drop)]
+#[derive(Clone, Copy)]
 pub enum Next {
     Field(u32, usize),
     NoField,

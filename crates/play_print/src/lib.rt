@@ -6,7 +6,7 @@ ghost use Rattle.play_print.specs.PrintedLines.{Wrote, one, printed, spaced_numb
 
 // What is printed for a line: its letter, how many fields the answer has there, and the answer's numbers, of which the first
 // are these fields; its letter and the refusal; or `?`.
-#[derive(Drop)]
+#[derive(Clone, Copy)]
 pub enum LineAnswer {
     Answer(u8, usize, u32, u32, u32),
     Refusal(u8, u32),

@@ -66,7 +66,7 @@ pub fn play_gathered(words: &mut [u32], slots: &mut [u8], buffer: &[u8], s: Line
 }
 
 // Where a chunk of the input stands: the line that is being gathered, and how many bytes are printed.
-#[derive(Drop)]
+#[derive(Clone, Copy)]
 pub struct Progress {
     pub line: Line,
     pub at: usize,

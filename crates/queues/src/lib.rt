@@ -20,7 +20,7 @@ use tables::Lock;
 
 // What a request or a conversion is decided from, all of it in the resource's record: the first lock on the convert
 // chain and on the wait chain, or 0, and how many locks hold each mode.
-#[derive(Drop)]
+#[derive(Clone, Copy)]
 struct Occupancy {
     pub convert: u32,
     pub wait: u32,

@@ -4,7 +4,7 @@
 
 // What a call says: a refusal, or 0 where it is accepted; its answer; a lock's number, or purge's second count; and one
 // number more, which is poll's mark or purge's third count. What it doesn't say is zero.
-#[derive(Drop)]
+#[derive(Clone, Copy)]
 pub struct Said {
     pub refusal: u32,
     pub answer: u32,

@@ -15,7 +15,7 @@ use tables::Lock;
 
 // The cells of a chain: each names the record that follows, the last one 0. The fields are the place of the head, the
 // place of record 1's cell, how far apart the records' cells stand, and how many records there can be.
-#[derive(Drop)]
+#[derive(Clone, Copy)]
 pub struct Cells {
     pub head: usize,
     pub first: usize,
@@ -26,7 +26,7 @@ pub struct Cells {
 // Locks that may spare a walk: one that may stand right before the lock that moves, on the home chain that it leaves, and
 // one that may stand last on a chain that it joins. 0 is none. Nothing is promised of them: each is looked at before it is
 // believed.
-#[derive(Drop)]
+#[derive(Clone, Copy)]
 pub struct Hints {
     pub before: u32,
     pub last: u32,

@@ -134,14 +134,14 @@ pub const NO_LOCK: Lock = Lock {
 };
 
 // A resource's record beside its links: how many bytes its name has, and whether its value is valid.
-#[derive(Drop)]
+#[derive(Clone, Copy)]
 pub struct ResourceFields {
     pub bytes: u32,
     pub valid: u32,
 }
 
 // How many locks hold each mode on a resource: the other words of its record.
-#[derive(Drop)]
+#[derive(Clone, Copy)]
 pub struct ModeCounts {
     pub nl: u32,
     pub cr: u32,

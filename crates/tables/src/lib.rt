@@ -3,7 +3,7 @@
 // tables are and when they are sound, proofs/ has the laws between a state and its written form.
 
 // A lock's record beside its three links.
-#[derive(Drop)]
+#[derive(Clone, Copy)]
 pub struct Lock {
     pub resource: u32,
     pub client: u32,
@@ -16,7 +16,7 @@ pub struct Lock {
 
 // What a listing says of a lock.
 #[repr(C)]
-#[derive(Drop)]
+#[derive(Clone, Copy)]
 pub struct LockEntry {
     pub number: u32,
     pub client: u32,
