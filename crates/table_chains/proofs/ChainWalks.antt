@@ -10,7 +10,6 @@ use lib.Dec.{eqb}
 use borrow.Author.Tests.{eq-eqb, ne_eqb}
 use Rattle.tables.specs.Lists.{first, first_that}
 use Rattle.tables.specs.State.{Tables, resource, Queue, grants, converts, waits, LockChain, blocked, notices, queue, of_locks, queue_of, chain}
-use Rattle.tables.specs.Grants.{tally}
 use Rattle.tables.specs.Layout.{of_header, of_resource, of_lock, queue_head, head, link, link_in, word_value, words, resources_in, locks_in, word_in, lock_link, onward, read_chain}
 use Rattle.tables.specs.Sound.{chain_ends}
 use Rattle.tables.specs.Threads.{Each, Present}

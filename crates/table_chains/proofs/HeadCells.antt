@@ -5,7 +5,7 @@ use Prim.Native.Nat.{ℕ, zero, suc, ◌+◌, ◌*◌, ◌-◌, ◌<◌, ◌≤�
 use native.Mathlib.Omega.{arith}
 use borrow.Author.Rules.{rules}
 use Rattle.tables.specs.State.{free_resources, of_locks, home_at}
-use Rattle.tables.specs.Layout.{header_width, resource_width, lock_width, place, head, resources_in, locks_in, most}
+use Rattle.tables.specs.Layout.{header_width, resource_width, lock_width, place, head, resources_in, locks_in}
 use Rattle.tables.proofs.Chains.{home_past}
 use Rattle.table_chains.specs.declared.Cells.{Cells}
 use Rattle.table_chains.specs.Cells.{cells_at, lock_cells, Housed}
