@@ -1,5 +1,5 @@
 -- How many records belong on a chain, and what the walks stand on.
-use Rattle.std.specs.Prelude.{not, List, ℕ, ◌-◌, ◌≤◌, length}
+use Rattle.std.specs.Prelude.{not, List, ℕ, ◌≤◌, length}
 use Rattle.tables.specs.Lists.{from, keep}
 use Rattle.tables.specs.State.{blocked_lock, noticed}
 use Rattle.tables.specs.Layout.{resources_in, locks_in, read_lock}

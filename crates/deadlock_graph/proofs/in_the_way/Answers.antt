@@ -1,0 +1,16 @@
+use Rattle.deadlock_graph.proofs.LockWords.{read_laws, way_known}
+use Rattle.deadlock_graph.proofs.in_the_way.Goals as goal
+
+pub lock_word-held-requires : goal.lock_word-held-requires
+lock_word-held-requires c = search read_laws
+
+pub lock_word-asked-requires : goal.lock_word-asked-requires
+lock_word-asked-requires c = search read_laws
+
+pub goes_with-requires : goal.goes_with-requires
+goes_with-requires c = search read_laws
+
+pub returns : goal.returns
+returns c =
+    let p = c.requires in
+    way_known _ _ _ _ _ _ p.at p.at_2 c.lock_word-held.ensures c.lock_word-asked.ensures c.goes_with.ensures
