@@ -8,7 +8,7 @@ use Rattle.check_chains.specs.Walks.{steps_left, free_met}
 use Rattle.check_chains.proofs.free_met.Given as goal
 
 abbrev pub invariant-loop-met : goal.invariant-loop-met
-invariant-loop-met l = (l.initial.met ≤ l.met) × (l.r ≡ 0 → ⊥) × invariant-loop-r l
+invariant-loop-met l = (l.initial.met ≤ l.met) × (l.r ≡ 0 → ⊥) × ((l.met ≤ l.n) × (free_met l.words ≡ steps_left (λ j. word_in l.words (of_resource j 0)) (λ j. not (named l.words j)) l.n l.met l.r))
 
 abbrev pub decreases-loop-met : goal.decreases-loop-met
 decreases-loop-met l = l.n - l.met

@@ -6,7 +6,7 @@ use Rattle.check_chains.specs.Walks.{steps_left, belongs_on, locks_met}
 use Rattle.check_chains.proofs.met.Given as goal
 
 abbrev pub invariant-loop-met : goal.invariant-loop-met
-invariant-loop-met l = (l.initial.met ≤ l.met) × (l.k ≡ 0 → ⊥) × invariant-loop-k l
+invariant-loop-met l = (l.initial.met ≤ l.met) × (l.k ≡ 0 → ⊥) × ((l.met ≤ l.n) × (locks_met l.words l.chain l.r l.field l.first ≡ steps_left (lock_link l.words l.field) (belongs_on l.words l.chain l.r) l.n l.met l.k))
 
 abbrev pub decreases-loop-met : goal.decreases-loop-met
 decreases-loop-met l = l.n - l.met
