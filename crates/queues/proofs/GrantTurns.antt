@@ -9,7 +9,7 @@ use borrow.Author.Rules.{rules}
 use borrow.Author.Tests.{not-true, not-false}
 use Rattle.tables.specs.declared.Lock.{Lock}
 use Rattle.tables.specs.Lists.{count, first}
-use Rattle.tables.specs.State.{Tables, no_lock, lock, resource, move, converts, waits, queue, of_locks}
+use Rattle.tables.specs.State.{Tables, no_lock, lock, move, converts, waits, queue, of_locks}
 use Rattle.tables.specs.Layout.{words, locks_in, read_chain, read_lock}
 use Rattle.tables.specs.Grants.{convert_grantable, grantable_head}
 use Rattle.tables.proofs.Cases.{clash}

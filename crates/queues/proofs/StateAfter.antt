@@ -6,7 +6,7 @@ use Prim.Native.Nat.{ℕ}
 use native.Mathlib.Omega.{arith}
 use lib.ListN.{length}
 use Rattle.tables.specs.Lists.{within, null}
-use Rattle.tables.specs.State.{Tables, no_lock, lock, resource, move_resource}
+use Rattle.tables.specs.State.{Tables, no_lock, lock, move_resource}
 use Rattle.tables.proofs.Cases.{by_cases, clash}
 use Rattle.tables.specs.Validity.{used, as_free, Core}
 use Rattle.tables.proofs.Valid.{absent, locks_length, resources_length, core_move}

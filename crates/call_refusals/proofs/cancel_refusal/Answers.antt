@@ -1,0 +1,21 @@
+use Rattle.call_refusals.proofs.LockRefusals.{own_there, cancel_client, cancel_lock, cancel_unread, cancel_state, cancel_passes}
+use borrow.Author.Rules.{rules}
+use Rattle.call_refusals.proofs.cancel_refusal.Goals as goal
+
+pub returns-then-not-client_right : goal.returns-then-not-client_right
+returns-then-not-client_right c = search cancel_client
+
+pub returns-then-not-own : goal.returns-then-not-own
+returns-then-not-own c = search cancel_lock
+
+pub lock_at-waiter-requires : goal.lock_at-waiter-requires
+lock_at-waiter-requires c = own_there _ _ _ _ c.own.ensures (search rules) (search rules)
+
+pub returns-then-waiter-ne-COMPLETION_NONE : goal.returns-then-waiter-ne-COMPLETION_NONE
+returns-then-waiter-ne-COMPLETION_NONE c = search cancel_unread
+
+pub returns-then-waiter : goal.returns-then-waiter
+returns-then-waiter c = search cancel_state
+
+pub returns : goal.returns
+returns c = search cancel_passes

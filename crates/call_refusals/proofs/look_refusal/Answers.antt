@@ -1,0 +1,18 @@
+use Rattle.call_refusals.proofs.LockRefusals.{own_there, look_client, look_lock, look_state, look_passes}
+use borrow.Author.Rules.{rules}
+use Rattle.call_refusals.proofs.look_refusal.Goals as goal
+
+pub returns-then-not-client_right : goal.returns-then-not-client_right
+returns-then-not-client_right c = search look_client
+
+pub returns-then-not-own : goal.returns-then-not-own
+returns-then-not-own c = search look_lock
+
+pub lock_at-lock-requires : goal.lock_at-lock-requires
+lock_at-lock-requires c = own_there _ _ _ _ c.own.ensures (search rules) (search rules)
+
+pub returns-then-lock : goal.returns-then-lock
+returns-then-lock c = search look_state
+
+pub returns : goal.returns
+returns c = search look_passes

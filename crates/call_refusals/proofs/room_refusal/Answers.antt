@@ -1,0 +1,26 @@
+use Rattle.call_refusals.proofs.RequestRoom.{room_longer, room_long, room_none, room_locks, room_queues, room_resourced, room_at_once, room_blocks}
+use Rattle.call_refusals.proofs.room_refusal.Goals as goal
+
+pub bounds-words-2 : goal.bounds-words-2
+bounds-words-2 c = search room_longer
+
+pub returns-then-found-words : goal.returns-then-found-words
+returns-then-found-words c = search room_none
+
+pub bounds-words-3 : goal.bounds-words-3
+bounds-words-3 c = search room_long
+
+pub returns-then-words-eq0 : goal.returns-then-words-eq0
+returns-then-words-eq0 c = search room_locks
+
+pub returns-then-found-no_queue : goal.returns-then-found-no_queue
+returns-then-found-no_queue c = search room_queues
+
+pub granted_at_once-requires : goal.granted_at_once-requires
+granted_at_once-requires c = search room_resourced
+
+pub returns-then-granted_at_once : goal.returns-then-granted_at_once
+returns-then-granted_at_once c = search room_at_once
+
+pub returns : goal.returns
+returns c = search room_blocks

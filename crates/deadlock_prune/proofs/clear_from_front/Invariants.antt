@@ -1,0 +1,12 @@
+use Rattle.deadlock_prune.proofs.LocksLeft.{Passes}
+use Prim.Native.Nat.{◌+◌}
+use Rattle.tables.specs.Lists.{bit}
+use Rattle.deadlock_graph.specs.Promises.{seen}
+use Rattle.deadlock_graph.specs.Marks.{unmarked}
+use Rattle.deadlock_prune.proofs.clear_from_front.Given as goal
+
+abbrev pub invariant-loop-more : goal.invariant-loop-more
+invariant-loop-more l = Passes l.words l.links l.initial.cleared l.cleared
+
+abbrev pub decreases-loop-more : goal.decreases-loop-more
+decreases-loop-more l = unmarked (seen l.words).blocked l.cleared + bit l.more
