@@ -1,6 +1,6 @@
 -- Cases with the equation kept, and small laws of tests and lists.
 use Prim.Native.Nat.{ℕ, ◌+◌, ◌<◌}
-use mathlib.Core.Bool.{Bool, true, false, ◌&&◌, ◌||◌, cond, false≢true}
+use mathlib.Core.Bool.{Bool, true, false, ◌&&◌, cond, false≢true}
 use mathlib.Core.Path.{◌≡◌, refl, sym, ◌∙◌}
 use mathlib.Core.List.{List, ◌∷◌}
 use native.Mathlib.Numerals.{add-one}
@@ -25,10 +25,6 @@ and_left false t e = e
 pub and_right : (s t : Bool) → s && t ≡ true → t ≡ true
 and_right true t e = e
 and_right false t e = absurd (false≢true e)
-
-pub or_no : (t : Bool) → t || false ≡ t
-or_no true = refl
-or_no false = refl
 
 pub cond_same : {A : Type 0} (t : Bool) (a : A) → cond t a a ≡ a
 cond_same true a = refl

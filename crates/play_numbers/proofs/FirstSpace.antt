@@ -1,35 +1,20 @@
--- Laws of the first space, of a number before it, and of all from a place on.
+-- Laws of the first space, and of a number before it.
 use Prim.Native.Nat.{ℕ, suc, ◌+◌, ◌-◌, ◌≤◌, ◌<◌}
 use mathlib.Core.Bool.{true, false, false≢true}
 use mathlib.Core.Path.{◌≡◌, refl, sym, ap, ◌∙◌}
 use mathlib.Core.List.{List, [], ◌∷◌}
 use native.Mathlib.Omega.{arith}
-use borrow.Author.Tests.{ne_eqb}
 use borrow.Author.Rules.{rules}
 use lib.Dec.{eqb}
-use lib.ListN.{length, get_or, take, drop, length-drop, drop_of_length-le}
-use lib.Seq.{take_all}
+use lib.ListN.{length, take, drop, length-drop}
 use Rattle.play_numbers.specs.Fields.{spaced, until, past}
 use Rattle.play_numbers.specs.Numbers.{is_number}
 use Rattle.play_numbers.specs.Steps.{number_in, next_field}
 use Rattle.play_numbers.specs.declared.Number.{Number}
 use Rattle.play_numbers.specs.declared.Number.TheVariants.{Is, NoNumber}
 use Rattle.play_numbers.specs.declared.Next.TheVariants.{Field, NoField}
-use Rattle.play_numbers.proofs.Basics.{drop_more, by_cases, clash, cond_same}
+use Rattle.play_numbers.proofs.Basics.{by_cases, clash, cond_same}
 use Rattle.play_numbers.proofs.Numerals.{number_not, number_is, number_of}
-
--- `while i < line.len() { if line[i] == 32 { return i; } i += 1; } i`
-module _ (l : List ℕ) {i whole : ℕ} (left : whole ≡ i + length (until (drop i l))) where
-  pub space_here : i < length l → get_or l i 0 ≡ 32 → i ≡ whole
-  space_here h e = let q : whole ≡ i + 0 = left ∙ rw (drop_more l h, e) in omega arith
-
-  pub space_next : i < length l → (get_or l i 0 ≡ 32 → ⊥) → whole ≡ i + 1 + length (until (drop (i + 1) l))
-  space_next h e = let q : whole ≡ i + (suc (length (until (drop (i + 1) l)))) = left ∙ rw (drop_more l h, ne_eqb _ _ e) in omega arith
-
-  pub space_end : length l ≤ i → i ≡ whole
-  space_end h = let q : whole ≡ i + 0 = left ∙ rw (drop_of_length-le l h) in omega arith
-
-pub ruleset space_loop = (rules, space_here, space_next, space_end)
 
 until_take : (xs : List ℕ) → take (length (until xs)) xs ≡ until xs
 until_take [] = refl
@@ -38,10 +23,6 @@ until_take (b ∷ bs) = by_cases (eqb b 32) (λ t. rw t) (λ t. rw t (ap (λ l. 
 pub past_drop : (xs : List ℕ) → drop (suc (length (until xs))) xs ≡ past xs
 past_drop [] = refl
 past_drop (b ∷ bs) = by_cases (eqb b 32) (λ t. rw t) (λ t. rw t (past_drop bs))
-
-pub until_short : (xs : List ℕ) → length (until xs) ≤ length xs
-until_short [] = search rules
-until_short (b ∷ bs) = by_cases (eqb b 32) (λ t. rw t (search rules)) (λ t. rw t (let h = until_short bs in omega arith))
 
 pub spaced_until : (xs : List ℕ) → spaced xs ≡ true → length (until xs) < length xs
 spaced_until [] e = absurd (false≢true e)
@@ -83,9 +64,3 @@ module _ (l : List ℕ) (a : ℕ) {e : ℕ} (is : e ≡ a + length (until (drop 
       rw (spaced_yes (drop a l) q, number_is (until (drop a l)) p, is, ← number_of (until (drop a l)) p)
 
 pub ruleset next_rules = (rules, next_none, next_wrong, next_right)
-
--- all from a place on
-pub rest_part : (l : List ℕ) (a : ℕ) {r : Number} → r ≡ number_in (take (length l - a) (drop a l)) → r ≡ number_in (drop a l)
-rest_part l a e = let q : length (drop a l) ≤ length l - a = rw (length-drop a l) (omega arith) in e ∙ rw (take_all (length l - a) (drop a l) q)
-
-pub ruleset last_rules = (rules, rest_part)

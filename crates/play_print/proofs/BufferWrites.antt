@@ -11,18 +11,14 @@ use lib.Dec.{ltb}
 use lib.ListN.{length, take, drop, get_or, set, length-append, length-set, take-append-drop}
 use lib.Seq.{drop-drop, drop-cons, take_at, take-suc, take_all, drop_at, take-set-le, drop-set-add, set_split, length-take-le}
 use Rattle.play_print.specs.Decimal.{decimal}
-use Rattle.play_print.specs.PrintedLines.{overwritten, one, spaced_number, spaced_numbers, printed, Wrote, number_width, field_width}
+use Rattle.play_print.specs.PrintedLines.{overwritten, one, spaced_number, spaced_numbers, printed, Wrote, field_width}
 use Rattle.play_numbers.proofs.Basics.{by_cases, and_left, and_right}
-use Rattle.play_print.specs.declared.LineAnswer.{LineAnswer}
 use Rattle.play_print.specs.declared.LineAnswer.TheVariants.{Answer, Refusal, Unknown}
 use Rattle.play_print.proofs.Digits.{decimal_one, decimal_more, decimal_longer, decimal_short, decimal_some}
 
 -- one byte
 set_put : (xs : List ℕ) (a b : ℕ) → a < length xs → set xs a b ≡ overwritten a xs (one b)
 set_put xs a b h = rw (add-one a) (set_split xs a b h)
-
-pub wrote_one : (xs : List ℕ) (a b : ℕ) → a < length xs → Wrote xs a (one b) (set xs a b) (a + 1)
-wrote_one xs a b h = record { is = set_put xs a b h; next = refl; long = length-set xs a b; within = omega arith }
 
 -- bytes after bytes
 module _ (xs ys zs us vs : List ℕ) (a b r : ℕ) (w : Wrote xs a ys zs b) (v : Wrote zs b us vs r) where
@@ -75,9 +71,6 @@ pub record Writes (xs : List ℕ) (at n : ℕ) (out : List ℕ) (m k : ℕ) : Ty
   pub place : k ≡ at + length (decimal m)
   pub room : k ≤ length xs
   pub left : overwritten at xs (decimal n) ≡ overwritten at out (decimal m)
-
-pub writes_start : (xs : List ℕ) (at n d : ℕ) → at + number_width ≤ length xs → d ≡ length (decimal n) → d ≤ number_width → Writes xs at n xs n (at + d)
-writes_start xs at n d h e k = record { long = refl; place = ap (λ i. at + i) e; room = omega arith; left = refl }
 
 module _ (xs : List ℕ) (at n : ℕ) (out : List ℕ) (m k : ℕ) (w : Writes xs at n out m k) where
   pub writes_some : 1 ≤ k
@@ -199,9 +192,5 @@ module _ (xs : List ℕ) (at letter : ℕ) {x₁ : List ℕ} {a₁ : ℕ} (w₁ 
 pub wrote_unknown : (xs x₁ x₂ : List ℕ) (at a₁ a₂ : ℕ) → Wrote xs at (one 63) x₁ a₁ → Wrote x₁ a₁ (one 10) x₂ a₂ → Wrote xs at (printed Unknown) x₂ a₂
 unfolding printed
 wrote_unknown xs x₁ x₂ at a₁ a₂ w₁ w₂ = joined xs (one 63) x₁ (one 10) x₂ at a₁ a₂ w₁ w₂
-
--- an outcome is one of the three
-pub wrote_for : (xs : List ℕ) (at : ℕ) {o p : LineAnswer} {zs : List ℕ} {r : ℕ} → o ≡ p → Wrote xs at (printed p) zs r → Wrote xs at (printed o) zs r
-wrote_for xs at e w = rw e w
 
 pub ruleset print_rules = (rules, wrote_field, wrote_answer, wrote_refusal, wrote_unknown)
