@@ -8,8 +8,11 @@ returns-then-not-client_right c = search cancel_client
 pub returns-then-not-own : goal.returns-then-not-own
 returns-then-not-own c = search cancel_lock
 
-pub lock_at-waiter-requires : goal.lock_at-waiter-requires
-lock_at-waiter-requires c = own_there _ _ _ _ c.own.ensures (search rules) (search rules)
+pub lock_at-waiter-requires-clause-sized : goal.lock_at-waiter-requires-clause-sized
+lock_at-waiter-requires-clause-sized c = (own_there _ _ _ _ c.own.ensures (search rules) (search rules)).0
+
+pub lock_at-waiter-requires-clause-le_k : goal.lock_at-waiter-requires-clause-le_k
+lock_at-waiter-requires-clause-le_k c = (own_there _ _ _ _ c.own.ensures (search rules) (search rules)).1
 
 pub returns-then-waiter-ne-COMPLETION_NONE : goal.returns-then-waiter-ne-COMPLETION_NONE
 returns-then-waiter-ne-COMPLETION_NONE c = search cancel_unread

@@ -8,8 +8,11 @@ returns-then-not-client_right c = search look_client
 pub returns-then-not-own : goal.returns-then-not-own
 returns-then-not-own c = search look_lock
 
-pub lock_at-lock-requires : goal.lock_at-lock-requires
-lock_at-lock-requires c = own_there _ _ _ _ c.own.ensures (search rules) (search rules)
+pub lock_at-lock-requires-clause-sized : goal.lock_at-lock-requires-clause-sized
+lock_at-lock-requires-clause-sized c = (own_there _ _ _ _ c.own.ensures (search rules) (search rules)).0
+
+pub lock_at-lock-requires-clause-le_k : goal.lock_at-lock-requires-clause-le_k
+lock_at-lock-requires-clause-le_k c = (own_there _ _ _ _ c.own.ensures (search rules) (search rules)).1
 
 pub returns-then-lock : goal.returns-then-lock
 returns-then-lock c = search look_state

@@ -1,4 +1,3 @@
-use Prim.Native.Nat.{◌-◌}
 use Rattle.check_chains.proofs.ChainWalk.{walk_other, walk_loop}
 use Rattle.check_chains.proofs.WalkStarts.{starts}
 use native.Mathlib.Omega.{arith}

@@ -1,4 +1,3 @@
-use Prim.Native.Nat.{◌-◌}
 use native.Mathlib.Omega.{arith}
 use Rattle.check_chains.proofs.ChainWalk.{walk_other, walk_loop}
 use Rattle.check_chains.proofs.WalkStarts.{starts}

@@ -1,5 +1,4 @@
 use Rattle.deadlock_prune.proofs.BackPasses.{back_laws, back_line, back_again}
-use Prim.Native.Nat.{◌-◌}
 use Rattle.deadlock_prune.proofs.clear_back.Goals as goal
 
 pub slice_bounds-wanted_owners-end : goal.slice_bounds-wanted_owners-end

@@ -1,5 +1,4 @@
 use Rattle.deadlock_prune.proofs.WantedOwners.{wanting_laws, wanting_row}
-use native.Mathlib.Omega.{arith}
 use Rattle.deadlock_prune.proofs.want_owners.Goals as goal
 
 pub bounds-cleared-k : goal.bounds-cleared-k

@@ -1,0 +1,17 @@
+-- what is met, and what is left of the chain from there on with the set, the count and the sum so far, is the whole
+use Prim.Native.Nat.{◌<◌, ◌≤◌, ◌+◌, ◌-◌, ◌*◌, ◌^◌}
+use mathlib.Core.Path.{◌≡◌}
+use Rattle.check_laws.specs.Check.{fits_beside, tail_steps}
+use Rattle.check_queues.specs.QueueWalks.{modes_left}
+use Rattle.check_queues.proofs.tail_walk.Given as goal
+
+abbrev pub invariant-loop-k : goal.invariant-loop-k
+invariant-loop-k l =
+    (l.met ≤ l.n)
+    × ((l.set < 64)
+    × ((l.noticed ≤ l.met + 1)
+    × ((l.digits ≤ (l.met + 1) * 2 ^ 48)
+    × (tail_steps l.words l.r l.head l.n l.first l.granted l.before ≡ modes_left l.words 2 l.r (fits_beside l.head) l.n l.met l.k l.set l.noticed l.digits))))
+
+abbrev pub decreases-loop-k : goal.decreases-loop-k
+decreases-loop-k l = l.n - l.met
