@@ -1,6 +1,5 @@
 use mathlib.Core.Bool.{not}
 use mathlib.Core.Path.{ap}
-use Prim.Native.Nat.{◌-◌}
 use Rattle.modes.specs.Sets.{fits_set}
 use Rattle.check_queues.proofs.HolderWalks.{grant_start, stands_held, modes_end, modes_long, modes_off, modes_other, modes_clash, modes_on}
 use native.Mathlib.Omega.{arith}

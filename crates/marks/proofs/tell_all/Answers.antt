@@ -10,12 +10,12 @@ pub resource_word-granted-requires : goal.resource_word-granted-requires
 resource_word-granted-requires c = search begun_reads
 
 pub tell_each-last-requires-clause-hearing : goal.tell_each-last-requires-clause-hearing
-tell_each-last-requires-clause-hearing c = 
+tell_each-last-requires-clause-hearing c =
     let s = c.requires in
     begun_hears _ _ _ c.lock_word-r.ensures _ c.resource_word-granted.ensures s
 
 pub resource_word-converting-requires-clause-has_all_words : goal.resource_word-converting-requires-clause-has_all_words
-resource_word-converting-requires-clause-has_all_words c = 
+resource_word-converting-requires-clause-has_all_words c =
     let b = c in
     let a = b in
     let s = a.requires in
@@ -23,7 +23,7 @@ resource_word-converting-requires-clause-has_all_words c =
     b.tell_each-last.ensures.kept.sized
 
 pub resource_word-converting-requires-clause-le_r : goal.resource_word-converting-requires-clause-le_r
-resource_word-converting-requires-clause-le_r c = 
+resource_word-converting-requires-clause-le_r c =
     let b = c in
     let a = b in
     let s = a.requires in
@@ -31,7 +31,7 @@ resource_word-converting-requires-clause-le_r c =
     (begun_there _ _ _ e s, begun_after _ _ _ e s _ b.tell_each-last.ensures.kept)
 
 pub resource_word-converting-requires-clause-field_lt_resource_width : goal.resource_word-converting-requires-clause-field_lt_resource_width
-resource_word-converting-requires-clause-field_lt_resource_width c = 
+resource_word-converting-requires-clause-field_lt_resource_width c =
     let b = c in
     let a = b in
     let s = a.requires in
@@ -39,7 +39,7 @@ resource_word-converting-requires-clause-field_lt_resource_width c =
     omega arith
 
 pub tell_each-requires-clause-hearing : goal.tell_each-requires-clause-hearing
-tell_each-requires-clause-hearing c = 
+tell_each-requires-clause-hearing c =
     let b = c in
     let a = b in
     let s = a.requires in begun_hears_on _ _ _ a.lock_word-r.ensures _ b.resource_word-granted.ensures _ b.tell_each-last.ensures.heard _ c.resource_word-converting.ensures s
