@@ -11,7 +11,6 @@ use Rattle.tables.specs.declared.Lock.{Lock}
 use Rattle.tables.specs.Lists.{within, count, keep}
 use Rattle.tables.specs.State.{Tables, with_notice, lock, resource, holds, Queue, queue_of}
 use Rattle.tables.specs.Layout.{slots}
-use Rattle.tables.specs.Grants.{holders}
 use Rattle.tables.specs.Validity.{Core}
 use Rattle.tables.proofs.Cases.{by_cases, and_right}
 use Rattle.tables.proofs.Counts.{count_same, count_step, keep_cong}

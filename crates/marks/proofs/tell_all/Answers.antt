@@ -1,5 +1,4 @@
 use native.Mathlib.Omega.{arith}
-use borrow.Author.Rules.{rules}
 use Rattle.marks.proofs.ToldQueues.{begun_there, begun_after, begun_hears, begun_hears_on, begun_told, begun_reads}
 use Rattle.marks.proofs.tell_all.Goals as goal
 
@@ -14,8 +13,8 @@ tell_each-last-requires-clause-hearing c =
     let s = c.requires in
     begun_hears _ _ _ c.lock_word-r.ensures _ c.resource_word-granted.ensures s
 
-pub resource_word-converting-requires-clause-has_all_words : goal.resource_word-converting-requires-clause-has_all_words
-resource_word-converting-requires-clause-has_all_words c =
+pub resource_word-converting-requires-clause-sized : goal.resource_word-converting-requires-clause-sized
+resource_word-converting-requires-clause-sized c =
     let b = c in
     let a = b in
     let s = a.requires in

@@ -1,0 +1,26 @@
+use Rattle.call_request.proofs.NewLock.{enter_begins, enter_waits, enter_laws}
+use Rattle.call_request.proofs.enter.Goals as goal
+
+pub at_once-requires : goal.at_once-requires
+at_once-requires c = search enter_laws
+
+pub move_lock-requires : goal.move_lock-requires
+move_lock-requires c = search enter_laws
+
+pub returns-then-at_once : goal.returns-then-at_once
+returns-then-at_once c = search enter_laws
+
+pub move_lock-requires-2 : goal.move_lock-requires-2
+move_lock-requires-2 c = search enter_laws
+
+pub tell_obstacles-requires : goal.tell_obstacles-requires
+tell_obstacles-requires c =
+    let d = c in
+    enter_begins _ _ _ _ _ _ _ _ d.move_lock-2.ensures.moved d.queued.ensures d.requires
+
+pub returns : goal.returns
+returns c =
+    let e = c in
+    let d = e in
+    let b = d in
+    enter_waits _ _ _ _ _ _ _ _ d.move_lock-2.ensures.moved _ b.at_once.ensures b.if-at_once.false d.queued.ensures _ e.tell_obstacles.ensures
