@@ -7,7 +7,7 @@ use native.Mathlib.Omega.{arith}
 use lib.ListN.{length}
 use borrow.Author.Tests.{eqb-true}
 use Rattle.tables.specs.Lists.{within}
-use Rattle.tables.specs.State.{Tables, lock, resource, granted, move}
+use Rattle.tables.specs.State.{Tables, lock, granted, move}
 use Rattle.tables.proofs.Counts.{within_le}
 use Rattle.tables.specs.Validity.{used, Place, as_granted, as_converting}
 use Rattle.tables.proofs.Cases.{or_left}
