@@ -2,21 +2,15 @@
 use mathlib.Core.Path.{◌≡◌, ap, ◌∙◌}
 use mathlib.Core.Bool.{true}
 use mathlib.Core.List.{List}
-use Prim.Native.Nat.{ℕ, ◌≤◌, ◌*◌}
+use Prim.Native.Nat.{ℕ, ◌*◌}
 use borrow.Author.Tests.{eq-eqb}
 use borrow.Author.Rules.{rules}
-use lib.ListN.{length, take}
+use lib.ListN.{length}
 use Rattle.tables.specs.Layout.{size, slot_width}
 use Rattle.rules.specs.Entries.{Lent, lent, Outcome, outcome, start_accepts, start_if, start_entry}
 use Rattle.answers.specs.declared.Done.{Done}
 use Rattle.answers.specs.Answers.{done}
-use Rattle.play_commands.specs.declared.Command.{Command}
-use Rattle.play_lines.specs.declared.Line.{Line}
-use Rattle.play_commands.specs.Forms.{meaning, name_start, Means}
-use Rattle.play_lines.specs.InputLines.{keeps, meant_kept}
-use Rattle.play_calls.specs.Plays.{Played, played}
 use Rattle.play_session.specs.Sessions.{Lengths, fresh_tables, played_resources, played_locks}
-use Rattle.play_lines.proofs.FedBytes.{gathered_long}
 
 pub started_fresh : (ws ss ds es : List ℕ) (r : Done) → Lengths ws ss → outcome (done r) (lent ds es) ≡ start_entry (lent ws ss) played_resources played_locks → lent ds es ≡ fresh_tables
 unfolding start_entry start_if start_accepts
