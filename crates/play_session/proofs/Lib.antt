@@ -1,3 +1,3 @@
-pub mod GatheredLine
+pub mod FreshTables
 pub mod Sessions
 pub mod Chunks

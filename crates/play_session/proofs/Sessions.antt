@@ -1,11 +1,10 @@
 -- Sessions in the code: a byte, a chunk of bytes, and the end of the input.
 use mathlib.Core.Path.{◌≡◌, refl, sym, ap, ◌∙◌}
-use mathlib.Core.Bool.{Bool, true, false, not}
+use mathlib.Core.Bool.{Bool, true, false}
 use mathlib.Core.List.{List, [], ◌∷◌, ◌++◌, append_assoc}
 use Prim.Native.Nat.{ℕ, ◌+◌, ◌*◌, ◌≤◌, ◌<◌}
 use native.Mathlib.Numerals.{add-one}
 use native.Mathlib.Omega.{arith}
-use borrow.Author.Tests.{not-true, not-false}
 use borrow.Author.Rules.{rules}
 use lib.ListN.{length, take, drop, get_or, length-append, drop_of_length-le}
 use lib.Seq.{take_at, drop-cons, length-take-le}
@@ -147,17 +146,17 @@ module _ (xs ws ss out : List ℕ) (s : Line) (h : Spacious xs out s 1) (b : Boo
   begun_is : b ≡ begun (keeps xs s)
   begun_is = told xs h.room
 
-  pub ends_none : not b ≡ true → Ends (ended (standing xs ws ss s [])) ws ss out 0
+  pub ends_none : b ≡ false → Ends (ended (standing xs ws ss s [])) ws ss out 0
   unfolding ended
   ends_none e =
-      let f : begun (keeps xs s) ≡ false = sym begun_is ∙ not-true b e in
+      let f : begun (keeps xs s) ≡ false = sym begun_is ∙ e in
       record { tables = rw f; output = rw f; within = omega arith }
 
-  pub ends_last : not b ≡ false → (ds es : List ℕ) (o : LineAnswer) → played_with o ds es ≡ played (meant_kept (keeps xs s)) (lent ws ss)
+  pub ends_last : b ≡ true → (ds es : List ℕ) (o : LineAnswer) → played_with o ds es ≡ played (meant_kept (keeps xs s)) (lent ws ss)
       → (zs : List ℕ) (end : ℕ) → Wrote out 0 (printed o) zs end × (end ≤ 0 + printed_width) → Ends (ended (standing xs ws ss s [])) ds es zs end
   unfolding ended taken
   ends_last e ds es o plays zs end wrote =
-      let f : begun (keeps xs s) ≡ true = sym begun_is ∙ not-false b e in
+      let f : begun (keeps xs s) ≡ true = sym begun_is ∙ e in
       let q : o ≡ (played (meant_kept (keeps xs s)) (lent ws ss)).answer = ap (λ q. q.answer) plays in
       let k = wrote.0.within in
       let l = wrote.0.long in

@@ -1,24 +1,17 @@
--- Fresh tables, and a gathered line: what it means is played.
+-- Start accepts the sizes of lockplay's tables, which then are fresh.
 use mathlib.Core.Path.{◌≡◌, ap, ◌∙◌}
 use mathlib.Core.Bool.{true}
 use mathlib.Core.List.{List}
-use Prim.Native.Nat.{ℕ, ◌≤◌, ◌*◌}
+use Prim.Native.Nat.{ℕ, ◌*◌}
 use borrow.Author.Tests.{eq-eqb}
 use borrow.Author.Rules.{rules}
-use lib.ListN.{length, take}
+use lib.ListN.{length}
 use Rattle.tables.specs.Layout.{size, slot_width}
 use Rattle.rules.specs.Entries.{Lent, lent, Outcome, outcome, start_accepts, start_if, start_entry}
 use Rattle.answers.specs.declared.Done.{Done}
 use Rattle.answers.specs.Answers.{done}
-use Rattle.play_commands.specs.declared.Command.{Command}
-use Rattle.play_lines.specs.declared.Line.{Line}
-use Rattle.play_commands.specs.Forms.{meaning, name_start, Means}
-use Rattle.play_lines.specs.InputLines.{keeps, meant_kept}
-use Rattle.play_calls.specs.Plays.{Played, played}
 use Rattle.play_session.specs.Sessions.{Lengths, fresh_tables, played_resources, played_locks}
-use Rattle.play_lines.proofs.FedBytes.{gathered_long}
 
--- start accepts lockplay's sizes
 pub started_fresh : (ws ss ds es : List ℕ) (r : Done) → Lengths ws ss → outcome (done r) (lent ds es) ≡ start_entry (lent ws ss) played_resources played_locks → lent ds es ≡ fresh_tables
 unfolding start_entry start_if start_accepts
 started_fresh ws ss ds es r h e =
@@ -28,13 +21,3 @@ started_fresh ws ss ds es r h e =
     ap (λ (o : Outcome). o.lent_after) (e ∙ q)
 
 pub ruleset start_rules = (rules, started_fresh)
-
--- a gathered line
-module _ (xs : List ℕ) (s : Line) {r : Command} where
-  pub gathered_within : {m : _} → Means (take s.len xs) r m → name_start r ≤ length (take s.len xs)
-  gathered_within w = w.within
-
-  pub gathered_played : (t : Lent) {p : Played} → Means (take s.len xs) r (meant_kept (keeps xs s)) → p ≡ played (meaning (take s.len xs) r) t → p ≡ played (meant_kept (keeps xs s)) t
-  gathered_played t w q = q ∙ ap (λ m. played m t) w.means
-
-pub ruleset gathered_rules = (rules, gathered_within, gathered_played, gathered_long)

@@ -1,0 +1,21 @@
+-- `request`: three numbers with a space after each; the name is what is left.
+use Rattle.play_commands.proofs.FormReturns.{form_rules}
+use Rattle.play_commands.proofs.request.Goals as goal
+
+pub returns-in_default : goal.returns-in_default
+returns-in_default c = search form_rules
+
+pub next_number-requires-2 : goal.next_number-requires-2
+next_number-requires-2 c = search form_rules
+
+pub returns-in_default-next_number : goal.returns-in_default-next_number
+returns-in_default-next_number c = search form_rules
+
+pub next_number-requires-3 : goal.next_number-requires-3
+next_number-requires-3 c = search form_rules
+
+pub returns-in_default-next_number-2 : goal.returns-in_default-next_number-2
+returns-in_default-next_number-2 c = search form_rules
+
+pub returns : goal.returns
+returns c = search form_rules
