@@ -1,4 +1,3 @@
-pub mod LocalTypes
 pub mod ListCore
 pub mod FilledList
 pub mod ListReturns

@@ -4,7 +4,6 @@ use mathlib.Core.Bool.{Bool, true, false, not}
 use mathlib.Core.List.{List}
 use Prim.Native.Nat.{ℕ}
 use borrow.Author.Rules.{rules}
-use borrow.Author.Tests.{not-true}
 use Rattle.tables.specs.declared.Lock.{Lock}
 use Rattle.tables.specs.declared.LockEntry.{LockEntry}
 use Rattle.tables.specs.Layout.{of_lock, word_in, read_lock, read}
@@ -12,23 +11,25 @@ use Rattle.tables.specs.Sound.{sound}
 use Rattle.tables.specs.Validity.{Core}
 use Rattle.rules.specs.Calls.{unless}
 use Rattle.rules.specs.Entries.{look_refusal}
-use Rattle.table_chains.specs.Promises.{Tells}
+use Rattle.table_chains.specs.Promises.{Some, Tells}
 use Rattle.list_walker.specs.Order.{Queued}
 use Rattle.list_walker.proofs.WalkerReads.{queued_sized, queued_low, queued_high, queued_record}
 use Rattle.entry_list.specs.Listings.{list_refusal, resource_of, entry_of}
 use Rattle.table_chains.proofs.FoundSound.{found_sound, found_written, found_core}
 
 -- list_refusal
+module _ (ws ss : List ℕ) (a : Bool) (ea : a ≡ sound ws ss) where
+  pub sound_some : a ≡ true → Some Core ws
+  sound_some h = found_core ws ss a ea (ap not h)
+
 module _ (ws ss : List ℕ) (c k : ℕ) (a : Bool) (ea : a ≡ sound ws ss) where
-  pub unsound_refused : not a ≡ true → 1 ≡ list_refusal ws ss c k
+  pub unsound_refused : a ≡ false → 1 ≡ list_refusal ws ss c k
   unfolding list_refusal unless
-  unsound_refused h = rw (sym ea ∙ not-true a h)
+  unsound_refused h = rw (sym ea ∙ h)
 
-  pub sound_looked : not a ≡ false → (n : ℕ) → Tells Core (look_refusal c k) ws n → n ≡ list_refusal ws ss c k
+  pub sound_looked : a ≡ true → (n : ℕ) → Tells Core (look_refusal c k) ws n → n ≡ list_refusal ws ss c k
   unfolding list_refusal unless
-  sound_looked h n told = let w = found_written ws ss a ea h in rw (found_sound ws ss a ea h) (told.then (read ws ss) w.valid.core w.is)
-
-pub ruleset refusal_laws = (rules, unsound_refused, found_core, sound_looked)
+  sound_looked h n told = let w = found_written ws ss a ea (ap not h) in rw (found_sound ws ss a ea (ap not h)) (told.then (read ws ss) w.valid.core w.is)
 
 -- resource_of, entry_of
 abbrev pub entry_by : ℕ → Lock → LockEntry

@@ -1,6 +1,6 @@
 #![tactic(auto)]
-// The locks on a resource into a lent list of lock entries. What is listed is computed by value; two thin functions,
-// proved by hand, put it into the list.
+// The locks on a resource into a lent list of lock entries. What is listed is computed by value; two thin functions put
+// it into the list.
 ghost use Rattle.std.specs.Prelude.{◌≡◌};
 ghost use Rattle.rules.specs.Entries.{list_entry};
 ghost use Rattle.table_chains.specs.Promises.{Some, Tells, Resourced};
