@@ -47,15 +47,6 @@ more_marks {ws} {ls} {m} {m'} k l =
 -- ---- a step
 
 module _ {ws ls : List ℕ} {b t d : ℕ} {hs : List ℕ} {m : List Bool} (i : Following ws ls b t d hs m) where
-  pub follow_none : b ≡ 0 → Followed ws ls b t hs m hs m false
-  follow_none z =
-      record {
-        there = λ e. clash false e refl;
-        found = λ e. clash false e refl;
-        vain = λ e. vain_none i.lists i.clean;
-        passed = λ e n. absurd (n z);
-      }
-
   module _ (n : b ≢ 0) where
     pub follow_hit : b ≡ t → Followed ws ls b t hs m hs m true
     follow_hit q =
@@ -247,9 +238,6 @@ searched_later p g =
     }
 
 module _ {ws ls : List ℕ} {from t d : ℕ} {hs₀ : List ℕ} {m₀ : List Bool} {hs : List ℕ} {m : List Bool} {at : ℕ} (i : Turning ws ls from t d hs₀ m₀ hs m at) where
-  pub turning_heads : length hs ≡ length hs₀
-  turning_heads = i.vain.shorter.size
-
   module _ (n : at ≢ 0) where
     holder : 1 ≤ count at (holders (seen ws) (lock (seen ws) from).resource)
     holder = i.look.leaping.looking.stands n
