@@ -143,7 +143,7 @@ pub ruleset measuring = (rules, words_short, words_beyond, words_misfit, words_f
 module _ (bs zs : List ℕ) (d : Decoded bs zs) where
   module _ (h : measures bs ≡ true) where
     size_there : length zs ≡ image_size bs
-    size_there = rw h at d.decreases.many
+    size_there = rw h at d.measured.many
 
     words_there : zs ≡ image_words bs
     words_there = d.read ∙ ap (decoded bs) size_there ∙ sym (words_decoded bs)
@@ -151,7 +151,7 @@ module _ (bs zs : List ℕ) (d : Decoded bs zs) where
   module _ (x : Bool) (ex : x ≡ sound zs (take (length bs - 4 * length zs) (drop (4 * length zs) bs))) where
     unsized : measures bs ≡ false → x ≡ image_sound bs
     unsized h =
-        let none : length zs ≡ 0 = rw h at d.decreases.many in
+        let none : length zs ≡ 0 = rw h at d.measured.many in
         by_cases x
         (λ s. absurd (omega (arith, words_sized zs _ (sym ex ∙ s))))
         (λ s. s ∙ sym (not_sound bs h))
