@@ -1,4 +1,3 @@
-use Prim.Native.Nat.{◌-◌}
 use Rattle.table_names.proofs.SlotParts.{find_loop}
 use Rattle.entry_holder.proofs.named_resource.Goals as goal
 

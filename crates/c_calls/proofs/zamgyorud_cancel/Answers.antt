@@ -1,0 +1,8 @@
+use Rattle.c_answers.proofs.PackedContracts.{carrying}
+use Rattle.c_calls.proofs.zamgyorud_cancel.Goals as goal
+
+pub pack-requires : goal.pack-requires
+pack-requires c = search carrying
+
+pub returns : goal.returns
+returns c = search carrying
