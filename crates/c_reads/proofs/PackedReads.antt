@@ -1,12 +1,8 @@
--- What read, list and the soundness check say of their answer, they say of the one that C gets.
+-- What read and list say of their answer, they say of the one that C gets.
 use mathlib.Core.Path.{◌≡◌, refl, sym, ap, ap₂, subst, ◌∙◌}
-use mathlib.Core.Bool.{Bool, true, false}
 use mathlib.Core.List.{List}
 use Prim.Native.Nat.{ℕ, zero, suc}
-use borrow.Author.Rules.{rules}
 use Rattle.tables.specs.declared.LockEntry.{LockEntry}
-use Rattle.tables.specs.Lists.{bit}
-use Rattle.tables.specs.Sound.{sound}
 use Rattle.rules.specs.declared.Said.{Said}
 use Rattle.rules.specs.Entries.{Reading, read_entry, list_entry}
 use Rattle.rules.specs.Numbers.{Small, reading_said, listing_said}
@@ -18,7 +14,6 @@ use Rattle.entry_list.specs.Listings.{listing}
 use Rattle.c_answers.specs.Areas.{filled, in_front, value_in, value_filled}
 use Rattle.c_answers.specs.PackedAnswers.{unpacked}
 use Rattle.c_answers.proofs.LentAreas.{value_stays}
-use Rattle.c_answers.proofs.PackedContracts.{said_small, said_packed}
 
 -- a read, refused and accepted
 pub read_small : (ws ss : List ℕ) (c k : ℕ) (y : Reading) (x : Said) → y ≡ read_entry ws ss c k → x ≡ reading_said y → Small x
@@ -34,8 +29,6 @@ module _ (y e : Reading) (a : List ℕ) (is : y ≡ e) (x : Said) (says : x ≡ 
   read_carried b none front =
       ap₂ filled (packs ∙ says) (front ∙ ap (λ (n : ℕ). value_in n y.value a) (sym none)) ∙ ap (λ (z : Reading). value_filled z a) is
 
-pub ruleset read_laws = (rules, read_small, read_refused, read_carried)
-
 -- a listing answers the true count
 list_is : (y : Listed) (es : List LockEntry) → listing_said (listing (list_said y) es) ≡ list_said y
 list_is (listed_cases.Count n) es = refl
@@ -44,14 +37,3 @@ list_is (listed_cases.Refused (suc n)) es = refl
 
 pub list_small : (ws ss : List ℕ) (c k : ℕ) (es zs : List LockEntry) (y : Listed) → listing (list_said y) zs ≡ list_entry ws ss c k es → Small (list_said y)
 list_small ws ss c k es zs y is = subst Small (sym (ap listing_said is) ∙ list_is y zs) (numbers_small.of_list ws ss c k es)
-
-pub ruleset list_laws = (rules, said_small, said_packed)
-
-module _ (ws ss : List ℕ) (b : Bool) (e : b ≡ sound ws ss) where
-  pub sound_bit : b ≡ true → 1 ≡ bit (sound ws ss)
-  sound_bit h = rw (← e, h)
-
-  pub unsound_bit : b ≡ false → 0 ≡ bit (sound ws ss)
-  unsound_bit h = rw (← e, h)
-
-pub ruleset sound_laws = (rules, sound_bit, unsound_bit)

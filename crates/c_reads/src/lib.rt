@@ -60,7 +60,7 @@ pub extern "C" fn zamgyorud_read(
     c_answers::pack(read_said(found))
 }
 
-// A function of its own, so that `zamgyorud_list`, which is proved by hand, has one call less.
+// What a listing says beside its entries, packed.
 fn packed_list(x: Listed) -> u64
     requires { Small (list_said x) }
     ensures { unpacked result ≡ list_said x }
