@@ -17,7 +17,7 @@ import sys
 
 os.chdir(os.path.join(os.path.dirname(os.path.abspath(__file__)), '..'))
 PAGES = ['README.md'] + ['docs/%s.md' % p for p in ('ARCHITECTURE', 'CONTRIBUTING', 'READING', 'DECISIONS', 'MANUAL')]
-CRATES = {line.split(':')[0] for line in open('crates.txt') if ':' in line.split('#')[0]}
+CRATES = {line.split(':')[0].split()[0] for line in open('crates.txt') if ':' in line.split('#')[0]}
 
 # Words of the language, of the kit and of other tools.
 FOREIGN = set('''abbrev unfoldable unfolding elim record data where pub mod use now getD set cond eqb leb ltb length take drop map replicate
