@@ -4,7 +4,7 @@
 .PHONY: compare-program expect test-pages test-expected test-bench test-lockplay
 .DELETE_ON_ERROR:
 
-SOURCES := crates.txt $(shell find crates -name '*.rt' -o -name '*.antt')
+SOURCES := crates.txt $(shell find crates -name out -prune -o \( -name '*.rt' -o -name '*.antt' \) -print)
 
 # The version has its one place in the file VERSION. tests/install.sh holds the header and the Rust crate to it.
 VERSION := $(shell cat VERSION)
@@ -24,17 +24,19 @@ help:
 	    /^[a-z-]+:/ && text != "" { sub(/:.*/, ""); sub(/\. .*/, ".", text); printf "make %-14s %s\n", $$0, text } \
 	    /^[a-z-]+:/ || /^$$/ { text = "" }' $(firstword $(MAKEFILE_LIST))
 
-# Prove every crate from nothing, try the must-fail edits, run the programs, then what is compared by running. Its last line is 'N passed, 0 failed'.
+# Prove every crate, try the must-fail edits, run the programs, then what is compared by running. Its last line is 'N passed, 0 failed'.
 test:
 	@tests/all
 
-# The quick verdict: proofs and programs, without the must-fail edits.
+# The quick verdict: proofs and programs, over what earlier checks kept and without the must-fail edits.
 check:
-	@rt check
+	@$(call want,rt)
+	@rt all test
 
 # Lay out every source file.
 fmt:
-	@rt fmt
+	@$(call want,rt)
+	@for crate in crates/*/; do (cd $$crate && rt fmt) || exit 1; done
 
 # Play SCRIPT (examples/failover.txt) on fresh tables, each line beside its answer. SCRIPT=- plays standard input as it is, for use by hand.
 SCRIPT ?= examples/failover.txt
@@ -46,26 +48,26 @@ else
 	@target/bin/lockplay <'$(SCRIPT)' | paste '$(SCRIPT)' - | expand -t 24
 endif
 
-# Proves what lockplay stands on, where that is not done yet: some minutes the first time.
+# Proves what lockplay stands on, where that is not done yet, and builds and runs it on no input.
 target/bin/lockplay: $(SOURCES)
 	@$(call want,rt)
-	@rt check lockplay </dev/null >&2
-	@touch $@
+	@cd crates/lockplay && rt run </dev/null >&2
+	@mkdir -p target/bin
+	@cp crates/lockplay/out/lockplay $@
 
 # Build the library for C programs, libzamgyorud.a and its header, in target/lib.
 lib: target/lib/libzamgyorud.a target/lib/zamgyorud.h
 	@echo 'target/lib has libzamgyorud.a and zamgyorud.h, version $(VERSION)' >&2
 
-# The crates that C can call. Each gives the library one object, whose only global names are the header's functions.
-# `rt staticlib` proves what a crate uses one crate after the other. `rt check` does it two or more at a time.
+# The crates that C can call: the static libraries of crates.txt. `rt lib` proves each and what it stands on, where that is not done yet. It gives
+# the library one object, whose only global names are the header's functions; what the crates share stands in each object, under local names.
 C_CRATES := c_calls c_reads c_images
 target/lib/libzamgyorud.a: $(SOURCES)
 	@$(call want,rt)
 	@$(call want,$(AR))
-	@rt check $(foreach c,$(C_CRATES),$(shell sed -n 's/^$(c): *//p' crates.txt)) >&2
 	@rm -rf target/objects $@
 	@mkdir -p target/objects target/lib
-	@for c in $(C_CRATES); do rt staticlib $$c >&2 && (cd target/objects && $(AR) x ../staticlib/lib$$c.a) || exit 1; done
+	@for c in $(C_CRATES); do (cd crates/$$c && rt lib >&2) && (cd target/objects && $(AR) x ../../crates/$$c/out/lib$$c.a) || exit 1; done
 	@$(AR) rcs $@ $(C_CRATES:%=target/objects/%.o)
 
 target/lib/zamgyorud.h: include/zamgyorud.h

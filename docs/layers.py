@@ -48,7 +48,8 @@ def read_crates(path):
     """Each crate and the crates that it names."""
     with open(path) as f:
         lines = [line.split('#')[0].strip() for line in f]
-    named = dict(line.split(':') for line in lines if line)
+    # a crate's name, after which a static library's line says so; then what it uses
+    named = {line.split(':')[0].split()[0]: line.split(':')[1] for line in lines if line}
     return {name: [d for d in deps.split() if d in named] for name, deps in named.items()}
 
 

@@ -44,8 +44,9 @@ same 'the version of the Rust crate' "$version" "$(cargo metadata --no-deps --of
 soname=libzamgyorud.so.${version%%.*}
 same 'the shared library' "$prefix/lib/libzamgyorud.so.$version" "$(readlink -f "$prefix/lib/libzamgyorud.so")"
 same 'the link by its soname' "$prefix/lib/libzamgyorud.so.$version" "$(readlink -f "$prefix/lib/$soname")"
-same 'what the shared library exports' "$(sed -n '/^static/d; s/^[a-z].* \(zamgyorud_[a-z]*\)(.*/\1/p' include/zamgyorud.h | sort)" \
-    "$(nm -D --defined-only "$prefix/lib/libzamgyorud.so" | awk '{ print $3 }' | sort)"
+functions=$(sed -n '/^static/d; s/^[a-z].* \(zamgyorud_[a-z]*\)(.*/\1/p' include/zamgyorud.h | sort)
+same 'what the shared library exports' "$functions" "$(nm -D --defined-only "$prefix/lib/libzamgyorud.so" | awk '{ print $3 }' | sort)"
+same 'the global names of the archive' "$functions" "$(nm -g --defined-only "$prefix/lib/libzamgyorud.a" | awk 'NF == 3 { print $3 }' | sort)"
 
 # Whether a program asks the loader for the library.
 needed() {

@@ -4,10 +4,10 @@
     tests/pages.py          checks README.md and the pages of docs/ (not the landings' notes)
     tests/pages.py --fix    also writes the line counts of READING's reading order anew
 
-A name in backquotes is to be a word of the sources. `CRATE/FILE` is a file of specs/, `CRATE:FILE` one of proofs/, `CRATE::NAME` an item of the
-crate's code, `CRATE/label` a must-fail edit. Names before (`CRATE/FILE`) or (`CRATE:FILE`), and names in a table's column whose head ends so, are to
-be declared in that file. A statement, `law : ..`, is to stand so in the sources; .. in it is a gap. So is every paragraph of a block that is fenced
-as antt; line breaks don't count, nor does `pub`. READING.md has to name every must-fail edit once.
+A name in backquotes is to be a word of the sources, comments aside. `CRATE/FILE` is a file of specs/, `CRATE:FILE` one of proofs/, `CRATE::NAME` an
+item of the crate's code, `CRATE/label` a must-fail edit. Names before (`CRATE/FILE`) or (`CRATE:FILE`), and names in a table's column whose head ends
+so, are to be declared in that file. A statement, `law_name : ..`, is to stand so in the sources; .. in it is a gap. So is every paragraph of a block
+that is fenced as antt; line breaks don't count, nor does `pub`. READING.md has to name every must-fail edit once.
 Standard library alone.
 """
 import glob
@@ -17,12 +17,12 @@ import sys
 
 os.chdir(os.path.join(os.path.dirname(os.path.abspath(__file__)), '..'))
 PAGES = ['README.md'] + ['docs/%s.md' % p for p in ('ARCHITECTURE', 'CONTRIBUTING', 'READING', 'DECISIONS', 'MANUAL')]
-CRATES = {line.split(':')[0] for line in open('crates.txt') if ':' in line.split('#')[0]}
+CRATES = {line.split(':')[0].split()[0] for line in open('crates.txt') if ':' in line.split('#')[0]}
 
 # Words of the language, of the kit and of other tools.
-FOREIGN = set('''abbrev unfoldable unfolding elim record data where pub mod use now getD set cond eqb leb ltb length take drop map replicate
-requires ensures search needs omega arith rw cc simp refl subst sym absurd ruleset depth ghost rt rattle duplicates make cargo rustc perf static bool
-break read write wc grep git close before search-complete ldconfig python3'''.split())
+FOREIGN = set('''abbrev unfoldable unfolding elim record data where pub mod use now old new get_or set cond eqb leb ltb length take drop map replicate
+requires ensures result search rules grind omega arith rw cc simp refl subst sym absurd ruleset depth ghost axioms rt rattle duplicates make cargo
+rustc perf static bool break read write wc grep git ldconfig python3'''.split())
 
 WORD = r'[A-Za-z_][\w-]*'
 FILE = r'`([a-z_]+)([/:])([A-Z]\w*)`'
@@ -66,16 +66,22 @@ def edits():
     return ['docs/READING.md names the edit %s/%s %d times' % (e + (named.count(e),)) for e in there if named.count(e) != 1]
 
 
+def uncommented(path):
+    """A file without the comments of code, definitions and laws that have lines of their own: what they name need not be there."""
+    lines = read(path).splitlines()
+    return '\n'.join(x for x in lines if not x.strip().startswith(('--', '//'))) if path.endswith(('.rt', '.antt')) else '\n'.join(lines)
+
+
 def words():
     """All words of the sources, the files' names included."""
     found = set(CRATES)
     for root in ('crates', 'tests', 'rust', 'include', 'examples'):
         for folder, folders, files in os.walk(root):
-            folders[:] = [d for d in folders if d != 'target']
+            folders[:] = [d for d in folders if d not in ('target', 'out')]
             for name in files:
                 found.update(re.findall(WORD, os.path.splitext(name)[0]))
                 if name.endswith(('.rt', '.antt', '.edit', '.rs', '.h', '.c', '.sh', '.toml')):
-                    found.update(re.findall(WORD, read(os.path.join(folder, name))))
+                    found.update(re.findall(WORD, uncommented(os.path.join(folder, name))))
     found.update(re.findall(WORD, read('Makefile') + read('tests/all')))
     # the header's constants, which MANUAL.md names without their prefix
     found.update(['ZAMGYORUD_'] + re.findall(r'\bZAMGYORUD_(\w+)', read('include/zamgyorud.h')))
@@ -138,7 +144,7 @@ class Page:
         for name in re.findall(r'`(%s)`' % WORD, text):
             if name not in self.known and not (name.endswith('_') and any(c.startswith(name) for c in CRATES)):
                 self.fault('`%s` is no word of the sources' % name)
-        for statement in re.findall(r'`([a-z][\w-]*-[\w-]+ : [^`]+)`', text):
+        for statement in re.findall(r'`([a-z]\w*_\w+ : [^`]+)`', text):
             if not all(one_line(part) in self.laws for part in statement.split(' .. ')):
                 self.fault('no law is stated so: %s' % statement)
         # names that are said to stand in a file
