@@ -53,7 +53,7 @@ mark_locks (k ∷ ks) t m = mark_locks ks t (set m (lock t k).resource true)
 unfoldable pub mark_all : ℕ → List Bool → Tables → List Bool
 mark_all c m t = mark_locks (locks_of c t) t m
 
--- what they count for; of all the client's, `purge-counts` (rules/Calls)
+-- what they count for; of all the client's, `purge_counts` (rules/Calls)
 unfoldable pub count_locks : List ℕ → Tables → Counts
 count_locks ks t = record { freed = length ks; blocked = how_many blocked_lock ks t; unread = how_many unread ks t }
 

@@ -35,7 +35,7 @@ then_seven true true c d e f g h i q = q refl refl
 then_seven true false c d e f g h i q = refl
 then_seven false b c d e f g h i q = refl
 
--- what `fields-fine` and `links-fine` leave, by state: p are the first tests; f is that of the completion, m of the mark, b of the link on the blocked
+-- what `fields_fine` and `links_fine` leave, by state: p are the first tests; f is that of the completion, m of the mark, b of the link on the blocked
 -- chain, n of the notice chain
 free_left : (p f m b n : Bool) → (p && f && m && b && n) ≡ (((p && f && m) || false || false || false || false) && (b && (not f || not m || n)))
 free_left false f m b n = refl

@@ -70,20 +70,20 @@ pub record RunHolds (t : Lent) (us : List Turn) : Type 0 where
   pub queues : QueuesHold (lent_after_run t us).words (lent_after_run t us).slots
   pub sums : SumsHold (λ term. sum_of_run term us) (lent_after_run t us).words
 
--- THE QUEUE THEOREM ABOUT THE PROGRAM. `start` was lent t, of any content, accepted and left u; then any list of calls. Proved as `program-theorem`.
+-- THE QUEUE THEOREM ABOUT THE PROGRAM. `start` was lent t, of any content, accepted and left u; then any list of calls. Proved as `program_theorem`.
 abbrev pub ProgramTheorem : Type 0
 ProgramTheorem =
     (t : Lent) (r l : ℕ) (x : Done) (u : Lent) → outcome (answers.done x) u ≡ start_entry t r l → (answers.done x).refusal ≡ 0
     → (us : List Turn) → Run u us → RunHolds u us
 
--- THE MARKS THEOREM ABOUT THE PROGRAM: after every run, every further turn does to the marks what R-1 promises. Proved as `program-marks`.
+-- THE MARKS THEOREM ABOUT THE PROGRAM: after every run, every further turn does to the marks what R-1 promises. Proved as `program_marks`.
 abbrev pub ProgramMarks : Type 0
 ProgramMarks =
     (t : Lent) (r l : ℕ) (x : Done) (u : Lent) → outcome (answers.done x) u ≡ start_entry t r l → (answers.done x).refusal ≡ 0
     → (us : List Turn) → Run u us → (v : Turn) → Keeps v.call (lent_after_run u us) (said v) v.left
     → MarksRight v.call (lent_after_run u us) (outcome (said v) v.left)
 
--- EACH LOCK IS HEARD OF ONCE BY THE PROGRAM (R-3): after every run, every further turn opens and closes locks as R-3 promises. Proved as `program-heard`.
+-- EACH LOCK IS HEARD OF ONCE BY THE PROGRAM (R-3): after every run, every further turn opens and closes locks as R-3 promises. Proved as `program_heard`.
 abbrev pub ProgramHeard : Type 0
 ProgramHeard =
     (t : Lent) (r l : ℕ) (x : Done) (u : Lent) → outcome (answers.done x) u ≡ start_entry t r l → (answers.done x).refusal ≡ 0
@@ -106,7 +106,7 @@ pub record TurnsInOrder (t : Lent) : Type 0 where
       (r j k : ℕ) → Waits t.words r j → (Waits t.words r k → ⊥) → WaitsThroughRun r j vs q.left → WaitsThroughRun r k vs q.left →
       Waits v.left.words r j → granted (read_lock v.left.words k) ≡ false
 
--- after every run. Proved as `program-no-overtaking`.
+-- after every run. Proved as `program_no_overtaking`.
 abbrev pub ProgramNoOvertaking : Type 0
 ProgramNoOvertaking =
     (t : Lent) (r l : ℕ) (x : Done) (u : Lent) → outcome (answers.done x) u ≡ start_entry t r l → (answers.done x).refusal ≡ 0

@@ -18,7 +18,7 @@ read_occupancy ws r =
       counts = read_counts ws r;
     }
 
--- a new request of the mode m is granted at once. Of a state this is `granted-at-once` (rules/Calls)
+-- a new request of the mode m is granted at once. Of a state this is `granted_at_once` (rules/Calls)
 unfoldable pub admits_request : Occupancy → ℕ → Bool
 admits_request s m = eqb s.convert 0 && (eqb m NL || eqb s.wait 0) && goes_beside s.counts no_mode m
 
@@ -26,7 +26,7 @@ admits_request s m = eqb s.convert 0 && (eqb m NL || eqb s.wait 0) && goes_besid
 unfoldable pub admits_conversion : Occupancy → ℕ → ℕ → Bool
 admits_conversion s own m = down own m || (eqb s.convert 0 && goes_beside s.counts own m)
 
--- the lock that is next to be granted, whose record is l, gets what it asks for. Of a state this is `convert-grantable` and `wait-grantable`
+-- the lock that is next to be granted, whose record is l, gets what it asks for. Of a state this is `convert_grantable` and `wait_grantable`
 -- (tables/Grants)
 unfoldable pub admits_head : ModeCounts → Lock → Bool
 admits_head c l = goes_beside c (own_mode l) l.asked

@@ -129,7 +129,7 @@ three_in_use = refl
 conversion_taken_back : requests_cancelled (to_cancel 2 2) (accepted 1 0) ≡ 0
 conversion_taken_back = refl
 
--- THE DEMAND of these calls: they leave `three-left`, and their answers add up
+-- THE DEMAND of these calls: they leave `three_left`, and their answers add up
 pub three_locks_hold : Demand three_locks (lent_of (started 1 3))
 unfolding lent_after_calls sum_of begins_to_wait locks_that call_entry entry if_sound written_back started no_value lock resource shift shift_front relist move move_resource rows sheet by_address words slot slots follow read_chain read_lock slot_in read_resource read count remove all any keep first_that next same holders tally fits convert_grantable wait_grantable grantable_head no_grantable_head empty sizes_right zeros_right resource_index lock_index indices_right ends chain_ends chains_end all_zero free_resource_right name_unique used_resource_right resource_right stands_right home_right client_right modes_right on_resource fields_right lock_right linked_right holders_compatible counts_right state_right sound granted_lock grant_lock grant_while grant_converts grant_waits sweep free_lock settle find unless refused_or stores spoils no_queue request_flags convert_flags name_right value_right own strong with_value leave_value in_the_way obstacles larger mark_lock mark_locks tell_obstacles resource_for with_resource granted_at_once request_on request_change at_once request_refusal request in_place convert_change convert_refusal convert cancel_change cancel_refusal cancel matrix compatible all_modes down
 three_locks_hold = record { queues = three_hold; sums = record { balance = refl; heard_once = refl; heard_by_each = by_each } }
@@ -150,7 +150,7 @@ all_ways =
     requests_a 1 EX ∷ requests_a 2 EX ∷ requests_a 3 EX ∷ requests_a 4 EX ∷ requests_a 5 EX ∷ to_cancel 5 5 ∷ gives_up 1 1 ∷ to_poll 2 ∷ gives_up 2 2
     ∷ to_purge 3 ∷ requests_a 1 EX ∷ to_purge 1 ∷ requests_a 2 EX ∷ []
 
--- it is computed on states, which is quicker, and carried over by `outcome-is`
+-- it is computed on states, which is quicker, and carried over by `outcome_is`
 unfoldable summed : (Call → Said → ℕ) → List Call → Tables → ℕ
 summed term [] t = 0
 summed term (c ∷ cs) t = let s = step_of c t in term c s.said + summed term cs s.tables

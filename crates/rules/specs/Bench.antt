@@ -257,7 +257,7 @@ mistakes =
 abbrev pub fresh : Lent → Lent
 fresh t = (start_entry t 4 8).lent_after
 
--- THE M TABLE HOLDS, and what stands beside it: proved as `bench-holds` and `mistakes-hold`
+-- THE M TABLE HOLDS, and what stands beside it: proved as `bench_holds` and `mistakes_hold`
 abbrev pub Answered : List (List BenchLine) → Type 0
 Answered xss = (t : Lent) → (start_entry t 4 8).said.refusal ≡ 0 → all_right xss (fresh t) ≡ true
 

@@ -128,7 +128,7 @@ abbrev pub queued : ℕ → ℕ → ℕ → Lock
 queued r c m = new_lock r c state_waiting 0 m
 
 -- what a new request needs: "the convert chain is empty and the mode is compatible with every held mode", and since R-2 "the wait chain is empty as
--- well. NL is excepted, since it holds nobody up". A wait head needs less: `wait-grantable`.
+-- well. NL is excepted, since it holds nobody up". A wait head needs less: `wait_grantable`.
 unfoldable pub granted_at_once : Tables → ℕ → ℕ → Bool
 granted_at_once t r m = null (resource t r).convert && (eqb m NL || null (resource t r).wait) && fits t r 0 m
 

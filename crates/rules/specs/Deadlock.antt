@@ -53,6 +53,6 @@ pub record Victim (t : Tables) (k : ℕ) : Type 0 where
 pub record NoCycle (t : Tables) : Type 0 where
   pub none : (a : ℕ) → 1 ≤ count a t.blocked → Walk (leads t) t.blocked a a → ⊥
 
--- a lock is the victim exactly then, and there is none exactly if there is no cycle. Proved as `victim-found`.
+-- a lock is the victim exactly then, and there is none exactly if there is no cycle. Proved as `victim_found`.
 abbrev pub VictimFound : Type 0
 VictimFound = (t : Tables) → Core t → ((k : ℕ) → (victim t ≡ suc k) ↔ Victim t (suc k)) × ((victim t ≡ 0) ↔ NoCycle t)

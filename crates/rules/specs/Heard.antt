@@ -49,7 +49,7 @@ pub record HeardRight (c : Call) (t : Lent) (o : Outcome) : Type 0 where
   pub counted : (i : ℕ) → c ≡ to_purge i → o.said.refusal ≡ 0 →
       (o.said.number ≡ locks_of_client i blocked_lock t.words) × (o.said.extra ≡ locks_of_client i unread t.words)
 
--- THE THEOREM: it holds of every call after every list of calls on the tables that `start` leaves. Proved as `heard-theorem`.
+-- THE THEOREM: it holds of every call after every list of calls on the tables that `start` leaves. Proved as `heard_theorem`.
 abbrev pub HeardAfter : List Call → Call → Lent → Type 0
 HeardAfter cs c t = let u = lent_after_calls cs t in HeardRight c u (call_entry c u)
 

@@ -8,7 +8,7 @@ use Rattle.rules.specs.Calls.{Said, larger}
 use Rattle.rules.specs.Entries.{Lent, Outcome, Call, kind, same_kind, a_poll, to_request, to_convert, to_release, to_cancel, to_purge, to_break, to_poll, call_entry, start_entry}
 use Rattle.rules.specs.Theorem.{begins_to_wait, lent_after_calls, IsLock, keeps_out}
 
--- THE CALL. "When a request or conversion answers 2" (`begins-to-wait`): the lock that waits then, and the mode that it asks for
+-- THE CALL. "When a request or conversion answers 2" (`begins_to_wait`): the lock that waits then, and the mode that it asks for
 abbrev pub asking_lock : Call → Said → ℕ
 asking_lock (to_request c m f n) x = x.number
 asking_lock (to_convert c k m f v) x = k
@@ -77,7 +77,7 @@ pub record MarksRight (c : Call) (t : Lent) (o : Outcome) : Type 0 where
       (c ≡ to_poll (lock_before t j).client) × (o.said.extra ≡ (lock_before t j).mark) × ((lock_after o j).mark ≡ mark_none)
 
 -- THE MARKS THEOREM: it holds of every call after every list of calls on the tables that `start` leaves. So a mark that was set and is gone was answered
--- by a poll of its lock's client, or its lock was freed. Proved as `marks-theorem`.
+-- by a poll of its lock's client, or its lock was freed. Proved as `marks_theorem`.
 abbrev pub MarksAfter : List Call → Call → Lent → Type 0
 MarksAfter cs c t = let u = lent_after_calls cs t in MarksRight c u (call_entry c u)
 

@@ -71,7 +71,7 @@ pub record NoOvertaking (t : Lent) : Type 0 where
       let o = call_entry c (lent_after_calls cs (call_entry q t).lent_after) in
       Waits (words_after o) r j → granted (lock_after o k) ≡ false
 
--- THE THEOREM: it holds of the tables that any list of calls leaves, from those that `start` leaves. Proved as `no-overtaking`.
+-- THE THEOREM: it holds of the tables that any list of calls leaves, from those that `start` leaves. Proved as `no_overtaking`.
 abbrev pub NoOvertakingTheorem : Type 0
 NoOvertakingTheorem =
     (t : Lent) (r l : ℕ) → (start_entry t r l).said.refusal ≡ 0 → (cs : List Call) → NoOvertaking (lent_after_calls cs (start_entry t r l).lent_after)

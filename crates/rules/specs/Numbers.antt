@@ -23,7 +23,7 @@ listing_said x = record { refusal = x.refusal; answer = x.count; number = 0; ext
 abbrev pub imaged_said : Imaged → Said
 imaged_said x = record { refusal = x.refusal; answer = 0; number = 0; extra = 0 }
 
--- THE LAW: so small are they whatever an entry is lent. Proved as `numbers-small`.
+-- THE LAW: so small are they whatever an entry is lent. Proved as `numbers_small`.
 pub record NumbersSmall : Type 0 where
   pub of_call : (c : Call) (t : Lent) → Small (call_entry c t).said
   pub of_start : (t : Lent) (r l : ℕ) → Small (start_entry t r l).said

@@ -173,7 +173,7 @@ pub record Demand (cs : List Call) (t : Lent) : Type 0 where
   pub queues : QueuesHold (lent_after_calls cs t).words (lent_after_calls cs t).slots
   pub sums : SumsHold (λ term. sum_of term cs t) (lent_after_calls cs t).words
 
--- THE QUEUE THEOREM: it holds of every list of calls on the tables that `start` leaves, wherever it accepts. Proved as `queue-theorem`.
+-- THE QUEUE THEOREM: it holds of every list of calls on the tables that `start` leaves, wherever it accepts. Proved as `queue_theorem`.
 abbrev pub QueueTheorem : Type 0
 QueueTheorem =
     (t : Lent) (r l : ℕ) → (start_entry t r l).said.refusal ≡ 0 → (cs : List Call) → Demand cs (start_entry t r l).lent_after

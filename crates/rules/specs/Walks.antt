@@ -13,7 +13,7 @@ pub data Walk (leads : ℕ → ℕ → Bool) (nodes : List ℕ) : ℕ → ℕ �
   step : (a b : ℕ) → leads a b ≡ true → Walk leads nodes a b
   through : (a c b : ℕ) → 1 ≤ count c nodes → leads a c ≡ true → Walk leads nodes c b → Walk leads nodes a b
 
--- THE SEARCH IS COMPLETE: as many steps as there are nodes find a walk of any length. Proved as `search-complete`.
+-- THE SEARCH IS COMPLETE: as many steps as there are nodes find a walk of any length. Proved as `search_complete`.
 abbrev pub SearchComplete : Type 0
 SearchComplete =
     (leads : ℕ → ℕ → Bool) (nodes : List ℕ) (a b : ℕ) → 1 ≤ count a nodes → (reaches leads nodes (length nodes) a b ≡ true) ↔ Walk leads nodes a b
