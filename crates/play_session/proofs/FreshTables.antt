@@ -7,7 +7,7 @@ use borrow.Author.Tests.{eq-eqb}
 use borrow.Author.Rules.{rules}
 use lib.ListN.{length}
 use Rattle.tables.specs.Layout.{size, slot_width}
-use Rattle.rules.specs.Entries.{Lent, lent, Outcome, outcome, start_accepts, start_if, start_entry}
+use Rattle.rules.specs.Entries.{lent, Outcome, outcome, start_accepts, start_if, start_entry}
 use Rattle.answers.specs.declared.Done.{Done}
 use Rattle.answers.specs.Answers.{done}
 use Rattle.play_session.specs.Sessions.{Lengths, fresh_tables, played_resources, played_locks}

@@ -1,4 +1,3 @@
-use Prim.Native.Nat.{◌-◌}
 use Rattle.play_session.proofs.Sessions.{chunk_rules}
 use Rattle.play_session.proofs.play_bytes.Goals as goal
 
