@@ -171,11 +171,11 @@ fn stack_table(page: &mut String) {
          object, and the same by a run: `tests/stack_test.c` paints a thread's stack and makes the call on tables of two sizes whose search passes \
          every lock. R-4 made it smaller: lock numbers have 16 bits, and the owners in a lock's way are found by a walk along the holders and no \
          longer written down in each level. The arrays of the whole search take more than before: they have links and lists now.\n\n\
-         | | before R-4 | now |\n|---|--:|--:|\n\
-         | a level of the recursion | 448 | 176 |\n\
-         | of it arrays | 256 | 0 |\n\
-         | break at its deepest, 1,024 locks that are all blocked | 466,135 | 198,527 |\n\
-         | break that finds no deadlock | 12,711 | 20,903 |\n",
+         | | before R-4, older kit | R-4, older kit | rattle-kit-13f |\n|---|--:|--:|--:|\n\
+         | a level of the recursion | 448 | 176 | 96 |\n\
+         | of it arrays | 256 | 0 | 0 |\n\
+         | break at its deepest, 1,024 locks that are all blocked | 466,135 | 198,527 | 116,471 |\n\
+         | break that finds no deadlock | 12,711 | 20,903 | 20,855 |\n",
     );
 }
 
@@ -191,8 +191,8 @@ fn required_form(page: &mut String, results: &Results) {
     }
     page.push_str(
         ".\n\n\
-         Document 01 asks that grants are decided by a constant table of 64 by 6 entries. The language has no constant in memory, so the compiler \
-         builds the 384 bytes on the stack at each use. That is 20 to 25 ns a decision, where masks take 2: on the smallest tables more than the \
+         Document 01 asks that grants are decided by a constant table of 64 by 6 entries. The compiler builds its 384 bytes on the stack at each \
+         use. That is 20 to 25 ns a decision, where masks take 2: on the smallest tables more than the \
          library's lead. A request pays it where somebody holds a mode on its name, unless it has to queue behind others; a conversion that is \
          not down; release, cancel and purge where the sweep finds a head, and break where its sweep finds a head. Where nobody holds a mode, the \
          table is not asked. The soundness check asks masks.\n",
