@@ -53,14 +53,14 @@ pub data Known (ws lasts : List ℕ) (j : ℕ) : Type 0 where
   holds_there : (a : ℕ) → 1 ≤ count a (seen ws).blocked → get_or lasts (lock (seen ws) a).resource 0 ≢ 0 → 1 ≤ count j (holders (seen ws) (lock (seen ws) a).resource) → Known ws lasts j
 
 -- the numbers of j and b tell whether they have the same owner
-abbrev pub Tells_owners : List ℕ → List ℕ → ℕ → ℕ → Type 0
-Tells_owners ws ls j b = (link_of ls j 2 ≡ link_of ls b 2) ↔ (owner (lock (seen ws) j) ≡ owner (lock (seen ws) b))
+abbrev pub TellsOwners : List ℕ → List ℕ → ℕ → ℕ → Type 0
+TellsOwners ws ls j b = (link_of ls j 2 ≡ link_of ls b 2) ↔ (owner (lock (seen ws) j) ≡ owner (lock (seen ws) b))
 
 -- the numbers are small, an owner of a blocked lock has one from 1 on, and no other owner has the same
 pub record Numbered (ws lasts ls : List ℕ) : Type 0 where
   pub some : (b : ℕ) → 1 ≤ count b (seen ws).blocked → 1 ≤ link_of ls b 2
   pub small : (j : ℕ) → link_of ls j 2 ≤ locks_in ws
-  pub same : (j b : ℕ) → Known ws lasts j → 1 ≤ count b (seen ws).blocked → Tells_owners ws ls j b
+  pub same : (j b : ℕ) → Known ws lasts j → 1 ≤ count b (seen ws).blocked → TellsOwners ws ls j b
 
 -- the place of k on the blocked chain
 unfoldable pub place_of : List ℕ → ℕ → ℕ
@@ -94,7 +94,7 @@ pub record Looker (ws ls : List ℕ) (k : ℕ) : Type 0 where
   pub stands : 1 ≤ count k (seen ws).blocked
   pub ahead : link_of ls k 0 ≡ nearest (seen ws) k
   pub holder : link_of ls k 1 ≡ cond (looks (seen ws) k) (first (obstacles (seen ws) k)) 0
-  pub same : (j b : ℕ) → 1 ≤ count j (holders (seen ws) (lock (seen ws) k).resource) → 1 ≤ count b (seen ws).blocked → Tells_owners ws ls j b
+  pub same : (j b : ℕ) → 1 ≤ count j (holders (seen ws) (lock (seen ws) k).resource) → 1 ≤ count b (seen ws).blocked → TellsOwners ws ls j b
   pub chained : Chained ws ls (lock (seen ws) k).resource
 
 -- and of all that have no mark in m

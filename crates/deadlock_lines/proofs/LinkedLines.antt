@@ -137,7 +137,7 @@ module _ {ws : List ℕ} {h start ahead : ℕ} {met₀ met ls₀ ls : List ℕ} 
         written = sym (i.whole ∙ rw none);
       }
 
-pub ruleset Chain_laws = (rules, walk_less, linking_starts, linking_faces, linking_again, linking_ends)
+pub ruleset chain_laws = (rules, walk_less, linking_starts, linking_faces, linking_again, linking_ends)
 
 -- ---- a line: the convert chain, then the wait chain
 

@@ -201,7 +201,7 @@ module _ {ws : List ℕ} {m₀ m : List Bool} {first k : ℕ} (i : ChainAt ws m�
   pub chain_ends : k ≡ 0 → ChainCleared ws m₀ m first
   chain_ends e = record { cleared = i.chain.cleared; kept = i.kept; all = λ j h. i.all j h (rw (e, walk_ends ws 0) (count_nil j)) }
 
-pub ruleset Chain_laws = (rules, chain_starts, chain_place, chain_fits, chain_less, chain_again, chain_ends)
+pub ruleset chain_laws = (rules, chain_starts, chain_place, chain_fits, chain_less, chain_again, chain_ends)
 
 -- ---- one line
 

@@ -114,7 +114,7 @@ module _ (ws₀ ss₀ xs₀ out₀ : List ℕ) (s : Line) (chunk : List ℕ) whe
         → length ds ≡ length ws → length es ≡ length ss → length ys ≡ length xs
         → Along ws₀ ss₀ xs₀ out₀ s chunk ds es ys zs q (i + 1)
     unfolding fed_all
-    along_next h ds es ys zs q f words_kept Slots_kept buffer_kept =
+    along_next h ds es ys zs q f words_kept slots_kept buffer_kept =
         let d : drop i chunk ≡ get_or chunk i 0 ∷ drop (i + 1) chunk = rw (add-one i) (drop-cons chunk i 0 h) in
         let m = f.1.most in
         record {
@@ -128,7 +128,7 @@ module _ (ws₀ ss₀ xs₀ out₀ : List ℕ) (s : Line) (chunk : List ℕ) whe
           space = a.space;
           out_long = f.1.long ∙ a.out_long;
           words_long = words_kept ∙ a.words_long;
-          slots_long = Slots_kept ∙ a.slots_long;
+          slots_long = slots_kept ∙ a.slots_long;
           buffer_long = buffer_kept ∙ a.buffer_long;
         }
 

@@ -75,11 +75,11 @@ after_same g h e a =
 
 -- a lock of a sound state changes, and its resource is settled, swept or left. One that waited is then neither granted nor blocked.
 module _ (t : Tables) (c : Core t) (r k : ℕ) (m : Lock) (rest : (s : ℕ) → s ≢ r → Settled t s)
-    (w : within (length t.locks) k ≡ true) (near_old : Near r (lock t k)) (Near_new : Near r m)
+    (w : within (length t.locks) k ≡ true) (near_old : Near r (lock t k)) (near_new : Near r m)
     (ok : LockOk (used t) m) (fit : holds m ≡ true → Fits t m.resource k m.held)
     (drops : waiting (lock t k) ≡ true → (granted m ≡ false) × (blocked_lock m ≡ false)) where
   pub moved : Core (move r k m t)
-  moved = core_move r k m t c w near_old Near_new ok fit
+  moved = core_move r k m t c w near_old near_new ok fit
 
   dropped : (t' : Tables) → Settles r (move r k m t) t' → waiting (lock t k) ≡ true → (granted (lock t' k) ≡ false) × (waiting (lock t' k) ≡ false)
   dropped t' s z =
@@ -91,7 +91,7 @@ module _ (t : Tables) (c : Core t) (r k : ℕ) (m : Lock) (rest : (s : ℕ) → 
   after t' s =
       record {
         valid = record { core = s.core; settled = λ q. by_equal q r (λ e. rw e s.here) (λ n. s.others q n (settled_other t c r k m near_old q n (rest q n))) };
-        in_order = λ q. moved_order r k m t t' c w near_old Near_new ok (dropped t' s) q (s.fronts q);
+        in_order = λ q. moved_order r k m t t' c w near_old near_new ok (dropped t' s) q (s.fronts q);
         weighs = λ f y j. s.weighs f y j ∙ ap f (move_instead r k m t w j);
         locks_are = s.locks_same ∙ locks_length r k m t;
         resources_are = s.resources_same ∙ resources_length r k m t;

@@ -50,9 +50,9 @@ pub moved_order : (r k : ℕ) (m : Lock) (t t' : Tables) → Core t → within (
     (waiting (lock t k) ≡ true → (granted (lock t' k) ≡ false) × (waiting (lock t' k) ≡ false)) →
     (s : ℕ) → FromFront (resource (move r k m t) s).wait (resource t' s).wait → InOrder t t' s
 unfolding shift
-moved_order r k m t t' c w near_old Near_new ok drops s f =
+moved_order r k m t t' c w near_old near_new ok drops s f =
     go (waiting (lock t k) && eqb (lock t k).resource s) (waiting m && eqb m.resource s)
-    (chain_move r k m t (c.lock_ok k) ok near_old Near_new (queue s waits)) (rw w at (c.linked (queue s waits) k))
+    (chain_move r k m t (c.lock_ok k) ok near_old near_new (queue s waits)) (rw w at (c.linked (queue s waits) k))
   where
     go : (a b : Bool) → (resource (move r k m t) s).wait ≡ shift a b k (resource t s).wait → count k (resource t s).wait ≡ bit a → InOrder t t' s
     go true true e z = nobody_leaves t (move r k m t) t' s e f

@@ -76,9 +76,9 @@ module _ (w : ℕ) (g : ℕ → ℕ → ℕ) (n : ℕ) where
   unfolding rows
   length_rows = length_blocks w (λ k. row w (g k)) (λ k. length_row w (g k)) 1 n
 
-  pub get_d_rows : (k i : ℕ) → k < n → i < w → get_or (rows w g n) (w * k + i) 0 ≡ g (suc k) i
+  pub get_or_rows : (k i : ℕ) → k < n → i < w → get_or (rows w g n) (w * k + i) 0 ≡ g (suc k) i
   unfolding rows
-  get_d_rows k i p q =
+  get_or_rows k i p q =
       getD_blocks w (λ k. row w (g k)) (λ k. length_row w (g k)) n 1 k i p q ∙ getD_row w (g (1 + k)) i q ∙ ap (λ (m : ℕ). g m i) (omega arith)
 
 -- a list is known by its elements, numbered from a

@@ -10,7 +10,7 @@ use native.Mathlib.Decide.{dec_lt, ℕ_discrete}
 use lib.ListN.{get_or, set, length, get_or-append, length-append, length-set}
 use lib.Seq.{get_or-set_same, get_or-set_other, ext_get_or}
 use Rattle.tables.specs.Layout.{header_width, resource_width, lock_width, Address, of_header, of_resource, of_lock, Address_discrete, place, size, row, rows, sheet, by_address}
-use Rattle.tables.proofs.Blocks.{getD_second, length_row, getD_row, length_rows, get_d_rows}
+use Rattle.tables.proofs.Blocks.{getD_second, length_row, getD_row, length_rows, get_or_rows}
 use Rattle.tables.specs.Threads.{Within}
 use Rattle.tables.specs.Stores.{store_run}
 
@@ -55,14 +55,14 @@ module _ (u v w : ℕ) (f : ℕ → ℕ) (g h : ℕ → ℕ → ℕ) (r l : ℕ)
       let room = mul-le-mul_left v p in
       getD_second (row u f) _ _ (v * k + i) (rw length_row (omega arith))
       ∙ get_or-append (rows v g r) _ 0 (v * k + i) (rw length_rows (omega arith))
-      ∙ get_d_rows v g r k i p q
+      ∙ get_or_rows v g r k i p q
 
   sheet_tail : (k i : ℕ) → k < l → i < w → get_or (sheet u v w f g h r l) (u + v * r + w * k + i) 0 ≡ h (suc k) i
   unfolding sheet
   sheet_tail k i p q =
       getD_second (row u f) _ _ (v * r + (w * k + i)) (rw length_row (omega arith))
       ∙ getD_second (rows v g r) _ _ (w * k + i) (rw length_rows)
-      ∙ get_d_rows w h l k i p q
+      ∙ get_or_rows w h l k i p q
 
 module _ (r l : ℕ) where
   pub place_size : (a : Address) → Within r l a → place r a < size r l

@@ -3,7 +3,7 @@ use mathlib.Core.Path.{◌≡◌, refl, sym, ◌∙◌, ap}
 use mathlib.Core.Logic.{◌≢◌}
 use mathlib.Core.Bool.{Bool, true, false}
 use mathlib.Core.List.{List, [], ◌∷◌, ◌++◌}
-use Prim.Native.Nat.{ℕ, zero, suc, ◌+◌, ◌≤◌}
+use Prim.Native.Nat.{ℕ, zero, suc, ◌≤◌}
 use native.Mathlib.Omega.{arith}
 use lib.ListN.{length}
 use lib.Seq.{ext_get_or}
@@ -137,9 +137,9 @@ module _ (k : ℕ) (m : Lock) (t : Tables) (core : Core t) (in_range : within (l
   chain_steps notices p = notices_move _ _ t whole k m low high new
   chain_steps (queue s q) p = homed_steps (queue s q) tt p
 
-  module _ (r : ℕ) (near_old : Near r (lock t k)) (Near_new : Near r m) where
+  module _ (r : ℕ) (near_old : Near r (lock t k)) (near_new : Near r m) where
     same_chain : (c : LockChain) → Present t (of_locks c) → chain (move r k m t) c ≡ chain (move_steps k m t) c
-    same_chain c p = chain_move r k m t (core.lock_ok k) ok near_old Near_new c ∙ sym (chain_steps c p)
+    same_chain c p = chain_move r k m t (core.lock_ok k) ok near_old near_new c ∙ sym (chain_steps c p)
 
     same_rest : {B : Type 0} (f : Resource → B) → ((l : Lock) (x : Resource) → f (relist k l m x) ≡ f x) → ((q : Queue) (xs : List ℕ) (x : Resource) → f (with_queue q xs x) ≡ f x)
         → (s : ℕ) → f (resource (move r k m t) s) ≡ f (resource (move_steps k m t) s)
@@ -174,9 +174,9 @@ module _ (k : ℕ) (m : Lock) (t : Tables) (core : Core t) (in_range : within (l
       notices = same_chain notices (omega arith) i;
     }
 
-module _ (r k : ℕ) (m : Lock) (t : Tables) (core : Core t) (in_range : within (length t.locks) k ≡ true) (near_old : Near r (lock t k)) (Near_new : Near r m) (ok : LockOk (used t) m) where
+module _ (r k : ℕ) (m : Lock) (t : Tables) (core : Core t) (in_range : within (length t.locks) k ≡ true) (near_old : Near r (lock t k)) (near_new : Near r m) (ok : LockOk (used t) m) where
   pub move_is_steps : move r k m t ≡ move_steps k m t
-  move_is_steps = steps_are k m t core in_range ok r near_old Near_new
+  move_is_steps = steps_are k m t core in_range ok r near_old near_new
 
   -- whatever the counts are
   pub moved_with : (ct : Counts) → words_with ct (move r k m t) ≡ move_cells (length t.resources) (length t.locks) k (lock t k) m (words_with ct t)

@@ -9,7 +9,7 @@ use lib.ListN.{length, take, drop}
 use lib.Dec.{eqb}
 use borrow.Author.Tests.{eqb-true, eq-eqb, ne_eqb, leb-true, le-leb, not-true}
 use Rattle.tables.specs.Lists.{within, count, bit, from, null}
-use Rattle.tables.specs.State.{Lock, Tables, name_width, no_lock, lock, resource, blocked_lock, noticed, Queue, grants, converts, waits, LockChain, free_locks, denied, blocked, notices, queue, Chain, free_resources, of_locks, chain, home_at, home, belongs}
+use Rattle.tables.specs.State.{Lock, Tables, name_width, no_lock, lock, resource, blocked_lock, noticed, Queue, grants, converts, waits, LockChain, free_locks, denied, blocked, notices, queue, Chain, of_locks, chain, home_at, home, belongs}
 use Rattle.tables.specs.Layout.{resource_width, lock_width, of_resource, of_lock, head, count_field, resources_in, locks_in, word_in, most, link_in, read_chain, read_lock, slot_in, read}
 use Rattle.tables.specs.Grants.{empty}
 use Rattle.tables.specs.Sound.{indices_right, ends, chain_ends, all_zero, free_resource_right, used_resource_right, resource_right, stands_right, home_right, lock_right, sound}

@@ -11,8 +11,8 @@ use borrow.Author.Tests.{eqb-true, eq-eqb, ne_eqb, leb-true, not-true}
 use Rattle.modes.specs.Modes.{compatible}
 use Rattle.tables.specs.Lists.{within, count, bit, all, null, next}
 use Rattle.tables.specs.State.{Lock, name_width, value_width, no_value, no_resource, lock, resource, holds, Queue, grants, converts, waits, LockChain, free_locks, denied, blocked, notices, queue, queue_of, Chain, free_resources, of_locks, chain, chain_of, home_at, belongs}
-use Rattle.tables.specs.Layout.{resource_width, Address, queue_head, count_field, of_header, of_resource, of_lock, place, head, word_value, content, by_address, words, slots, resources_in, locks_in, word_in, link_in, read_lock, slot_in, read}
-use Rattle.tables.specs.Grants.{tally, holders, empty}
+use Rattle.tables.specs.Layout.{resource_width, Address, queue_head, count_field, of_header, of_resource, of_lock, head, word_value, content, by_address, words, slots, resources_in, locks_in, word_in, link_in, read_lock, slot_in, read}
+use Rattle.tables.specs.Grants.{holders, empty}
 use Rattle.tables.specs.Sound.{free_resource_right, name_unique, used_resource_right, holders_compatible, sound}
 use Rattle.tables.proofs.Cases.{by_cases, clash, eqb_same, parts}
 use Rattle.tables.proofs.Counts.{within_le, le_within, count_nil, all_at, null_length}
@@ -28,7 +28,6 @@ use Rattle.tables.proofs.ReadState.{resources_read, locks_read, lock_of, zeros_a
 use Rattle.tables.proofs.Tallies.{count_word}
 use Rattle.tables.proofs.Conditions.{names_differ, resources_low, resources_high, locks_low, locks_high, words_sized, slots_sized, header_zero, counts_true, chain_inside, chain_links, by_use, name_short, name_zeros, slot_wide, name_is, name_length, value_is, valid_is, fields_tested, stands_as, blocked_off, notice_off, compatible_tested, heads_tested}
 use Rattle.tables.proofs.Fields.{fields_are}
-use Rattle.tables.specs.Stores.{words_with}
 
 nobody_zero : (n : ℕ) (xs : List ℕ) → Each (λ k. (1 ≤ k) × (k ≤ n)) xs → (k : ℕ) → within n k ≡ false → count k xs ≡ 0
 nobody_zero n xs e k w = absent_count k xs (each_absent (λ k. (1 ≤ k) × (k ≤ n)) xs k e (λ m. clash (within n k) (le_within n k m.0 m.1) w))

@@ -92,7 +92,7 @@ tally_empty t r h e = go (resource t r).grant (resource t r).convert (and_left _
     go (x ∷ xs) ys p q = clash false p refl
 
 -- A MOVE. What it does to the count of each mode on each resource
-module _ (r k : ℕ) (m : Lock) (t : Tables) (core : Core t) (in_range : within (length t.locks) k ≡ true) (near_old : Near r (lock t k)) (Near_new : Near r m) (ok : LockOk (used t) m) where
+module _ (r k : ℕ) (m : Lock) (t : Tables) (core : Core t) (in_range : within (length t.locks) k ≡ true) (near_old : Near r (lock t k)) (near_new : Near r m) (ok : LockOk (used t) m) where
   -- k leaves a queue of s or joins it, and holds another mode
   module _ (s h : ℕ) (q : Queue) where
     queue_tally : chain (move r k m t) (queue s q) ≡ shift (belongs (queue s q) (lock t k)) (belongs (queue s q) m) k (chain t (queue s q))
@@ -115,8 +115,8 @@ module _ (r k : ℕ) (m : Lock) (t : Tables) (core : Core t) (in_range : within 
 
   pub tally_move : (s h : ℕ) → tally (move r k m t) s h + bit (holds_mode (lock t k) s h) ≡ tally t s h + bit (holds_mode m s h)
   tally_move s h =
-      let a = queue_tally s h grants (chain_move r k m t (core.lock_ok k) ok near_old Near_new (queue s grants)) in
-      let b = queue_tally s h converts (chain_move r k m t (core.lock_ok k) ok near_old Near_new (queue s converts)) in
+      let a = queue_tally s h grants (chain_move r k m t (core.lock_ok k) ok near_old near_new (queue s grants)) in
+      let b = queue_tally s h converts (chain_move r k m t (core.lock_ok k) ok near_old near_new (queue s converts)) in
       omega (arith, a, b, parted (move r k m t) s h, parted t s h, either (lock t k) s h, either m s h)
 
   tally_counts : (s h : ℕ) → bit (holds_mode (lock t k) s h) ≤ tally t s h

@@ -164,7 +164,7 @@ count_enter_other (queue r grants) = count_shift_other
 count_enter_other (queue r converts) = count_shift_other
 count_enter_other (queue r waits) = count_shift_other
 
-module _ (r k : ℕ) (m : Lock) (t : Tables) (ok_old : LockOk (used t) (lock t k)) (ok_new : LockOk (used t) m) (near_old : Near r (lock t k)) (Near_new : Near r m) where
+module _ (r k : ℕ) (m : Lock) (t : Tables) (ok_old : LockOk (used t) (lock t k)) (ok_new : LockOk (used t) m) (near_old : Near r (lock t k)) (near_new : Near r m) where
   away : (l : Lock) → Near r l → (s : ℕ) → s ≢ r → used t s ≡ true → l.resource ≢ s
   away l near s n u q = n (sym q ∙ near (λ z. clash (used t 0) (rw (sym q ∙ z) at u) (used_zero t)))
 
@@ -177,9 +177,9 @@ module _ (r k : ℕ) (m : Lock) (t : Tables) (ok_old : LockOk (used t) (lock t k
   home_move n home f relisted s =
       by_equal s r
       (λ e. rw e (by_cases (within (length t.resources) r)
-      (λ w. rw (resource_same r k m t w, here n home (used t) (lock t k) ok_old r (used_zero t) near_old, here n home (used t) m ok_new r (used_zero t) Near_new) (relisted _))
+      (λ w. rw (resource_same r k m t w, here n home (used t) (lock t k) ok_old r (used_zero t) near_old, here n home (used t) m ok_new r (used_zero t) near_new) (relisted _))
       (λ w. rw (out_of_range r k m t w, off n home (used t) (lock t k) ok_old r (nowhere (lock t k) w), off n home (used t) m ok_new r (nowhere m w)))))
-      (λ e. rw (resource_other r k m t s e, off n home (used t) (lock t k) ok_old s (away (lock t k) near_old s e), off n home (used t) m ok_new s (away m Near_new s e)))
+      (λ e. rw (resource_other r k m t s e, off n home (used t) (lock t k) ok_old s (away (lock t k) near_old s e), off n home (used t) m ok_new s (away m near_new s e)))
 
   -- what a move does to each chain
   pub chain_move : (c : LockChain) → chain (move r k m t) c ≡ enter c (belongs c (lock t k)) (belongs c m) k (chain t c)
@@ -236,13 +236,13 @@ Fits t r k m = (j : ℕ) → j ≢ k → holds (lock t j) ≡ true → (lock t j
 -- a lock's record changes: the one law that all calls rest on
 pub core_move : (r k : ℕ) (m : Lock) (t : Tables) → Core t → within (length t.locks) k ≡ true → Near r (lock t k) → Near r m →
     LockOk (used t) m → (holds m ≡ true → Fits t m.resource k m.held) → Core (move r k m t)
-core_move r k m t c w near_old Near_new ok fit =
+core_move r k m t c w near_old near_new ok fit =
     record {
       resources_low = rw (resources_length r k m t) c.resources_low;
       resources_high = rw (resources_length r k m t) c.resources_high;
       locks_low = rw (locks_length r k m t) c.locks_low;
       locks_high = rw (locks_length r k m t) c.locks_high;
-      linked = linked_move r k m t (c.lock_ok k) ok near_old Near_new w c.linked;
+      linked = linked_move r k m t (c.lock_ok k) ok near_old near_new w c.linked;
       spare = λ s. rw (resources_length r k m t, name_is s) (unfold move in c.spare s);
       lock_ok = locks_ok;
       resource_ok = λ s. same_resource_ok (resource t s) _ (name_is s) (field_move r k m t (λ (x : Resource). x.value) (unfold relist in λ l x. refl) s) (field_move r k m t (λ (x : Resource). x.valid) (unfold relist in λ l x. refl) s) (c.resource_ok s);

@@ -15,12 +15,8 @@ move_lock-requires-2 c = search enter_laws
 
 pub tell_obstacles-requires : goal.tell_obstacles-requires
 tell_obstacles-requires c =
-    let d = c in
-    enter_begins _ _ _ _ _ _ _ _ d.move_lock-2.ensures.moved d.queued.ensures d.requires
+    enter_begins _ _ _ _ _ _ _ _ c.move_lock-2.ensures.moved c.queued.ensures c.requires
 
 pub returns : goal.returns
 returns c =
-    let e = c in
-    let d = e in
-    let b = d in
-    enter_waits _ _ _ _ _ _ _ _ d.move_lock-2.ensures.moved _ b.at_once.ensures b.if-at_once.false d.queued.ensures _ e.tell_obstacles.ensures
+    enter_waits _ _ _ _ _ _ _ _ c.move_lock-2.ensures.moved _ c.at_once.ensures c.if-at_once.false c.queued.ensures _ c.tell_obstacles.ensures

@@ -13,7 +13,6 @@ returns-then-not-counts_fine c =
 
 pub wait_part-requires-clause-holders_walked : goal.wait_part-requires-clause-holders_walked
 wait_part-requires-clause-holders_walked c =
-    let walk = c in
-    let given = walk.requires in
-    let held = holders_walked _ _ given.walked given.met_bound walk.convert_walk-c.ensures walk.if-n-c.false c.counts_fine.ensures (ap not c.if-not-counts_fine.false) in
+    let given = c.requires in
+    let held = holders_walked _ _ given.walked given.met_bound c.convert_walk-c.ensures c.if-n-c.false c.counts_fine.ensures (ap not c.if-not-counts_fine.false) in
     held

@@ -22,12 +22,9 @@ fits_by_masks-requires-clause-asked_bound c = search stands_held
 
 pub returns-then-not-fits_by_masks : goal.returns-then-not-fits_by_masks
 returns-then-not-fits_by_masks c =
-    let fits = c in
-    let stands = fits in
-    let head = stands in
-    let loop = head.loop-k in
-    modes_clash _ 1 _ fits_set _ _ _ loop.invariant.1.1.1.1 head.loop-k-test.true head.if-n-met.false head.if-n-k.false
-    stands.stands_granted.ensures (ap not stands.if-not-stands_granted.false) fits.lock_word-held.ensures fits.fits_by_masks.ensures (ap not c.if-not-fits_by_masks.true) c.grants_over-then-not-fits_by_masks.ensures
+    let loop = c.loop-k in
+    modes_clash _ 1 _ fits_set _ _ _ loop.invariant.1.1.1.1 c.loop-k-test.true c.if-n-met.false c.if-n-k.false
+    c.stands_granted.ensures (ap not c.if-not-stands_granted.false) c.lock_word-held.ensures c.fits_by_masks.ensures (ap not c.if-not-fits_by_masks.true) c.grants_over-then-not-fits_by_masks.ensures
 
 pub with_mode-set-requires-clause-mode_bound : goal.with_mode-set-requires-clause-mode_bound
 with_mode-set-requires-clause-mode_bound c = search stands_held
@@ -37,13 +34,10 @@ digit-digits-requires c = search stands_held
 
 pub loop-k-preserved : goal.loop-k-preserved
 loop-k-preserved c =
-    let fits = c in
-    let stands = fits in
-    let head = stands in
-    let loop = head.loop-k in
+    let loop = c.loop-k in
     let on =
-    modes_on _ 1 _ fits_set _ _ _ loop.invariant.1.1.1.1 head.loop-k-test.true head.if-n-met.false head.if-n-k.false
-    stands.stands_granted.ensures (ap not stands.if-not-stands_granted.false) fits.lock_word-held.ensures fits.fits_by_masks.ensures (ap not c.if-not-fits_by_masks.false)
+    modes_on _ 1 _ fits_set _ _ _ loop.invariant.1.1.1.1 c.loop-k-test.true c.if-n-met.false c.if-n-k.false
+    c.stands_granted.ensures (ap not c.if-not-stands_granted.false) c.lock_word-held.ensures c.fits_by_masks.ensures (ap not c.if-not-fits_by_masks.false)
     c.with_mode-set.ensures.0 c.notice_bit-noticed.ensures.0 c.digit-digits.ensures.0 c.lock_word-next.ensures in
     (omega arith, (omega arith, (omega arith, (omega arith, on))))
 

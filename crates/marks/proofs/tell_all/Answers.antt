@@ -15,37 +15,26 @@ tell_each-last-requires-clause-hearing c =
 
 pub resource_word-converting-requires-clause-sized : goal.resource_word-converting-requires-clause-sized
 resource_word-converting-requires-clause-sized c =
-    let b = c in
-    let a = b in
-    let s = a.requires in
-    let e = a.lock_word-r.ensures in
-    b.tell_each-last.ensures.kept.sized
+    let s = c.requires in
+    let e = c.lock_word-r.ensures in
+    c.tell_each-last.ensures.kept.sized
 
 pub resource_word-converting-requires-clause-le_r : goal.resource_word-converting-requires-clause-le_r
 resource_word-converting-requires-clause-le_r c =
-    let b = c in
-    let a = b in
-    let s = a.requires in
-    let e = a.lock_word-r.ensures in
-    (begun_there _ _ _ e s, begun_after _ _ _ e s _ b.tell_each-last.ensures.kept)
+    let s = c.requires in
+    let e = c.lock_word-r.ensures in
+    (begun_there _ _ _ e s, begun_after _ _ _ e s _ c.tell_each-last.ensures.kept)
 
 pub resource_word-converting-requires-clause-field_lt_resource_width : goal.resource_word-converting-requires-clause-field_lt_resource_width
 resource_word-converting-requires-clause-field_lt_resource_width c =
-    let b = c in
-    let a = b in
-    let s = a.requires in
-    let e = a.lock_word-r.ensures in
+    let s = c.requires in
+    let e = c.lock_word-r.ensures in
     omega arith
 
 pub tell_each-requires-clause-hearing : goal.tell_each-requires-clause-hearing
 tell_each-requires-clause-hearing c =
-    let b = c in
-    let a = b in
-    let s = a.requires in begun_hears_on _ _ _ a.lock_word-r.ensures _ b.resource_word-granted.ensures _ b.tell_each-last.ensures.heard _ c.resource_word-converting.ensures s
+    let s = c.requires in begun_hears_on _ _ _ c.lock_word-r.ensures _ c.resource_word-granted.ensures _ c.tell_each-last.ensures.heard _ c.resource_word-converting.ensures s
 
 pub returns : goal.returns
 returns c =
-    let d = c in
-    let b = d in
-    let a = b in
-    begun_told _ _ _ a.lock_word-r.ensures _ b.resource_word-granted.ensures _ b.tell_each-last.ensures.heard _ d.resource_word-converting.ensures _ d.tell_each.ensures.heard
+    begun_told _ _ _ c.lock_word-r.ensures _ c.resource_word-granted.ensures _ c.tell_each-last.ensures.heard _ c.resource_word-converting.ensures _ c.tell_each.ensures.heard

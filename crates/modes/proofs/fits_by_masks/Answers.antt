@@ -11,7 +11,6 @@ use Rattle.modes.specs.Sets.{in_set, fits_set}
 use Rattle.modes.proofs.Table.{agree2}
 use Rattle.modes.proofs.fits_by_masks.Goals as goal
 
--- `lts.m7 .. .1 .1 .1 .0` is the code's own masks: local 3 in the state of which `Need-array-read-result` speaks
 -- the code's masks
 abbrev masks : List ℕ
 masks = 0 ∷ 32 ∷ 56 ∷ 52 ∷ 60 ∷ 62 ∷ []

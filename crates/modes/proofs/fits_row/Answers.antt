@@ -11,7 +11,7 @@ pub returns-then-set-eq0 : goal.returns-then-set-eq0
 unfolding fits_set in_set all_modes compatible matrix
 returns-then-set-eq0 c = rw c.if-set-eq0.true (row_of _ 0 refl)
 
--- `lts.m205 .. .1 .1 .1 .0` is the code's own table: local 3 in the state of which `Need-array-copy-out-result` speaks
+-- the `_` is the code's own table
 pub returns : goal.returns
 unfolding fits_set in_set all_modes compatible matrix
 returns c = row_in _ refl c.args.set (search rules)

@@ -20,14 +20,12 @@ pub loop-at-smaller : goal.loop-at-smaller
 loop-at-smaller c = search words_loop
 
 pub loop-at-preserved : goal.loop-at-preserved
-loop-at-preserved c =
-    let turn = c in
-    let entry = turn in (
-      search words_loop,
-      search words_loop,
-      words_next _ _ _ turn.loop-at.invariant.2 (search words_loop) c.word_at.ensures c.word_at-in-loop-at.ensures (search words_loop) (search words_loop)
-          entry.shared_slice_known-1.given entry.shared_slice_known-2-1.given (search words_loop),
-    )
+loop-at-preserved c = (
+  search words_loop,
+  search words_loop,
+  words_next _ _ _ c.loop-at.invariant.2 (search words_loop) c.word_at.ensures c.word_at-in-loop-at.ensures (search words_loop) (search words_loop)
+      c.shared_slice_known-1.given c.shared_slice_known-2-1.given (search words_loop),
+)
 
 pub slice_bounds-same_bytes-end : goal.slice_bounds-same_bytes-end
 slice_bounds-same_bytes-end c = search words_loop
