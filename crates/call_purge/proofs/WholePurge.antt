@@ -16,7 +16,7 @@ use Rattle.tables.specs.State.{Tables, lock, resource, grants, converts, waits, 
 use Rattle.tables.specs.Layout.{words, slots}
 use Rattle.tables.specs.Grants.{holders}
 use Rattle.tables.proofs.Cases.{by_cases, by_equal, eqb_same, same_truth}
-use Rattle.tables.proofs.Counts.{within_le, count_same, count_step, count_append, count_from, bit_one, any_intro, by_append, kept_in, count_kept, keep_cong, any_has, getD_same}
+use Rattle.tables.proofs.Counts.{within_le, count_same, count_step, count_append, count_from, bit_one, any_intro, by_append, kept_in, count_kept, keep_cong, any_has, get_or_same}
 use Rattle.tables.specs.Validity.{used, Core}
 use Rattle.tables.proofs.StateCases.{StateOk, ok_numbered}
 use Rattle.tables.proofs.Valid.{absent_lock}
@@ -112,7 +112,7 @@ module _ (c : ℕ) (t : Tables) (co : Core t) where
       let none = replicate resource_places false in
       ap (λ (x : List Bool). marked x s) e
       ∙ mark_told t s (locks_of c t) none (rw (length-replicate resource_places false) (omega arith))
-      ∙ rw (getD_same false resource_places s) (stands_told c t co s (λ z. omega arith))
+      ∙ rw (get_or_same false resource_places s) (stands_told c t co s (λ z. omega arith))
 
   settles : (m : List Bool) → m ≡ mark_all c (replicate resource_places false) t → settle_marked m (purge_all c t) ≡ (purge_change c t).tables
   unfolding purge_change settle_marked purge_all

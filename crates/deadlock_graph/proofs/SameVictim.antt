@@ -15,7 +15,7 @@ use Rattle.tables.specs.State.{Tables, no_lock, no_resource, lock, resource, Que
 use Rattle.tables.specs.Layout.{words, read_lock, read_resource, read, resources_in}
 use Rattle.tables.specs.Grants.{holders}
 use Rattle.tables.proofs.Cases.{by_cases}
-use Rattle.tables.proofs.Blocks.{tabulated, getD_map_from, length_map_from}
+use Rattle.tables.proofs.Blocks.{tabulated, get_or_map_from, length_map_from}
 use Rattle.tables.proofs.ReadBack.{resources_word, locks_word, chain_read, lock_read}
 use Rattle.tables.proofs.ThreadedChains.{core_threaded}
 use Rattle.tables.specs.Validity.{Core}
@@ -48,7 +48,7 @@ module _ (t : Tables) (core : Core t) where
   unfolding seen read resource
   resource_inside k p =
       ap (λ n. get_or (map (read_resource (words t) []) (from 1 n)) k no_resource) (resources_word t)
-      ∙ getD_map_from (read_resource (words t) []) no_resource 1 (length t.resources) k p
+      ∙ get_or_map_from (read_resource (words t) []) no_resource 1 (length t.resources) k p
       ∙ ap (read_resource (words t) []) (add_comm 1 k ∙ add-one k)
 
   resource_outside : (k : ℕ) → length t.resources ≤ k → resource (seen (words t)) (suc k) ≡ no_resource

@@ -15,7 +15,7 @@ use Rattle.tables.specs.State.{Tables, lock}
 use Rattle.tables.specs.Layout.{of_header, of_lock, word_in, onward}
 use Rattle.tables.specs.Validity.{Core, line}
 use Rattle.tables.proofs.Cases.{by_cases, by_equal, clash}
-use Rattle.tables.proofs.Counts.{getD_same, count_nil, count_same, count_other, count_step, within_le}
+use Rattle.tables.proofs.Counts.{get_or_same, count_nil, count_same, count_other, count_step, within_le}
 use Rattle.tables.proofs.ChainMembers.{blocked_within, line_blocked, line_once}
 use Rattle.rules.specs.Deadlock.{before, ahead, obstacles}
 use Rattle.table_fields.specs.Sizes.{lock_places}
@@ -99,7 +99,7 @@ module _ (ws : List ℕ) (s : Some Core ws) where
 
 none_there : (m : ℕ) → get_or none_met m 0 ≡ 0
 unfolding none_met
-none_there m = getD_same 0 mode_places m
+none_there m = get_or_same 0 mode_places m
 
 none_wide : length none_met ≡ mode_places
 unfolding none_met

@@ -10,7 +10,7 @@ use borrow.Author.Rules.{rules}
 use Rattle.tables.specs.Lists.{count}
 use Rattle.tables.specs.Layout.{of_header, of_lock, locks_in, word_in, onward}
 use Rattle.tables.proofs.Cases.{by_equal}
-use Rattle.tables.proofs.Counts.{count_nil, getD_same}
+use Rattle.tables.proofs.Counts.{count_nil, get_or_same}
 use Rattle.tables.specs.Validity.{Core}
 use Rattle.table_chains.specs.Promises.{Some}
 use Rattle.table_chains.specs.Walking.{At}
@@ -198,7 +198,7 @@ module _ {ws lasts others ls hs : List ℕ} (u : Unnumbered ws lasts ls hs other
   lists = replicate owner_lists 0
 
   empty_list : (p : ℕ) → get_or lists p 0 ≡ 0
-  empty_list = getD_same {A = ℕ} 0 owner_lists
+  empty_list = get_or_same {A = ℕ} 0 owner_lists
 
   none_listed : OwnerLists ws [] lists others
   none_listed =

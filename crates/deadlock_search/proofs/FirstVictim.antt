@@ -11,7 +11,7 @@ use Rattle.tables.specs.Lists.{count, first_that}
 use Rattle.tables.specs.State.{most_locks}
 use Rattle.tables.specs.Layout.{of_header, of_lock, locks_in, word_in, onward}
 use Rattle.tables.proofs.Cases.{by_cases, clash}
-use Rattle.tables.proofs.Counts.{count_same, count_step, getD_same}
+use Rattle.tables.proofs.Counts.{count_same, count_step, get_or_same}
 use Rattle.tables.specs.Validity.{Core}
 use Rattle.rules.specs.Deadlock.{deadlocked, victim}
 use Rattle.rules.specs.Walks.{Walk, step, through}
@@ -201,7 +201,7 @@ module _ {ws : List ℕ} {m : List Bool} {ls fs hs : List ℕ} (r : Room ws m ls
         roomy = r.roomy;
         none = none_linked 1;
         wide = rw (length-replicate {A = ℕ} resource_places 0) (omega (arith, (some_sized r.some).few_resources));
-        empty = getD_same {A = ℕ} 0 resource_places;
+        empty = get_or_same {A = ℕ} 0 resource_places;
       }
 
   module _ {ls₁ lasts : List ℕ} (l : LinesLinked ws m ls ls₁ lasts) where
@@ -263,7 +263,7 @@ unfolding marked
 none_cleared s =
     record {
       some = s;
-      cleared = record { wide = length-replicate lock_places false; none = λ x h. clash (marked (replicate lock_places false) x) h (getD_same false lock_places x) };
+      cleared = record { wide = length-replicate lock_places false; none = λ x h. clash (marked (replicate lock_places false) x) h (get_or_same false lock_places x) };
     }
 
 module _ {ws : List ℕ} {m : List Bool} {r : Bool} (s : Some Core ws) (u : LinesCleared ws m r) where
@@ -279,9 +279,9 @@ free_room {n} {ws} p q f e h =
       some = f.some;
       cleared = f.cleared;
       roomy = record { rows = rw (length-replicate {A = ℕ} p 0) (omega (arith, f.few, e)) };
-      blank = getD_same {A = ℕ} 0 p;
+      blank = get_or_same {A = ℕ} 0 p;
       lists = rw (length-replicate {A = ℕ} q 0) (omega (arith, f.few, h));
-      empty = getD_same {A = ℕ} 0 q;
+      empty = get_or_same {A = ℕ} 0 q;
       same = refl;
     }
 

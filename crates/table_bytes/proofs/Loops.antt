@@ -9,7 +9,7 @@ use borrow.Author.Rules.{rules}
 use lib.ListN.{length, get_or, set, take, drop, length-append, drop_of_length-le}
 use lib.Seq.{drop-cons, drop-drop, drop-length, set_at, sets-eq, take-suc, take_all, take_at, drop-append-add, length-take-le}
 use Rattle.tables.specs.Lists.{from}
-use Rattle.tables.proofs.Blocks.{length_map_from, getD_map_from}
+use Rattle.tables.proofs.Blocks.{length_map_from, get_or_map_from}
 use Rattle.rules.specs.Images.{word_bytes, word_from}
 use Rattle.table_bytes.specs.Bytes.{encoded, decoded, with_word}
 
@@ -73,7 +73,7 @@ length_decoded bs n = length_map_from (λ i. word_from bs (4 * i)) 0 n
 -- a word, where it stands
 pub decoded_at : (bs : List ℕ) (n i : ℕ) → i < n → get_or (decoded bs n) i 0 ≡ word_from bs (4 * i)
 unfolding decoded
-decoded_at bs n i h = getD_map_from (λ j. word_from bs (4 * j)) 0 0 n i h ∙ ap (λ (j : ℕ). word_from bs (4 * j)) (zero-add i)
+decoded_at bs n i h = get_or_map_from (λ j. word_from bs (4 * j)) 0 0 n i h ∙ ap (λ (j : ℕ). word_from bs (4 * j)) (zero-add i)
 
 decoded_more : (bs : List ℕ) (n : ℕ) → decoded bs (n + 1) ≡ decoded bs n ++ word_from bs (4 * n) ∷ []
 unfolding decoded

@@ -11,17 +11,17 @@ use Rattle.tables.specs.Lists.{from}
 use Rattle.tables.specs.Layout.{flat_map, row, rows}
 use Rattle.tables.proofs.Pigeonhole.{length_from}
 
-pub getD_second : (xs ys : List ℕ) (i n : ℕ) → i ≡ length xs + n → get_or (xs ++ ys) i 0 ≡ get_or ys n 0
-getD_second xs ys i n e = rw (e, get_or-append-add)
+pub get_or_second : (xs ys : List ℕ) (i n : ℕ) → i ≡ length xs + n → get_or (xs ++ ys) i 0 ≡ get_or ys n 0
+get_or_second xs ys i n e = rw (e, get_or-append-add)
 
 module _ {A : Type 0} (g : ℕ → A) where
   pub length_map_from : (a n : ℕ) → length (map g (from a n)) ≡ n
   length_map_from a n = length-map (from a n) g ∙ length_from a n
 
-  pub getD_map_from : (d : A) (a n i : ℕ) → i < n → get_or (map g (from a n)) i d ≡ g (a + i)
-  getD_map_from d a zero i p = absurd (omega arith)
-  getD_map_from d a (suc n) zero p = rw add-zero
-  getD_map_from d a (suc n) (suc i) p = getD_map_from d (suc a) n i (omega arith) ∙ ap g (omega arith)
+  pub get_or_map_from : (d : A) (a n i : ℕ) → i < n → get_or (map g (from a n)) i d ≡ g (a + i)
+  get_or_map_from d a zero i p = absurd (omega arith)
+  get_or_map_from d a (suc n) zero p = rw add-zero
+  get_or_map_from d a (suc n) (suc i) p = get_or_map_from d (suc a) n i (omega arith) ∙ ap g (omega arith)
 
 pub flat_map_same : (f g : ℕ → List ℕ) (a n : ℕ) → ((k : ℕ) → a ≤ k → g k ≡ f k) → flat_map g (from a n) ≡ flat_map f (from a n)
 flat_map_same f g a zero h = refl
@@ -31,19 +31,19 @@ module _ (w : ℕ) where
   pub length_row : (g : ℕ → ℕ) → length (row w g) ≡ w
   length_row g = length_map_from g 0 w
 
-  pub getD_row : (g : ℕ → ℕ) (i : ℕ) → i < w → get_or (row w g) i 0 ≡ g i
-  getD_row g i p = getD_map_from g 0 0 w i p ∙ ap g (zero-add i)
+  pub get_or_row : (g : ℕ → ℕ) (i : ℕ) → i < w → get_or (row w g) i 0 ≡ g i
+  get_or_row g i p = get_or_map_from g 0 0 w i p ∙ ap g (zero-add i)
 
   pub length_blocks : (f : ℕ → List ℕ) → ((i : ℕ) → length (f i) ≡ w) → (a n : ℕ) → length (flat_map f (from a n)) ≡ w * n
   length_blocks f h a zero = sym (mul-zero w)
   length_blocks f h a (suc n) = rw (length-append, h a, length_blocks f h (suc a) n, mul-suc) (add_comm _ _)
 
-  pub getD_blocks : (f : ℕ → List ℕ) → ((i : ℕ) → length (f i) ≡ w) → (n a i j : ℕ) → i < n → j < w → get_or (flat_map f (from a n)) (w * i + j) 0 ≡ get_or (f (a + i)) j 0
-  getD_blocks f h zero a i j p q = absurd (omega arith)
-  getD_blocks f h (suc n) a zero j p q = rw (mul-zero, zero-add, add-zero) (get_or-append (f a) (flat_map f (from (suc a) n)) 0 j (rw (h a) q))
-  getD_blocks f h (suc n) a (suc i) j p q =
-      getD_second (f a) (flat_map f (from (suc a) n)) _ (w * i + j) (rw (h a, mul-suc) (omega arith))
-      ∙ getD_blocks f h n (suc a) i j (omega arith) q
+  pub get_or_blocks : (f : ℕ → List ℕ) → ((i : ℕ) → length (f i) ≡ w) → (n a i j : ℕ) → i < n → j < w → get_or (flat_map f (from a n)) (w * i + j) 0 ≡ get_or (f (a + i)) j 0
+  get_or_blocks f h zero a i j p q = absurd (omega arith)
+  get_or_blocks f h (suc n) a zero j p q = rw (mul-zero, zero-add, add-zero) (get_or-append (f a) (flat_map f (from (suc a) n)) 0 j (rw (h a) q))
+  get_or_blocks f h (suc n) a (suc i) j p q =
+      get_or_second (f a) (flat_map f (from (suc a) n)) _ (w * i + j) (rw (h a, mul-suc) (omega arith))
+      ∙ get_or_blocks f h n (suc a) i j (omega arith) q
       ∙ ap (λ (k : ℕ). get_or (f k) j 0) (omega arith)
 
   -- the block i, and what stands after it
@@ -79,7 +79,7 @@ module _ (w : ℕ) (g : ℕ → ℕ → ℕ) (n : ℕ) where
   pub get_or_rows : (k i : ℕ) → k < n → i < w → get_or (rows w g n) (w * k + i) 0 ≡ g (suc k) i
   unfolding rows
   get_or_rows k i p q =
-      getD_blocks w (λ k. row w (g k)) (λ k. length_row w (g k)) n 1 k i p q ∙ getD_row w (g (1 + k)) i q ∙ ap (λ (m : ℕ). g m i) (omega arith)
+      get_or_blocks w (λ k. row w (g k)) (λ k. length_row w (g k)) n 1 k i p q ∙ get_or_row w (g (1 + k)) i q ∙ ap (λ (m : ℕ). g m i) (omega arith)
 
 -- a list is known by its elements, numbered from a
 pub tabulated {ℓ} : {A : Type ℓ} (f : ℕ → A) (d : A) (a : ℕ) (xs : List A) → ((i : ℕ) → i < length xs → f (a + i) ≡ get_or xs i d) → map f (from a (length xs)) ≡ xs

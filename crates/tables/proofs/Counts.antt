@@ -45,14 +45,14 @@ module _ {A : Type 0} (d : A) where
   put_own xs (suc k) = set-get_or xs k d
 
   -- a list of one record over and over, of which each place has it
-  pub getD_same : (n k : ℕ) → get_or (replicate n d) k d ≡ d
-  getD_same zero k = refl
-  getD_same (suc n) zero = refl
-  getD_same (suc n) (suc k) = getD_same n k
+  pub get_or_same : (n k : ℕ) → get_or (replicate n d) k d ≡ d
+  get_or_same zero k = refl
+  get_or_same (suc n) zero = refl
+  get_or_same (suc n) (suc k) = get_or_same n k
 
   pub nth_same : (n k : ℕ) → nth (replicate n d) k d ≡ d
   nth_same n zero = refl
-  nth_same n (suc k) = getD_same n k
+  nth_same n (suc k) = get_or_same n k
 
 pub count_same : (k : ℕ) (xs : List ℕ) → count k (k ∷ xs) ≡ suc (count k xs)
 unfolding count

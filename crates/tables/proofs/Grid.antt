@@ -10,7 +10,7 @@ use native.Mathlib.Decide.{dec_lt, ℕ_discrete}
 use lib.ListN.{get_or, set, length, get_or-append, length-append, length-set}
 use lib.Seq.{get_or-set_same, get_or-set_other, ext_get_or}
 use Rattle.tables.specs.Layout.{header_width, resource_width, lock_width, Address, of_header, of_resource, of_lock, Address_discrete, place, size, row, rows, sheet, by_address}
-use Rattle.tables.proofs.Blocks.{getD_second, length_row, getD_row, length_rows, get_or_rows}
+use Rattle.tables.proofs.Blocks.{get_or_second, length_row, get_or_row, length_rows, get_or_rows}
 use Rattle.tables.specs.Threads.{Within}
 use Rattle.tables.specs.Stores.{store_run}
 
@@ -47,21 +47,21 @@ module _ (u v w : ℕ) (f : ℕ → ℕ) (g h : ℕ → ℕ → ℕ) (r l : ℕ)
 
   sheet_head : (i : ℕ) → i < u → get_or (sheet u v w f g h r l) i 0 ≡ f i
   unfolding sheet
-  sheet_head i p = get_or-append (row u f) _ 0 i (rw length_row p) ∙ getD_row u f i p
+  sheet_head i p = get_or-append (row u f) _ 0 i (rw length_row p) ∙ get_or_row u f i p
 
   sheet_middle : (k i : ℕ) → k < r → i < v → get_or (sheet u v w f g h r l) (u + v * k + i) 0 ≡ g (suc k) i
   unfolding sheet
   sheet_middle k i p q =
       let room = mul-le-mul_left v p in
-      getD_second (row u f) _ _ (v * k + i) (rw length_row (omega arith))
+      get_or_second (row u f) _ _ (v * k + i) (rw length_row (omega arith))
       ∙ get_or-append (rows v g r) _ 0 (v * k + i) (rw length_rows (omega arith))
       ∙ get_or_rows v g r k i p q
 
   sheet_tail : (k i : ℕ) → k < l → i < w → get_or (sheet u v w f g h r l) (u + v * r + w * k + i) 0 ≡ h (suc k) i
   unfolding sheet
   sheet_tail k i p q =
-      getD_second (row u f) _ _ (v * r + (w * k + i)) (rw length_row (omega arith))
-      ∙ getD_second (rows v g r) _ _ (w * k + i) (rw length_rows)
+      get_or_second (row u f) _ _ (v * r + (w * k + i)) (rw length_row (omega arith))
+      ∙ get_or_second (rows v g r) _ _ (w * k + i) (rw length_rows)
       ∙ get_or_rows w h l k i p q
 
 module _ (r l : ℕ) where
@@ -85,20 +85,20 @@ module _ (r l : ℕ) where
   unfolding by_address
   length_written f = length_sheet _ _ _ _ _ _ r l
 
-  pub getD_written : (f : Address → ℕ) (a : Address) → Within r l a → get_or (by_address r l f) (place r a) 0 ≡ f a
+  pub get_or_written : (f : Address → ℕ) (a : Address) → Within r l a → get_or (by_address r l f) (place r a) 0 ≡ f a
   unfolding by_address
-  getD_written f (of_header i) h = sheet_head _ _ _ _ _ _ r l i h
-  getD_written f (of_resource k i) h = sheet_middle _ _ _ _ _ _ r l (k - 1) i (omega arith) h.2 ∙ ap (λ (n : ℕ). f (of_resource n i)) (omega arith)
-  getD_written f (of_lock k i) h = sheet_tail _ _ _ _ _ _ r l (k - 1) i (omega arith) h.2 ∙ ap (λ (n : ℕ). f (of_lock n i)) (omega arith)
+  get_or_written f (of_header i) h = sheet_head _ _ _ _ _ _ r l i h
+  get_or_written f (of_resource k i) h = sheet_middle _ _ _ _ _ _ r l (k - 1) i (omega arith) h.2 ∙ ap (λ (n : ℕ). f (of_resource n i)) (omega arith)
+  get_or_written f (of_lock k i) h = sheet_tail _ _ _ _ _ _ r l (k - 1) i (omega arith) h.2 ∙ ap (λ (n : ℕ). f (of_lock n i)) (omega arith)
 
   -- a list is known by its word at each address
   pub is_written : (f : Address → ℕ) (ws : List ℕ) → length ws ≡ size r l → ((b : Address) → Within r l b → get_or ws (place r b) 0 ≡ f b) → ws ≡ by_address r l f
   is_written f ws e h =
       ext_get_or 0 ws (by_address r l f) (e ∙ sym (length_written f))
-      (λ i p. let b = located r l i (omega arith) in rw (← b.2) (h b.0 b.1 ∙ sym (getD_written f b.0 b.1)))
+      (λ i p. let b = located r l i (omega arith) in rw (← b.2) (h b.0 b.1 ∙ sym (get_or_written f b.0 b.1)))
 
   pub written_same : (f g : Address → ℕ) → ((b : Address) → Within r l b → f b ≡ g b) → by_address r l f ≡ by_address r l g
-  written_same f g h = is_written g (by_address r l f) (length_written f) (λ b p. getD_written f b p ∙ h b p)
+  written_same f g h = is_written g (by_address r l f) (length_written f) (λ b p. get_or_written f b p ∙ h b p)
 
   pub set_written : (f : Address → ℕ) (a : Address) (v : ℕ) → Within r l a → set (by_address r l f) (place r a) v ≡ by_address r l (update a v f)
   unfolding update
@@ -106,7 +106,7 @@ module _ (r l : ℕ) where
       is_written (update a v f) (set (by_address r l f) (place r a) v) (length-set (by_address r l f) _ v ∙ length_written f)
       (λ b q. elim (address? b a) as (λ d. get_or (set (by_address r l f) (place r a) v) (place r b) 0 ≡ elim d [ yes e ↦ v | no n ↦ f b ]) [
         | yes e ↦ rw e (get_or-set_same (by_address r l f) (place r a) v 0 (rw length_written (place_size a p)))
-        | no n ↦ get_or-set_other (by_address r l f) (place r a) (place r b) v 0 (λ e. n (place_injective b a q p e)) ∙ getD_written f b q
+        | no n ↦ get_or-set_other (by_address r l f) (place r a) (place r b) v 0 (λ e. n (place_injective b a q p e)) ∙ get_or_written f b q
       ])
 
 pub update_here : (a : Address) (v : ℕ) (f : Address → ℕ) → update a v f a ≡ v

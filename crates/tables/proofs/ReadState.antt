@@ -14,7 +14,7 @@ use Rattle.tables.specs.State.{Resource, name_width, no_lock, no_resource, lock,
 use Rattle.tables.specs.Layout.{head, flat_map, slot_width, slot, slots, resources_in, locks_in, read_chain, read_lock, slot_in, read_resource, read}
 use Rattle.tables.specs.Sound.{all_zero}
 use Rattle.tables.proofs.Cases.{and_left, and_right, and_intro}
-use Rattle.tables.proofs.Blocks.{length_map_from, getD_map_from}
+use Rattle.tables.proofs.Blocks.{length_map_from, get_or_map_from}
 use Rattle.tables.proofs.Counts.{within_le}
 use Rattle.tables.proofs.Valid.{used_within}
 use Rattle.tables.specs.Threads.{Within}
@@ -32,12 +32,12 @@ module _ (ws ss : List ℕ) where
   pub resource_of : (r : ℕ) → 1 ≤ r → r ≤ resources_in ws → resource (read ws ss) r ≡ read_resource ws ss r
   unfolding read resource
   resource_of zero p q = absurd (omega arith)
-  resource_of (suc r) p q = getD_map_from (read_resource ws ss) no_resource 1 (resources_in ws) r (omega arith) ∙ ap (read_resource ws ss) (omega arith)
+  resource_of (suc r) p q = get_or_map_from (read_resource ws ss) no_resource 1 (resources_in ws) r (omega arith) ∙ ap (read_resource ws ss) (omega arith)
 
   pub lock_of : (k : ℕ) → 1 ≤ k → k ≤ locks_in ws → lock (read ws ss) k ≡ read_lock ws k
   unfolding read lock
   lock_of zero p q = absurd (omega arith)
-  lock_of (suc k) p q = getD_map_from (read_lock ws) no_lock 1 (locks_in ws) k (omega arith) ∙ ap (read_lock ws) (omega arith)
+  lock_of (suc k) p q = get_or_map_from (read_lock ws) no_lock 1 (locks_in ws) k (omega arith) ∙ ap (read_lock ws) (omega arith)
 
   pub used_in : (r : ℕ) → used (read ws ss) r ≡ true → (1 ≤ r) × (r ≤ resources_in ws)
   used_in r u = within_le (resources_in ws) r (rw resources_read at (used_within (read ws ss) r u))

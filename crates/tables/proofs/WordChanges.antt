@@ -15,7 +15,7 @@ use Rattle.tables.proofs.Numbered.{put_lock, put_resource, locks_put, lock_put_h
 use Rattle.tables.specs.Threads.{Absent}
 use Rattle.tables.proofs.Links.{holder, each_on, each_absent, holder_on, next_here, next_past, next_append_here, next_append_past, next_remove_here, next_remove_gone, next_remove_past, next_push_past}
 use Rattle.tables.specs.Stores.{Counts, content_with, words_with, value_with, store_run}
-use Rattle.tables.proofs.Grid.{address?, update, update_here, update_past, Side, on, off, lock_side, resource_side, updates, stores_written, updates_past, row_agrees, length_written, getD_written, written_same, set_written}
+use Rattle.tables.proofs.Grid.{address?, update, update_here, update_past, Side, on, off, lock_side, resource_side, updates, stores_written, updates_past, row_agrees, length_written, get_or_written, written_same, set_written}
 use Rattle.tables.specs.Threads.{In, Present}
 use Rattle.tables.proofs.Chains.{chain?, with_chain, with_queue, spot, chain_same, chain_other, same_locks, lock_with, resource_count, resource_rest, home_past}
 use Rattle.tables.specs.Threads.{LinkedAt, Stands, Threaded}
@@ -26,7 +26,7 @@ length_words_with ct t = length_written _ _ (content_with ct t)
 
 pub read_word_with : (ct : Counts) (t : Tables) (a : Address) → In t a → get_or (words_with ct t) (spot t a) 0 ≡ content_with ct t a
 unfolding words_with
-read_word_with ct t a h = getD_written _ _ (content_with ct t) a h
+read_word_with ct t a h = get_or_written _ _ (content_with ct t) a h
 
 pub length_words : (t : Tables) → length (words t) ≡ size (length t.resources) (length t.locks)
 unfolding words
@@ -34,7 +34,7 @@ length_words t = length_written _ _ (content t)
 
 pub read_word : (t : Tables) (a : Address) → In t a → get_or (words t) (spot t a) 0 ≡ content t a
 unfolding words
-read_word t a h = getD_written _ _ (content t) a h
+read_word t a h = get_or_written _ _ (content t) a h
 
 -- with the true counts these are the words of the state
 true_value : (t : Tables) (w : Word) → value_with (tally t) t w ≡ word_value t w
