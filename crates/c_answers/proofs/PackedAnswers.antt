@@ -8,8 +8,7 @@ use borrow.Author.Tests.{le-leb, lt-leb}
 use Rattle.rules.specs.declared.Said.{Said}
 use Rattle.rules.specs.Calls.{refused}
 use Rattle.rules.specs.Numbers.{Small}
-use Rattle.answers.specs.Answers.{refused_with}
-use Rattle.c_answers.specs.PackedAnswers.{unpacked}
+use Rattle.c_answers.specs.PackedAnswers.{refused_with, unpacked}
 
 numbered : (n : ℕ) → n ≢ 0 → refused_with n ≡ refused n
 numbered zero some = absurd (some refl)
@@ -35,16 +34,15 @@ module _ (a k e : ℕ) (first : a < 2 ^ 16) (second : k < 2 ^ 16) (third : e < 2
       rw (lt-leb (2 ^ 63) placed low) (λ i. record { refusal = 0; answer = lowest i; number = middle i; extra = highest i })
 
 module _ (x : Said) (small : Small x) where
-  pub refusal_reads : (w : ℕ) → (x.refusal ≡ 0 → ⊥) → (w ≡ x.refusal) × (w < 2 ^ 32) → unpacked (2 ^ 63 + w) ≡ x
+  pub refusal_reads : (w : ℕ) → (x.refusal ≡ 0 → ⊥) → w ≡ x.refusal → unpacked (2 ^ 63 + w) ≡ x
   unfolding unpacked
   refusal_reads w some e =
-      let below : 2 ^ 63 + w - 2 ^ 63 ≡ x.refusal = omega (arith, e.0) in
+      let below : 2 ^ 63 + w - 2 ^ 63 ≡ x.refusal = omega arith in
       rw (le-leb (2 ^ 63) (2 ^ 63 + w) (omega arith), below) (numbered x.refusal some ∙ sym (small.silent some))
 
-  pub answer_reads : (a k e : ℕ) → x.refusal ≡ 0 → (a ≡ x.answer) × (a < 2 ^ 32) → (k ≡ x.number) × (k < 2 ^ 32) → (e ≡ x.extra) × (e < 2 ^ 32)
-      → unpacked (a + k * 65536 + e * 4294967296) ≡ x
+  pub answer_reads : (a k e : ℕ) → x.refusal ≡ 0 → a ≡ x.answer → k ≡ x.number → e ≡ x.extra → unpacked (a + k * 65536 + e * 4294967296) ≡ x
   answer_reads a k e none p q r =
-      rw (p.0, q.0, r.0)
+      rw (p, q, r)
       (placed_reads x.answer x.number x.extra small.answer small.number small.extra
       ∙ λ i. record { refusal = sym none i; answer = x.answer; number = x.number; extra = x.extra })
 

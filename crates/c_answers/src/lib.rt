@@ -7,18 +7,12 @@ ghost use Rattle.c_answers.specs.PackedAnswers.{unpacked};
 use rules::Said;
 
 // The highest bit of an answer marks a refusal.
-const REFUSED: u64 = 9223372036854775808;
+const REFUSED: u64 = 1 << 63;
 
 // The lock stands from bit 16 on, one number more from bit 32 on.
-const NUMBER: u64 = 65536;
+const NUMBER: u64 = 1 << 16;
 
-const EXTRA: u64 = 4294967296;
-
-fn wide(x: u32) -> u64
-    ensures { (result ≡ x) × (result < 2 ^ 32) }
-{
-    x as u64
-}
+const EXTRA: u64 = 1 << 32;
 
 // Every answer, packed.
 pub fn pack(x: Said) -> u64
@@ -26,7 +20,7 @@ pub fn pack(x: Said) -> u64
     ensures { unpacked result ≡ x }
 {
     if x.refusal != 0 {
-        return REFUSED + wide(x.refusal);
+        return REFUSED + u64::from(x.refusal);
     }
-    wide(x.answer) + wide(x.number) * NUMBER + wide(x.extra) * EXTRA
+    u64::from(x.answer) + u64::from(x.number) * NUMBER + u64::from(x.extra) * EXTRA
 }

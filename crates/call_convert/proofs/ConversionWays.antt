@@ -14,7 +14,7 @@ use Rattle.marks.proofs.ToldLocks.{told_slots}
 use Rattle.queues.specs.Promises.{SomeTables}
 use Rattle.answers.proofs.Steps.{stepped}
 use Rattle.answers.specs.declared.Converted.TheVariants.{Granted, Waiting}
-use Rattle.answers.specs.Answers.{converted}
+use Rattle.answers.specs.Answers.{convert_answer}
 use Rattle.answers.specs.Promises.{Makes}
 use Rattle.queues.specs.Promises.{GrantedLock}
 use Rattle.call_convert.specs.Promises.{lowers, granted_in_place, on_convert_queue, Asks, AsksWith, ConvertsInPlace}
@@ -56,7 +56,7 @@ module _ (k m f : ℕ) (v a sa : List ℕ) where
       pub convert_placed : SomeTables (Convertible k m f v) a sa → SomeTables (ConvertsInPlace k m f v) a sa
       convert_placed s = record { state = s.state; good = placed_at s.state s.good s.is; is = s.is; slots_are = s.slots_are }
 
-      pub convert_granted : (b sb : List ℕ) → Changes (ConvertsInPlace k m f v) (granted_in_place k m f v) a sa b sb → Makes (Convertible k m f v) (convert_change k m f v) a sa b sb (converted Granted)
+      pub convert_granted : (b sb : List ℕ) → Changes (ConvertsInPlace k m f v) (granted_in_place k m f v) a sa b sb → Makes (Convertible k m f v) (convert_change k m f v) a sa b sb (convert_answer Granted)
       unfolding convert_change granted_in_place lowers
       convert_granted b sb h = record {
         then = λ t p is iss.
@@ -64,7 +64,7 @@ module _ (k m f : ℕ) (v a sa : List ℕ) where
             rw (told_at t p is ∙ q, convert_change) (stepped _ 1 0 (granted_in_place k m f v t) b sb refl d.0 d.1);
       }
 
-    pub convert_waits : x ≡ false → (b : List ℕ) → Turns (Asks k m) (on_convert_queue k m) a b → Makes (Convertible k m f v) (convert_change k m f v) a sa b sa (converted Waiting)
+    pub convert_waits : x ≡ false → (b : List ℕ) → Turns (Asks k m) (on_convert_queue k m) a b → Makes (Convertible k m f v) (convert_change k m f v) a sa b sa (convert_answer Waiting)
     unfolding convert_change on_convert_queue
     convert_waits q b h = record {
       then = λ t p is iss.

@@ -6,7 +6,7 @@ ghost use Rattle.rules.specs.Calls.{held_at, asking, in_place, convert_change};
 ghost use Rattle.rules.specs.Accepted.{Convertible};
 ghost use Rattle.table_chains.specs.Promises.{Some, Turns, Tells, Changes};
 ghost use Rattle.queues.specs.Promises.{SomeTables};
-ghost use Rattle.answers.specs.Answers.{converted};
+ghost use Rattle.answers.specs.Answers.{convert_answer};
 ghost use Rattle.answers.specs.Promises.{Makes};
 ghost use Rattle.call_convert.specs.Promises.{lowers, granted_in_place, on_convert_queue, Asks, AsksWith, ConvertsInPlace};
 
@@ -20,29 +20,31 @@ use tables::Lock;
 fn lowers(held: u32, mode: u32) -> bool
     ensures { result ≡ lowers held mode }
 {
-    (Mode::PW.0 <= held) & (mode < held)
+    (Mode::PW as u32 <= held) & (mode < held)
 }
 
 // What the lock l becomes: it holds the mode; or it asks for the mode and keeps the one it holds.
 fn held_at(l: Lock, mode: u32) -> Lock
     ensures { result ≡ held_at mode l }
 {
-    let mut m = l;
-    m.state = table_fields::STATE_GRANTED;
-    m.held = mode;
-    m.asked = 0;
-    m.completion = table_fields::COMPLETION_NONE;
-    m
+    Lock {
+        state: table_fields::STATE_GRANTED,
+        held: mode,
+        asked: 0,
+        completion: table_fields::COMPLETION_NONE,
+        ..l
+    }
 }
 
 fn asking(l: Lock, mode: u32) -> Lock
     ensures { result ≡ asking mode l }
 {
-    let mut m = l;
-    m.state = table_fields::STATE_CONVERTING;
-    m.asked = mode;
-    m.completion = table_fields::COMPLETION_NONE;
-    m
+    Lock {
+        state: table_fields::STATE_CONVERTING,
+        asked: mode,
+        completion: table_fields::COMPLETION_NONE,
+        ..l
+    }
 }
 
 // The lock k takes the mode where it stands, and leaves the value as the flags say. What it held may have kept others
@@ -76,6 +78,7 @@ fn queue_conversion(words: &mut [u32], k: u32, mode: u32, hints: Hints)
 }
 
 // Whether the lock k takes the mode where it stands. With flag 4 it does: a conversion that would block has been refused.
+#[tactic(auto, using(crate::proofs::ConversionWays::unqueued_laws))]
 fn taken_in_place(words: &[u32], k: u32, mode: u32, flags: u32) -> bool
     requires { Some (AsksWith k mode flags) words.now }
     ensures { Tells (AsksWith k mode flags) (in_place k mode) words.now result }
@@ -88,6 +91,7 @@ fn taken_in_place(words: &[u32], k: u32, mode: u32, flags: u32) -> bool
 
 // The lock k is converted to the mode, and nothing refuses it. The hints are at the lock before it on the grant chain, and at
 // the last one there.
+#[tactic(auto, using(crate::proofs::ConversionWays::convert_laws))]
 pub fn convert_change(
     words: &mut [u32],
     slots: &mut [u8],
@@ -98,7 +102,7 @@ pub fn convert_change(
     hints: Hints,
 ) -> Converted
     requires { SomeTables (Convertible k mode flags value.now) words.old slots.old }
-    ensures { Makes (Convertible k mode flags value.now) (convert_change k mode flags value.now) words.old slots.old words.new slots.new (converted result) }
+    ensures { Makes (Convertible k mode flags value.now) (convert_change k mode flags value.now) words.old slots.old words.new slots.new (convert_answer result) }
 {
     if taken_in_place(words, k, mode, flags) {
         convert_in_place(words, slots, k, mode, flags, value, hints.last);

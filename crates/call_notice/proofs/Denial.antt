@@ -5,6 +5,8 @@ use mathlib.Core.Bool.{true, false}
 use mathlib.Core.List.{List}
 use Prim.Native.Nat.{ℕ, zero, suc}
 use native.Mathlib.Omega.{arith}
+use Rattle.std.specs.Prelude.{Option, None}
+use Rattle.std.specs.declared.option.Option.TheVariants as options
 use borrow.Author.Rules.{rules}
 use borrow.Author.Tests.{ne_eqb}
 use Rattle.tables.specs.declared.Lock.{Lock}
@@ -21,12 +23,13 @@ use Rattle.rules.specs.Deadlock.{victim}
 use Rattle.rules.specs.Calls.{accepted, accepted_step, deny, deny_victim, break}
 use Rattle.rules.specs.Accepted.{Cancellable}
 use Rattle.rules.proofs.CallsKeepSound.{denied_ok}
+use Rattle.tables.specs.Numbered.{numbered}
+use Rattle.table_chains.proofs.NumberOrNone.{is_number, none_is, above_none}
 use Rattle.table_chains.specs.Promises.{Some, Turns, Tells, Movable, Moving, Moved, Resourced}
 use Rattle.queues.proofs.ResourceRecord.{slots_sweep}
-use Rattle.answers.specs.Answers.{denial, broken}
+use Rattle.answers.specs.Answers.{denial}
 use Rattle.rules.specs.Entries.{Lent, lent, outcome}
 use Rattle.table_fields.proofs.StateWords.{lock_is}
-use Rattle.answers.specs.declared.Broken.TheVariants as broken_cases
 use Rattle.answers.specs.Promises.{MakesWords}
 use Rattle.call_release.specs.Promises.{Restorable, restore}
 use Rattle.answers.proofs.Steps.{stepped}
@@ -141,7 +144,7 @@ unfolding break
 break_is k t e = ap (λ (x : ℕ). deny_victim x t) (sym e)
 
 -- the numbers of a denied lock
-denied_is : (k : ℕ) → k ≢ 0 → (u : Lent) → outcome (denial k) u ≡ outcome (accepted k k) u
+denied_is : (k : ℕ) → k ≢ 0 → (u : Lent) → outcome (denial (options.Some k)) u ≡ outcome (accepted k k) u
 denied_is zero n u = absurd (n refl)
 denied_is (suc k) n u = refl
 
@@ -149,24 +152,34 @@ denied_is (suc k) n u = refl
 pub valid_core : (a : List ℕ) → Some Valid a → Some Core a
 valid_core a s = record { state = s.state; good = s.good.core; is = s.is }
 
-module _ (a : List ℕ) (k : ℕ) (tells : Tells Core victim a k) where
-  pub break_none : k ≡ 0 → MakesWords Valid break a a (broken broken_cases.NoDeadlock)
-  break_none e = record {
-    then = λ t v is. stepped (break t) 0 0 t a (slots t) (break_is k t (tells.then t v.core is) ∙ deny_none k t e) is refl;
+module _ (a : List ℕ) where
+  pub break_none : Tells Core (λ t. numbered (victim t)) a None → (x : Option ℕ) → x ≡ None → MakesWords Valid break a a (denial x)
+  break_none tells x e = record {
+    then = λ t v is.
+        let z : 0 ≡ victim t = sym (none_is (victim t) (tells.then t v.core is)) in
+        rw e (stepped (break t) 0 0 t a (slots t) (break_is 0 t z ∙ deny_none 0 t refl) is refl);
   }
 
-  module _ (n : k ≡ 0 → ⊥) where
-    blocked_at : (t : Tables) → Valid t → a ≡ words t → Cancellable k t
-    blocked_at t v is = record { valid = v; is_blocked = victim_blocked t v.core k n (tells.then t v.core is) }
+  module _ (k : ℕ) (tells : Tells Core (λ t. numbered (victim t)) a (options.Some k)) where
+    module _ (t : Tables) (v : Valid t) (is : a ≡ words t) where
+      victim_is : k ≡ victim t
+      victim_is = is_number k (victim t) (tells.then t v.core is)
+
+      some : k ≢ 0
+      some z = let low = above_none k (victim t) (tells.then t v.core is) in omega arith
+
+      blocked_at : Cancellable k t
+      blocked_at = record { valid = v; is_blocked = victim_blocked t v.core k some victim_is }
 
     pub break_blocked : Some Valid a → Some (Cancellable k) a
     break_blocked s = record { state = s.state; good = blocked_at s.state s.good s.is; is = s.is }
 
-    pub break_denied : (b : List ℕ) → Turns (Cancellable k) (deny k) a b → MakesWords Valid break a b (broken (broken_cases.Denied k))
+    pub break_denied : (b : List ℕ) → Turns (Cancellable k) (deny k) a b → MakesWords Valid break a b (denial (options.Some k))
     break_denied b denies = record {
       then = λ t v is.
+          let n = some t v is in
           denied_is k n (lent b (slots t))
-          ∙ stepped (break t) k k (deny k t) b (slots t) (break_is k t (tells.then t v.core is) ∙ deny_some k t n) (denies.then t (blocked_at t v is) is) (sym (slots_deny k t));
+          ∙ stepped (break t) k k (deny k t) b (slots t) (break_is k t (victim_is t v is) ∙ deny_some k t n) (denies.then t (blocked_at t v is) is) (sym (slots_deny k t));
     }
 
 pub ruleset break_laws = (rules, valid_core, break_none, break_blocked, break_denied)

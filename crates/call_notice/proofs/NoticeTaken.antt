@@ -5,6 +5,8 @@ use mathlib.Core.Bool.{true, false}
 use mathlib.Core.List.{List}
 use Prim.Native.Nat.{ℕ, zero, suc, ◌≤◌}
 use native.Mathlib.Omega.{arith}
+use Rattle.std.specs.Prelude.{Option, None}
+use Rattle.std.specs.declared.option.Option.TheVariants as options
 use lib.ListN.{length}
 use borrow.Author.Rules.{rules}
 use borrow.Author.Tests.{eq-eqb, ne_eqb}
@@ -27,11 +29,14 @@ use Rattle.rules.specs.Calls.{accepted_with, Step, accepted_step, notice_read, t
 use Rattle.rules.specs.Entries.{lent, outcome, written}
 use Rattle.rules.proofs.NoticesKeepSound.{noted_ok}
 use Rattle.rules.proofs.CallsKeepSound.{noticed_denied, noticed_holds}
+use Rattle.tables.specs.Numbered.{numbered}
+use Rattle.table_chains.proofs.NumberOrNone.{is_number, none_is, above_none}
 use Rattle.table_chains.specs.Promises.{Some, Turns, Tells, Movable, Moving, Moved}
 use Rattle.queues.specs.Promises.{Locked}
 use Rattle.queues.proofs.ResourceRecord.{slots_free}
-use Rattle.answers.specs.Answers.{mark_alone, polled}
-use Rattle.answers.specs.declared.Polled.TheVariants as polled_cases
+use Rattle.answers.specs.Answers.{mark_alone, notice}
+use Rattle.answers.specs.declared.Notice.{Notice}
+use Rattle.answers.specs.declared.Notice.TheVariants as notice_cases
 use Rattle.answers.specs.Promises.{MakesWords}
 use Rattle.answers.proofs.Steps.{step_left, stepped}
 use Rattle.call_notice.specs.Promises.{first_notice, Noticed}
@@ -126,7 +131,7 @@ module _ (k : ℕ) (a : List ℕ) where
     mark_is : (t : Tables) → Noticed k t → a ≡ words t → (lock t k).mark ≡ l.mark
     mark_is t p is = ap (λ (o : Lock). o.mark) (sym (l_is t p is))
 
-    pub take_freed : l.completion ≡ 2 → (b : List ℕ) → Turns (Locked k) (free_lock k) a b → MakesWords (Noticed k) (poll_notice k) a b (polled (polled_cases.RequestDenied k))
+    pub take_freed : l.completion ≡ 2 → (b : List ℕ) → Turns (Locked k) (free_lock k) a b → MakesWords (Noticed k) (poll_notice k) a b (notice (options.Some (notice_cases.RequestDenied k)))
     take_freed e b frees = record {
       then = λ t p is.
           let d : (lock t k).completion ≡ 2 = sym (notice_is t p is) ∙ e in
@@ -160,13 +165,13 @@ module _ (k : ℕ) (a : List ℕ) where
             ((subst (λ (q : Lock). Moved k q a b) (m_is t p is) moved).then r t (movable k t p o) is)
             (sym (slots_move r k (notice_read (lock t k)) t))
 
-        pub take_granted : l.completion ≡ 1 → MakesWords (Noticed k) (poll_notice k) a b (polled (polled_cases.Granted k l.mark))
+        pub take_granted : l.completion ≡ 1 → MakesWords (Noticed k) (poll_notice k) a b (notice (options.Some (notice_cases.Granted k l.mark)))
         take_granted e = record { then = λ t p is. read_at 1 t p is (sym (notice_is t p is) ∙ e) }
 
-        pub take_refused : l.completion ≡ 3 → MakesWords (Noticed k) (poll_notice k) a b (polled (polled_cases.ConversionDenied k l.mark))
+        pub take_refused : l.completion ≡ 3 → MakesWords (Noticed k) (poll_notice k) a b (notice (options.Some (notice_cases.ConversionDenied k l.mark)))
         take_refused e = record { then = λ t p is. read_at 3 t p is (sym (notice_is t p is) ∙ e) }
 
-        pub take_marked : (l.completion ≡ 1 → ⊥) → (l.completion ≡ 3 → ⊥) → MakesWords (Noticed k) (poll_notice k) a b (polled (polled_cases.Marked k l.mark))
+        pub take_marked : (l.completion ≡ 1 → ⊥) → (l.completion ≡ 3 → ⊥) → MakesWords (Noticed k) (poll_notice k) a b (notice (options.Some (notice_cases.Marked k l.mark)))
         take_marked g d = record {
           then = λ t p is.
               let none = mark_else k t p (other_at t p is) (λ e. g (notice_is t p is ∙ e)) (λ e. d (notice_is t p is ∙ e)) in
@@ -190,22 +195,28 @@ unfolding poll_notice
 poll_nothing k t e = rw e
 
 -- poll_change
-module _ (c : ℕ) (a : List ℕ) (k : ℕ) (tells : Tells Core (first_notice c) a k) where
-  pub poll_none : k ≡ 0 → MakesWords Valid (poll_change c) a a (polled polled_cases.NoNotice)
-  poll_none e = record {
-    then = λ t v is. stepped (poll_change c t) 0 0 t a (slots t) (poll_is c k t (tells.then t v.core is) ∙ poll_nothing k t e) is refl;
+module _ (c : ℕ) (a : List ℕ) where
+  pub poll_none : Tells Core (λ t. numbered (first_notice c t)) a None → (x : Option Notice) → x ≡ None → MakesWords Valid (poll_change c) a a (notice x)
+  poll_none tells x e = record {
+    then = λ t v is.
+        let z : 0 ≡ first_notice c t = sym (none_is (first_notice c t) (tells.then t v.core is)) in
+        rw e (stepped (poll_change c t) 0 0 t a (slots t) (poll_is c 0 t z ∙ poll_nothing 0 t refl) is refl);
   }
 
-  module _ (n : k ≡ 0 → ⊥) where
-    noticed_at : (t : Tables) → Valid t → a ≡ words t → Noticed k t
-    noticed_at t v is = first_noticed c t v.core k n (tells.then t v.core is)
+  module _ (k : ℕ) (tells : Tells Core (λ t. numbered (first_notice c t)) a (options.Some k)) where
+    module _ (t : Tables) (v : Valid t) (is : a ≡ words t) where
+      first_is : k ≡ first_notice c t
+      first_is = is_number k (first_notice c t) (tells.then t v.core is)
+
+      noticed_at : Noticed k t
+      noticed_at = let low = above_none k (first_notice c t) (tells.then t v.core is) in first_noticed c t v.core k (λ z. omega arith) first_is
 
     pub poll_noticed : Some Valid a → Some (Noticed k) a
     poll_noticed s = record { state = s.state; good = noticed_at s.state s.good s.is; is = s.is }
 
     pub poll_taken : (b : List ℕ) (x : Said) → MakesWords (Noticed k) (poll_notice k) a b x → MakesWords Valid (poll_change c) a b x
     poll_taken b x takes = record {
-      then = λ t v is. rw (poll_is c k t (tells.then t v.core is)) (takes.then t (noticed_at t v is) is);
+      then = λ t v is. rw (poll_is c k t (first_is t v is)) (takes.then t (noticed_at t v is) is);
     }
 
 pub ruleset poll_laws = (rules, valid_core, poll_none, poll_noticed, poll_taken)

@@ -2,7 +2,7 @@
 use mathlib.Core.Path.{◌≡◌, refl, sym, ◌∙◌, ap}
 use mathlib.Core.Bool.{Bool, true, false}
 use mathlib.Core.List.{List, [], ◌∷◌}
-use Prim.Native.Nat.{ℕ, ◌+◌, ◌≤◌, ◌<◌, ◌^◌}
+use Prim.Native.Nat.{ℕ, ◌+◌, ◌≤◌, ◌<◌}
 use native.Mathlib.Omega.{arith}
 use lib.ListN.{length, set}
 use lib.Dec.{eqb}
@@ -22,7 +22,8 @@ use Rattle.table_fields.specs.Sizes.{Sized, resource_places}
 use Rattle.table_fields.proofs.StateWords.{locks_is, core_sized}
 use Rattle.table_chains.specs.Promises.{Changes}
 use Rattle.queues.specs.Promises.{Locked, SomeTables}
-use Rattle.call_purge.specs.PurgedLocks.{Counts, no_counts, counts_of, added, Few, of_client, purge_own, mark_own, count_own, purge_all, mark_locks, mark_all, count_locks, count_all, Frees}
+use Rattle.answers.specs.declared.Purged.{Purged}
+use Rattle.call_purge.specs.PurgedLocks.{no_counts, counts_of, added, Few, of_client, purge_own, mark_own, count_own, purge_all, mark_locks, mark_all, count_locks, count_all, Frees}
 use Rattle.call_purge.proofs.NumbersLeft.{ahead, ahead_start, ahead_end, ahead_in, ahead_out, ahead_past, ahead_cong}
 use Rattle.call_purge.proofs.LockCounts.{none_added, added_none, added_both, none_few, one_few, few_more, added_few, count_none, count_left}
 use Rattle.call_purge.proofs.OneLock.{Freed, lock_freed, locked_sized, locked_low, locked_high, lock_told}
@@ -70,29 +71,28 @@ resource_few k t co = omega (arith, housed t (lock t k) (lock t k).state (ok_num
 
 -- purge_own
 module _ (c k : ℕ) (a sa : List ℕ) (l : Lock) (el : l ≡ read_lock a k) where
-  pub own_place : (x : ℕ) (m : List Bool) → (x ≡ l.resource) × (x < 2 ^ 32) → SomeTables (Locked k) a sa → length m ≡ resource_places → x < length m
-  own_place x m e s w =
+  pub own_place : (m : List Bool) → SomeTables (Locked k) a sa → length m ≡ resource_places → l.resource < length m
+  own_place m s w =
       let q : l.resource < resource_places = rw (lock_told k a sa l el s.state s.good s.is) (resource_few k s.state s.good.core) in
       omega arith
 
-  pub own_none : (m : List Bool) (x : Counts) → (l.client ≡ c → ⊥) → x ≡ no_counts → Frees (Locked k) (purge_own c k) (mark_own c k m) (count_own c k) a sa a sa m x
+  pub own_none : (m : List Bool) → (l.client ≡ c → ⊥) → Frees (Locked k) (purge_own c k) (mark_own c k m) (count_own c k) a sa a sa m no_counts
   unfolding of_client
-  own_none m x n e = record {
+  own_none m n = record {
     then = λ t p is iss.
         let h : of_client c t k ≡ false = ne_eqb (lock t k).client c (rw (lock_told k a sa l el t p is) at n) in
-        rw (other_kept c k t h, other_unmarked c k t h m, other_uncounted c k t h) (is, iss, refl, e);
+        rw (other_kept c k t h, other_unmarked c k t h m, other_uncounted c k t h) (is, iss, refl, refl);
   }
 
-  pub own_one : (m : List Bool) (x : ℕ) (o : Counts) → (x ≡ l.resource) × (x < 2 ^ 32) → l.client ≡ c → (b sb : List ℕ) → Changes (Locked k) (purge_lock k) a sa b sb → o ≡ counts_of l →
-      Frees (Locked k) (purge_own c k) (mark_own c k m) (count_own c k) a sa b sb (set m x true) o
+  pub own_one : (m : List Bool) (o : Purged) → l.client ≡ c → (b sb : List ℕ) → Changes (Locked k) (purge_lock k) a sa b sb → o ≡ counts_of l →
+      Frees (Locked k) (purge_own c k) (mark_own c k m) (count_own c k) a sa b sb (set m l.resource true) o
   unfolding of_client
-  own_one m x o e y b sb made eo = record {
+  own_one m o y b sb made eo = record {
     then = λ t p is iss.
         let q = lock_told k a sa l el t p is in
         let h : of_client c t k ≡ true = eq-eqb (lock t k).client c (rw q at y) in
-        let z : x ≡ (lock t k).resource = e.0 ∙ ap (λ (o : Lock). o.resource) q in
         let w = made.then t p is iss in
-        rw (own_purged c k t h, own_marked c k t h m, own_counted c k t h) (w.0, w.1, ap (λ (i : ℕ). set m i true) z, eo ∙ ap counts_of q);
+        rw (own_purged c k t h, own_marked c k t h m, own_counted c k t h) (w.0, w.1, ap (λ (o : Lock). set m o.resource true) q, eo ∙ ap counts_of q);
   }
 
 pub ruleset own_laws = (rules, locked_sized, locked_low, locked_high, own_place, own_none, own_one)
@@ -165,59 +165,53 @@ module _ (c k : ℕ) (t : Tables) (p : Locked k t) where
   turned = by_cases (of_client c t k) turned_own turned_other
 
 -- purge_locks: from the words a and slots sa, and the marks m₀, to those of a state from which as much is left to do
-pub record Goes (c last k : ℕ) (t : Tables) (m₀ : List Bool) (b sb : List ℕ) (m : List Bool) (n : Counts) : Type 0 where
+pub record Goes (c k : ℕ) (a : List ℕ) (t : Tables) (m₀ : List Bool) (b sb : List ℕ) (m : List Bool) (n : Purged) : Type 0 where
   pub here : Tables
   pub core : Core here
   pub is : b ≡ words here
   pub slots_are : sb ≡ slots here
-  pub locks_are : length here.locks ≡ last
+  pub locks_are : length here.locks ≡ locks_in a
   pub purges : purge_locks (left c k here) here ≡ purge_all c t
   pub counts : added n (count_locks (left c k here) here) ≡ count_all c t
   pub marks : mark_locks (left c k here) here m ≡ mark_all c m₀ t
 
-pub record Going (c last k : ℕ) (a sa : List ℕ) (m₀ : List Bool) (b sb : List ℕ) (m : List Bool) (n : Counts) : Type 0 where
+pub record Going (c k : ℕ) (a sa : List ℕ) (m₀ : List Bool) (b sb : List ℕ) (m : List Bool) (n : Purged) : Type 0 where
   pub low : 1 ≤ k
   pub lent : SomeTables Core b sb
-  pub words_size : length b ≡ length a
-  pub slots_size : length sb ≡ length sa
-  pub marks_size : length m ≡ length m₀
   pub wide : length m ≡ resource_places
   pub few : Few k n
-  pub last_few : last ≤ most_locks
-  pub locks_are : locks_in b ≡ last
-  pub then : (t : Tables) → Core t → a ≡ words t → sa ≡ slots t → Goes c last k t m₀ b sb m n
+  pub last_few : locks_in a ≤ most_locks
+  pub locks_are : locks_in b ≡ locks_in a
+  pub then : (t : Tables) → Core t → a ≡ words t → sa ≡ slots t → Goes c k a t m₀ b sb m n
 
 pub lent_sized : (a sa : List ℕ) → SomeTables Core a sa → Sized a
 lent_sized a sa s = core_sized s.state a s.is s.good
 
-module _ (c last : ℕ) (a sa : List ℕ) (m₀ : List Bool) where
-  pub purge_starts : (n : Counts) → SomeTables Core a sa → length m₀ ≡ resource_places → last ≡ locks_in a → n ≡ no_counts → Going c last 1 a sa m₀ a sa m₀ n
+module _ (c : ℕ) (a sa : List ℕ) (m₀ : List Bool) where
+  pub purge_starts : (n : Purged) → SomeTables Core a sa → length m₀ ≡ resource_places → n ≡ no_counts → Going c 1 a sa m₀ a sa m₀ n
   unfolding purge_all mark_all count_all
-  purge_starts n s w e en =
+  purge_starts n s w en =
       record {
         low = omega arith;
         lent = s;
-        words_size = refl;
-        slots_size = refl;
-        marks_size = refl;
         wide = w;
         few = rw en (none_few 1);
         last_few = omega (arith, (lent_sized a sa s).few_locks);
-        locks_are = sym e;
+        locks_are = refl;
         then = λ t co is iss. record {
           here = t;
           core = co;
           is = is;
           slots_are = iss;
-          locks_are = sym (e ∙ locks_is t a is);
+          locks_are = sym (locks_is t a is);
           purges = rw (left_start c t);
           counts = rw (left_start c t, en) (none_added (count_locks (locks_of c t) t));
           marks = rw (left_start c t);
         };
       }
 
-  module _ (k : ℕ) (b sb : List ℕ) (m : List Bool) (n : Counts) (g : Going c last k a sa m₀ b sb m n) where
-    pub purge_ends : last < k → Frees Core (purge_all c) (mark_all c m₀) (count_all c) a sa b sb m n
+  module _ (k : ℕ) (b sb : List ℕ) (m : List Bool) (n : Purged) (g : Going c k a sa m₀ b sb m n) where
+    pub purge_ends : locks_in a < k → Frees Core (purge_all c) (mark_all c m₀) (count_all c) a sa b sb m n
     unfolding purge_locks mark_locks
     purge_ends h = record {
       then = λ t co is iss.
@@ -230,7 +224,7 @@ module _ (c last : ℕ) (a sa : List ℕ) (m₀ : List Bool) where
           (q.is ∙ ap words purges, q.slots_are ∙ ap slots purges, marks, counts);
     }
 
-    module _ (h : k ≤ last) where
+    module _ (h : k ≤ locks_in a) where
       there : (t : Tables) → Core t → b ≡ words t → Locked k t
       there t co is =
           record { core = co; in_range = le_within (length t.locks) k g.low (omega (arith, locks_is t b is, g.locks_are)) }
@@ -242,7 +236,7 @@ module _ (c last : ℕ) (a sa : List ℕ) (m₀ : List Bool) where
       pub so_far_few : Few most_locks n
       so_far_few = few_more k most_locks n (omega (arith, g.last_few)) g.few
 
-      module _ (d sd : List ℕ) (m' : List Bool) (x : Counts) (f : Frees (Locked k) (purge_own c k) (mark_own c k m) (count_own c k) b sb d sd m' x) where
+      module _ (d sd : List ℕ) (m' : List Bool) (x : Purged) (f : Frees (Locked k) (purge_own c k) (mark_own c k m) (count_own c k) b sb d sd m' x) where
         x_few : Few 1 x
         x_few =
             let s = purge_locked in
@@ -257,16 +251,13 @@ module _ (c last : ℕ) (a sa : List ℕ) (m₀ : List Bool) where
             let q = f.then t p is iss in
             record { state = purge_own c k t; good = (own_freed c k t p).core; is = q.0; slots_are = q.1 }
 
-        pub purge_again : (z : Counts) → length d ≡ length b → length sd ≡ length sb → length m' ≡ length m → z ≡ added n x → Going c last (k + 1) a sa m₀ d sd m' z
-        purge_again z i j y e =
+        pub purge_again : (z : Purged) → length m' ≡ length m → z ≡ added n x → Going c (k + 1) a sa m₀ d sd m' z
+        purge_again z y e =
             let s = g.lent in
             let p = there s.state s.good s.is in
             record {
               low = omega arith;
               lent = after s.state s.good s.is s.slots_are;
-              words_size = i ∙ g.words_size;
-              slots_size = j ∙ g.slots_size;
-              marks_size = y ∙ g.marks_size;
               wide = y ∙ g.wide;
               few = rw e (added_few k 1 n x g.few x_few);
               last_few = g.last_few;
@@ -278,7 +269,7 @@ module _ (c last : ℕ) (a sa : List ℕ) (m₀ : List Bool) where
               then = λ t co is iss. onward (g.then t co is iss);
             }
           where
-            onward : {t : Tables} → Goes c last k t m₀ b sb m n → Goes c last (k + 1) t m₀ d sd m' z
+            onward : {t : Tables} → Goes c k a t m₀ b sb m n → Goes c (k + 1) a t m₀ d sd m' z
             onward q =
                 let p = there q.here q.core q.is in
                 let w = f.then q.here p q.is q.slots_are in

@@ -2,7 +2,7 @@
 use mathlib.Core.Path.{◌≡◌, refl, sym, ◌∙◌, ap}
 use mathlib.Core.Bool.{Bool, true, false, not}
 use mathlib.Core.List.{List}
-use Prim.Native.Nat.{ℕ, ◌+◌, ◌≤◌, ◌<◌, ◌^◌}
+use Prim.Native.Nat.{ℕ, ◌+◌, ◌≤◌, ◌<◌}
 use native.Mathlib.Omega.{arith}
 use lib.ListN.{length, get_or}
 use borrow.Author.Rules.{rules}
@@ -94,8 +94,6 @@ pub record Going (m : List Bool) (r : ℕ) (a sa b sb : List ℕ) : Type 0 where
   pub low : 1 ≤ r
   pub wide : length m ≡ resource_places
   pub lent : SomeTables Core b sb
-  pub words_size : length b ≡ length a
-  pub slots_size : length sb ≡ length sa
   pub resources_are : resources_in b ≡ resources_in a
   pub then : (t : Tables) → Core t → a ≡ words t → sa ≡ slots t → Goes m r t b sb
 
@@ -106,14 +104,12 @@ module _ (m : List Bool) (a sa : List ℕ) where
         low = omega arith;
         wide = w;
         lent = s;
-        words_size = refl;
-        slots_size = refl;
         resources_are = refl;
         then = λ t co is iss. record { here = t; core = co; is = is; slots_are = iss; resources_are = refl; same = from_start m t };
       }
 
-  module _ (r : ℕ) (b sb : List ℕ) (g : Going m r a sa b sb) (last : ℕ) (el : last ≡ resources_in a) where
-    pub settle_ends : last < r → Changes Core (settle_marked m) a sa b sb
+  module _ (r : ℕ) (b sb : List ℕ) (g : Going m r a sa b sb) where
+    pub settle_ends : resources_in a < r → Changes Core (settle_marked m) a sa b sb
     settle_ends h = record {
       then = λ t co is iss.
           let q = g.then t co is iss in
@@ -122,7 +118,7 @@ module _ (m : List Bool) (a sa : List ℕ) where
           (q.is ∙ ap words e, q.slots_are ∙ ap slots e);
     }
 
-    module _ (h : r ≤ last) where
+    module _ (h : r ≤ resources_in a) where
       there : (t : Tables) → Core t → b ≡ words t → Resourced r t
       there t co is =
           record { core = co; in_range = le_within (length t.resources) r g.low (omega (arith, resources_is t b is, g.resources_are)) }
@@ -131,17 +127,14 @@ module _ (m : List Bool) (a sa : List ℕ) where
       settle_resourced =
           record { state = g.lent.state; good = there g.lent.state g.lent.good g.lent.is; is = g.lent.is; slots_are = g.lent.slots_are }
 
-      last_few : last ≤ most_resources
+      last_few : resources_in a ≤ most_resources
       last_few = omega (arith, (lent_sized b sb g.lent).few_resources, g.resources_are)
 
       pub settle_place : r < length m
       settle_place = omega (arith, last_few, g.wide)
 
-      pub settle_next : r + 1 < 2 ^ 32
-      settle_next = omega (arith, last_few)
-
-      pub settle_again : (d sd : List ℕ) → Changes (Resourced r) (settle_if (marked m r) r) b sb d sd → length d ≡ length b → length sd ≡ length sb → Going m (r + 1) a sa d sd
-      settle_again d sd f i j =
+      pub settle_again : (d sd : List ℕ) → Changes (Resourced r) (settle_if (marked m r) r) b sb d sd → Going m (r + 1) a sa d sd
+      settle_again d sd f =
           let s = g.lent in
           let p = there s.state s.good s.is in
           let k = settled_kept (marked m r) r s.state p in
@@ -150,8 +143,6 @@ module _ (m : List Bool) (a sa : List ℕ) where
             low = omega arith;
             wide = g.wide;
             lent = record { state = settle_if (marked m r) r s.state; good = k.core; is = w.0; slots_are = w.1 };
-            words_size = i ∙ g.words_size;
-            slots_size = j ∙ g.slots_size;
             resources_are = resources_is (settle_if (marked m r) r s.state) d w.0 ∙ k.resources_are ∙ sym (resources_is s.state b s.is) ∙ g.resources_are;
             then = λ t co is iss.
                 let q = g.then t co is iss in
@@ -168,4 +159,4 @@ module _ (m : List Bool) (a sa : List ℕ) where
                 };
           }
 
-pub ruleset settles_laws = (rules, lent_sized, settle_starts, settle_resourced, settle_place, settle_next, settle_again, settle_ends)
+pub ruleset settles_laws = (rules, lent_sized, settle_starts, settle_resourced, settle_place, settle_again, settle_ends)

@@ -27,10 +27,10 @@ use Rattle.rules.specs.Accepted.{Purgeable}
 use Rattle.table_fields.specs.Sizes.{resource_places}
 use Rattle.table_chains.specs.Promises.{Changes}
 use Rattle.queues.specs.Promises.{SomeTables}
-use Rattle.answers.specs.declared.Purged.TheVariants as purged_cases
-use Rattle.answers.specs.Answers.{purged}
+use Rattle.answers.specs.Answers.{purge_answer}
 use Rattle.answers.specs.Promises.{Makes}
-use Rattle.call_purge.specs.PurgedLocks.{Counts, purge_all, mark_locks, mark_all, count_locks, count_all, Frees}
+use Rattle.answers.specs.declared.Purged.{Purged}
+use Rattle.call_purge.specs.PurgedLocks.{purge_all, mark_locks, mark_all, count_locks, count_all, Frees}
 use Rattle.table_chains.specs.Marks.{marked}
 use Rattle.call_purge.specs.SettledResources.{settle_marked}
 use Rattle.call_purge.proofs.OneLock.{lock_freed}
@@ -123,14 +123,14 @@ module _ (c : ℕ) (t : Tables) (co : Core t) where
       (keep_cong (marked m) (stands_on c t) (from 1 n) (λ s i. marks_tell m e s (bit_one (within n s) (rw (count_from n s) at i)))))
 
 -- purge_change
-module _ (c : ℕ) (a sa b sb : List ℕ) (m : List Bool) (x : Counts) (f : Frees Core (purge_all c) (mark_all c (replicate resource_places false)) (count_all c) a sa b sb m x) where
+module _ (c : ℕ) (a sa b sb : List ℕ) (m : List Bool) (x : Purged) (f : Frees Core (purge_all c) (mark_all c (replicate resource_places false)) (count_all c) a sa b sb m x) where
   pub change_settles : SomeTables (Purgeable c) a sa → SomeTables Core b sb
   change_settles s =
       let co = s.good.valid.core in
       let q = f.then s.state co s.is s.slots_are in
       record { state = purge_all c s.state; good = (all_kept c s.state co).core; is = q.0; slots_are = q.1 }
 
-  pub change_made : (d sd : List ℕ) → Changes Core (settle_marked m) b sb d sd → Makes (Purgeable c) (purge_change c) a sa d sd (purged (purged_cases.Freed x.freed x.blocked x.unread))
+  pub change_made : (d sd : List ℕ) → Changes Core (settle_marked m) b sb d sd → Makes (Purgeable c) (purge_change c) a sa d sd (purge_answer x)
   unfolding count_all count_locks
   change_made d sd g = record {
     then = λ t p is iss.

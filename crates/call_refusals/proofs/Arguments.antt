@@ -3,98 +3,85 @@ use mathlib.Core.Path.{◌≡◌, refl, sym, ◌∙◌}
 use mathlib.Core.Bool.{Bool, true, false, not}
 use mathlib.Core.List.{List}
 use Prim.Native.Nat.{ℕ, ◌<◌}
+use Rattle.std.specs.Prelude.{Option, unwrap_or, Result, IsErrAnd}
 use native.Mathlib.Omega.{arith}
 use lib.Dec.{leb}
-use borrow.Author.Rules.{rules}
 use borrow.Author.Tests.{le-leb, lt-leb, not-true, not-false}
 use Rattle.modes.specs.declared.Mode.{Mode}
-use Rattle.modes.specs.declared.Made.{Made}
-use Rattle.modes.specs.declared.Made.TheVariants.{Refused}
-use Rattle.modes.specs.declared.Made.TheVariants as made_cases
-use Rattle.modes.specs.Made.{made_numbers, made}
-use Rattle.modes.proofs.Laws.{mode_small, mode_number, refused_above}
+use Rattle.modes.specs.Made.{mode_number}
 use Rattle.tables.specs.State.{Tables, lock, granted, unread}
 use Rattle.tables.specs.Layout.{words}
-use Rattle.tables.specs.Sound.{client_right}
 use Rattle.tables.specs.Validity.{Core}
-use Rattle.rules.specs.Calls.{unless, own, no_queue, request_flags, convert_flags, release_flags, name_right, value_right, in_place, request_refusal, convert_refusal, release_refusal}
+use Rattle.rules.specs.Calls.{unless, own, no_queue, request_flags, convert_flags, release_flags, name_right, value_right, in_place, request_refusal, convert_refusal, release_refusal, purge_refusal}
 use Rattle.rules.proofs.AcceptedCalls.{passed, next_test}
 use Rattle.table_chains.specs.Promises.{Some, Tells}
-use Rattle.call_refusals.specs.Promises.{ResourceOrNone, Finds}
+use Rattle.answers.specs.declared.Refusal.{Refusal}
+use Rattle.answers.specs.Refusals.{refusal_number, refused_number}
+use Rattle.call_refusals.specs.Promises.{ResourceIfAny, Finds}
+use Rattle.call_refusals.proofs.PassedUp.{above_zero, number_up, client_goes, client_first}
 use Rattle.queues.specs.Promises.{GrantedLock}
 use Rattle.call_refusals.specs.Rests.{granted_refusal, conversion_refusal, room_refusal}
-use Rattle.call_refusals.proofs.RequestRoom.{finds_resource}
+use Rattle.call_refusals.proofs.RequestRoom.{finds_resource, found_number}
 
-module _ (c : ℕ) (p : Bool) (ep : p ≡ client_right c) where
-  client_not : not p ≡ true → client_right c ≡ false
-  client_not h = sym ep ∙ not-true p h
+-- the number m is no mode, or the mode q
+module _ (m : ℕ) where
+  module _ (x : Result Unit Refusal) (e : Refusal) (up : IsErrAnd x (λ d. d ≡ e)) (four : refusal_number e ≡ 4) (high : 5 < m) where
+    mode_refused : (rest : ℕ) → refused_number x ≡ unless (leb m 5) 4 rest
+    unfolding unless
+    mode_refused rest = rw (number_up x e up, lt-leb m 5 high) four
 
-  client_is : not p ≡ false → client_right c ≡ true
-  client_is h = sym ep ∙ not-false p h
-
--- what was made of the number m: none above 5, or the mode m
-module _ (m : ℕ) (x : Made) (made_is : made_numbers x ≡ made m) where
-  mode_not : x ≡ Refused → leb m 5 ≡ false
-  mode_not e = lt-leb m 5 (refused_above m x e made_is)
-
-  module _ (q : Mode) (e : x ≡ made_cases.Mode q) where
-    low : m < 6
-    low = mode_small m x q e made_is
-
+  module _ (q : Mode) (made : mode_number q ≡ m) (low : m < 6) where
     mode_is : leb m 5 ≡ true
     mode_is = le-leb m 5 (omega (arith, low))
 
-    number_is : q.0 ≡ m
-    number_is = mode_number m x q e made_is
-
-    pub mode_low : q.0 < 6
-    mode_low = rw number_is low
-
 -- release
-module _ (ws : List ℕ) (c k f : ℕ) (v : List ℕ) (p : Bool) (ep : p ≡ client_right c) where
-  pub release_client : not p ≡ true → Tells Core (release_refusal c k f v) ws 3
-  unfolding release_refusal unless
-  release_client h = record { then = λ t g is. rw (client_not c p ep h) }
+module _ (ws : List ℕ) (c k f : ℕ) (v : List ℕ) where
+  pub release_client : (x : Result Unit Refusal) (e : Refusal) → IsErrAnd x (λ d. d ≡ e) → refusal_number e ≡ purge_refusal c
+      → Tells Core (release_refusal c k f v) ws (refused_number x)
+  unfolding release_refusal
+  release_client x e up ee = record { then = λ t g is. client_first c x e up ee _ }
 
-  module _ (right : not p ≡ false) (a : Bool) (ea : a ≡ release_flags f) where
+  module _ (right : 0 ≡ purge_refusal c) (a : Bool) (ea : a ≡ release_flags f) where
     pub release_flagged : not a ≡ true → Tells Core (release_refusal c k f v) ws 5
     unfolding release_refusal unless
-    release_flagged h = record { then = λ t g is. rw (client_is c p ep right, sym ea ∙ not-true a h) }
+    release_flagged h = record { then = λ t g is. rw (client_goes c right, sym ea ∙ not-true a h) }
 
     module _ (allowed : not a ≡ false) (b : Bool) (eb : b ≡ value_right f v) where
       pub release_valued : not b ≡ true → Tells Core (release_refusal c k f v) ws 7
       unfolding release_refusal unless
-      release_valued h = record { then = λ t g is. rw (client_is c p ep right, sym ea ∙ not-false a allowed, sym eb ∙ not-true b h) }
+      release_valued h = record { then = λ t g is. rw (client_goes c right, sym ea ∙ not-false a allowed, sym eb ∙ not-true b h) }
 
       pub release_rest : not b ≡ false → (n : ℕ) → Tells Core (granted_refusal c k) ws n → Tells Core (release_refusal c k f v) ws n
       unfolding release_refusal granted_refusal unless
-      release_rest h n rest = record { then = λ t g is. rw (client_is c p ep right, sym ea ∙ not-false a allowed, sym eb ∙ not-false b h) (rest.then t g is) }
+      release_rest h n rest = record { then = λ t g is. rw (client_goes c right, sym ea ∙ not-false a allowed, sym eb ∙ not-false b h) (rest.then t g is) }
 
 -- convert
-module _ (ws : List ℕ) (c k m f : ℕ) (v : List ℕ) (p : Bool) (ep : p ≡ client_right c) where
-  pub convert_client : not p ≡ true → Tells Core (convert_refusal c k m f v) ws 3
-  unfolding convert_refusal unless
-  convert_client h = record { then = λ t g is. rw (client_not c p ep h) }
+module _ (ws : List ℕ) (c k m f : ℕ) (v : List ℕ) where
+  pub convert_client : (x : Result Unit Refusal) (e : Refusal) → IsErrAnd x (λ d. d ≡ e) → refusal_number e ≡ purge_refusal c
+      → Tells Core (convert_refusal c k m f v) ws (refused_number x)
+  unfolding convert_refusal
+  convert_client x e up ee = record { then = λ t g is. client_first c x e up ee _ }
 
-  module _ (right : not p ≡ false) (x : Made) (made_is : made_numbers x ≡ made m) where
-    pub convert_mode : x ≡ Refused → Tells Core (convert_refusal c k m f v) ws 4
+  module _ (right : 0 ≡ purge_refusal c) where
+    pub convert_mode : (x : Result Unit Refusal) (e : Refusal) → IsErrAnd x (λ d. d ≡ e) → refusal_number e ≡ 4 → 5 < m
+        → Tells Core (convert_refusal c k m f v) ws (refused_number x)
     unfolding convert_refusal unless
-    convert_mode h = record { then = λ t g is. rw (client_is c p ep right, mode_not m x made_is h) }
+    convert_mode x e up four high = record { then = λ t g is. rw (client_goes c right) (mode_refused m x e up four high _) }
 
-    module _ (q : Mode) (e : x ≡ made_cases.Mode q) (a : Bool) (ea : a ≡ convert_flags f) where
+    module _ (q : Mode) (made : mode_number q ≡ m) (low : m < 6) (a : Bool) (ea : a ≡ convert_flags f) where
       pub convert_flagged : not a ≡ true → Tells Core (convert_refusal c k m f v) ws 5
       unfolding convert_refusal unless
-      convert_flagged h = record { then = λ t g is. rw (client_is c p ep right, mode_is m x made_is q e, sym ea ∙ not-true a h) }
+      convert_flagged h = record { then = λ t g is. rw (client_goes c right, mode_is m q made low, sym ea ∙ not-true a h) }
 
       module _ (allowed : not a ≡ false) (b : Bool) (eb : b ≡ value_right f v) where
         pub convert_valued : not b ≡ true → Tells Core (convert_refusal c k m f v) ws 7
         unfolding convert_refusal unless
-        convert_valued h = record { then = λ t g is. rw (client_is c p ep right, mode_is m x made_is q e, sym ea ∙ not-false a allowed, sym eb ∙ not-true b h) }
+        convert_valued h = record { then = λ t g is. rw (client_goes c right, mode_is m q made low, sym ea ∙ not-false a allowed, sym eb ∙ not-true b h) }
 
-        pub convert_rest : not b ≡ false → (n : ℕ) → Tells Core (conversion_refusal c k q.0 f) ws n → Tells Core (convert_refusal c k m f v) ws n
+        pub convert_rest : not b ≡ false → (i : ℕ) → i ≡ mode_number q → (n : ℕ) → Tells Core (conversion_refusal c k i f) ws n → Tells Core (convert_refusal c k m f v) ws n
         unfolding convert_refusal conversion_refusal unless
-        convert_rest h n rest = record {
-          then = λ t g is. rw (client_is c p ep right, mode_is m x made_is q e, sym ea ∙ not-false a allowed, sym eb ∙ not-false b h) (rw (number_is m x made_is q e) at (rest.then t g is));
+        convert_rest h i number n rest = record {
+          then = λ t g is. rw (client_goes c right, mode_is m q made low, sym ea ∙ not-false a allowed, sym eb ∙ not-false b h) (rw (number ∙ made) at (rest.then t g is));
         }
 
 -- .. of a lock that is granted
@@ -105,16 +92,19 @@ refused_before true true false rest n = refl
 refused_before true false d rest n = refl
 refused_before false b d rest n = refl
 
-module _ (ws : List ℕ) (c k m f n : ℕ) (told_it : Tells Core (granted_refusal c k) ws n) where
-  pub conversion_refused : (n ≡ 0 → ⊥) → Tells Core (conversion_refusal c k m f) ws n
+module _ (ws : List ℕ) (c k m f : ℕ) where
+  pub conversion_refused : (x : Result Unit Refusal) (e : Refusal) → IsErrAnd x (λ d. d ≡ e) → Tells Core (granted_refusal c k) ws (refusal_number e)
+      → Tells Core (conversion_refusal c k m f) ws (refused_number x)
   unfolding granted_refusal conversion_refusal
-  conversion_refused z = record {
-    then = λ t g is. told_it.then t g is ∙ refused_before (own c k t) (not (unread (lock t k))) (granted (lock t k)) _ (λ e. z (told_it.then t g is ∙ e));
+  conversion_refused x e up ee = record {
+    then = λ t g is.
+        number_up x e up ∙ ee.then t g is
+        ∙ refused_before (own c k t) (not (unread (lock t k))) (granted (lock t k)) _ (λ z. above_zero e (ee.then t g is ∙ z));
   }
 
-  module _ (z : n ≡ 0) where
+  module _ (goes : Tells Core (granted_refusal c k) ws 0) where
     none : (t : Tables) → Core t → ws ≡ words t → granted_refusal c k t ≡ 0
-    none t g is = sym (told_it.then t g is) ∙ z
+    none t g is = sym (goes.then t g is)
 
     grants : (t : Tables) → Core t → ws ≡ words t → GrantedLock k t
     unfolding granted_refusal
@@ -150,35 +140,37 @@ module _ (ws : List ℕ) (c k m f n : ℕ) (told_it : Tells Core (granted_refusa
         }
 
 -- request
-module _ (ws : List ℕ) (r c m f : ℕ) (v : List ℕ) (p : Bool) (ep : p ≡ client_right c) where
-  pub request_client : not p ≡ true → Tells (Finds v r) (request_refusal c m f v) ws 3
-  unfolding request_refusal unless
-  request_client h = record { then = λ t g is. rw (client_not c p ep h) }
+module _ (ws : List ℕ) (r : Option ℕ) (c m f : ℕ) (v : List ℕ) where
+  pub request_client : (x : Result Unit Refusal) (e : Refusal) → IsErrAnd x (λ d. d ≡ e) → refusal_number e ≡ purge_refusal c
+      → Tells (Finds v r) (request_refusal c m f v) ws (refused_number x)
+  unfolding request_refusal
+  request_client x e up ee = record { then = λ t g is. client_first c x e up ee _ }
 
-  module _ (right : not p ≡ false) (x : Made) (made_is : made_numbers x ≡ made m) where
-    pub request_mode : x ≡ Refused → Tells (Finds v r) (request_refusal c m f v) ws 4
+  module _ (right : 0 ≡ purge_refusal c) where
+    pub request_mode : (x : Result Unit Refusal) (e : Refusal) → IsErrAnd x (λ d. d ≡ e) → refusal_number e ≡ 4 → 5 < m
+        → Tells (Finds v r) (request_refusal c m f v) ws (refused_number x)
     unfolding request_refusal unless
-    request_mode h = record { then = λ t g is. rw (client_is c p ep right, mode_not m x made_is h) }
+    request_mode x e up four high = record { then = λ t g is. rw (client_goes c right) (mode_refused m x e up four high _) }
 
-    module _ (q : Mode) (e : x ≡ made_cases.Mode q) (a : Bool) (ea : a ≡ request_flags f) where
+    module _ (q : Mode) (made : mode_number q ≡ m) (low : m < 6) (a : Bool) (ea : a ≡ request_flags f) where
       pub request_flagged : not a ≡ true → Tells (Finds v r) (request_refusal c m f v) ws 5
       unfolding request_refusal unless
-      request_flagged h = record { then = λ t g is. rw (client_is c p ep right, mode_is m x made_is q e, sym ea ∙ not-true a h) }
+      request_flagged h = record { then = λ t g is. rw (client_goes c right, mode_is m q made low, sym ea ∙ not-true a h) }
 
       module _ (allowed : not a ≡ false) (b : Bool) (eb : b ≡ name_right v) where
         pub request_named : not b ≡ true → Tells (Finds v r) (request_refusal c m f v) ws 6
         unfolding request_refusal unless
-        request_named h = record { then = λ t g is. rw (client_is c p ep right, mode_is m x made_is q e, sym ea ∙ not-false a allowed, sym eb ∙ not-true b h) }
+        request_named h = record { then = λ t g is. rw (client_goes c right, mode_is m q made low, sym ea ∙ not-false a allowed, sym eb ∙ not-true b h) }
 
-        pub request_rest : not b ≡ false → (n : ℕ) → Tells (ResourceOrNone r) (room_refusal r q.0 f) ws n → Tells (Finds v r) (request_refusal c m f v) ws n
+        pub request_rest : not b ≡ false → (i : ℕ) → i ≡ mode_number q → (n : ℕ) → Tells (ResourceIfAny r) (room_refusal (unwrap_or r 0) i f) ws n
+            → Tells (Finds v r) (request_refusal c m f v) ws n
         unfolding request_refusal room_refusal unless
-        request_rest h n rest = record {
+        request_rest h i number n rest = record {
           then = λ t g is.
-              rw (client_is c p ep right, mode_is m x made_is q e, sym ea ∙ not-false a allowed, sym eb ∙ not-false b h, ← g.found) (rw (number_is m x made_is q e) at (rest.then t (finds_resource v r t g) is));
+              rw (client_goes c right, mode_is m q made low, sym ea ∙ not-false a allowed, sym eb ∙ not-false b h, ← (found_number v r t g))
+              (rw (number ∙ made) at (rest.then t (finds_resource v r t g) is));
         }
 
 -- what is left of it stands on the resource alone
-pub request_room : (ws : List ℕ) (r : ℕ) (v : List ℕ) → Some (Finds v r) ws → Some (ResourceOrNone r) ws
+pub request_room : (ws : List ℕ) (r : Option ℕ) (v : List ℕ) → Some (Finds v r) ws → Some (ResourceIfAny r) ws
 request_room ws r v s = record { state = s.state; good = finds_resource v r s.state s.good; is = s.is }
-
-pub ruleset request_laws = (rules, mode_low, request_client, request_mode, request_flagged, request_named, request_rest, request_room)

@@ -1,3 +1,5 @@
+pub mod PassedUp
+pub mod AskedModes
 pub mod LockRefusals
 pub mod Arguments
 pub mod RequestRoom

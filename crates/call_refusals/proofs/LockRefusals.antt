@@ -3,6 +3,7 @@ use mathlib.Core.Path.{◌≡◌, refl, sym, ◌∙◌, ap}
 use mathlib.Core.Bool.{Bool, true, false, ◌&&◌, ◌||◌, not}
 use mathlib.Core.List.{List}
 use Prim.Native.Nat.{ℕ, ◌≤◌}
+use Rattle.std.specs.Prelude.{Result, IsErrAnd}
 use lib.ListN.{length}
 use lib.Dec.{eqb}
 use borrow.Author.Tests.{eq-eqb, ne_eqb, not-true, not-false}
@@ -20,8 +21,10 @@ use Rattle.rules.specs.Calls.{unless, own, cancel_refusal, purge_refusal, poll_r
 use Rattle.rules.specs.Entries.{look_refusal}
 use Rattle.table_chains.specs.Promises.{Some, Tells}
 use Rattle.table_chains.proofs.ChainWalks.{some_sized}
+use Rattle.answers.specs.declared.Refusal.{Refusal}
+use Rattle.answers.specs.Refusals.{refusal_number, refused_number}
 use Rattle.call_refusals.specs.Rests.{granted_refusal}
-use Rattle.table_chains.proofs.ChainWalks.{some_sized}
+use Rattle.call_refusals.proofs.PassedUp.{client_goes, client_first}
 
 -- purge and poll
 module _ (c : ℕ) (p : Bool) (ep : p ≡ client_right c) where
@@ -97,19 +100,20 @@ module _ (ws : List ℕ) (c k : ℕ) where
     granted_lock h = record { then = λ t g is. rw (own_not h t g is) }
 
   -- cancel, and read and list
-  module _ (p : Bool) (ep : p ≡ client_right c) where
-    pub cancel_client : not p ≡ true → Tells Core (cancel_refusal c k) ws 3
-    unfolding cancel_refusal unless
-    cancel_client h = record { then = λ t g is. rw (sym ep ∙ not-true p h) }
+  module _ {A : Type 0} (x : Result A Refusal) (e : Refusal) (up : IsErrAnd x (λ d. d ≡ e)) (ee : refusal_number e ≡ purge_refusal c) where
+    pub cancel_client : Tells Core (cancel_refusal c k) ws (refused_number x)
+    unfolding cancel_refusal
+    cancel_client = record { then = λ t g is. client_first c x e up ee _ }
 
-    pub look_client : not p ≡ true → Tells Core (look_refusal c k) ws 3
-    unfolding look_refusal unless
-    look_client h = record { then = λ t g is. rw (sym ep ∙ not-true p h) }
+    pub look_client : Tells Core (look_refusal c k) ws (refused_number x)
+    unfolding look_refusal
+    look_client = record { then = λ t g is. client_first c x e up ee _ }
 
-    module _ (right : not p ≡ false) (o : Bool) (eo : Tells Core (own c k) ws o) where
-      client_is : client_right c ≡ true
-      client_is = sym ep ∙ not-false p right
+  module _ (right : 0 ≡ purge_refusal c) where
+    client_is : client_right c ≡ true
+    client_is = client_goes c right
 
+    module _ (o : Bool) (eo : Tells Core (own c k) ws o) where
       pub cancel_lock : not o ≡ true → Tells Core (cancel_refusal c k) ws 8
       unfolding cancel_refusal unless
       cancel_lock h = record { then = λ t g is. rw (client_is, own_not o eo h t g is) }

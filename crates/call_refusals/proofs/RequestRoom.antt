@@ -4,13 +4,14 @@ use mathlib.Core.Bool.{Bool, true, false, ◌&&◌, ◌||◌, not}
 use mathlib.Core.List.{List}
 use Prim.Native.Nat.{ℕ, zero, suc, ◌<◌}
 use native.Mathlib.Omega.{arith}
+use Rattle.std.specs.Prelude.{Option, Some, None, is_some, unwrap_or, IfSome}
 use lib.ListN.{get_or, length}
 use lib.Dec.{eqb}
-use borrow.Author.Tests.{eqb-true, eqb-false, eq-eqb, ne_eqb, not-false}
+use borrow.Author.Tests.{eq-eqb, ne_eqb, not-true, not-false}
 use Rattle.tables.specs.Lists.{within, null, from}
 use Rattle.tables.specs.State.{Tables, free_locks}
 use Rattle.tables.specs.Layout.{of_header, words}
-use Rattle.tables.proofs.Cases.{by_cases, and_left, and_right, or_right, nor_left, nor_right}
+use Rattle.tables.proofs.Cases.{and_left, and_right, or_right}
 use Rattle.tables.proofs.Counts.{count_from, bit_one, first_in}
 use Rattle.tables.proofs.Links.{next_here}
 use Rattle.tables.proofs.WordChanges.{read_word}
@@ -18,9 +19,11 @@ use Rattle.tables.specs.Validity.{Core}
 use Rattle.rules.specs.Queues.{find}
 use Rattle.rules.specs.Calls.{unless, no_queue, granted_at_once, at_once}
 use Rattle.table_fields.proofs.StateWords.{core_sized}
-use Rattle.table_chains.specs.Promises.{Some, Tells, Resourced}
+use Rattle.table_chains.specs.Promises.{Tells, Resourced}
+use Rattle.table_chains.specs.Promises as chains
 use Rattle.queues.proofs.QueueReads.{null_first}
-use Rattle.call_refusals.specs.Promises.{ResourceOrNone, Finds}
+use Rattle.tables.specs.Numbered.{numbered}
+use Rattle.call_refusals.specs.Promises.{ResourceIfAny, Finds}
 use Rattle.call_refusals.specs.Rests.{room_refusal}
 
 -- a chain of records begins with 0 exactly if it has none
@@ -35,86 +38,104 @@ free_null t g ws is =
     ∙ null_first t.free_locks (g.linked free_locks 0)
 
 -- on a new name a request would be granted at once; on a known one as its resource's queues say
-new_at_once : (r m : ℕ) (t : Tables) → r ≡ 0 → at_once r m t ≡ true
+new_at_once : (m : ℕ) (t : Tables) → at_once 0 m t ≡ true
 unfolding at_once
-new_at_once zero m t e = refl
-new_at_once (suc r) m t e = absurd (omega arith)
+new_at_once m t = refl
 
-known_at_once : (r m : ℕ) (t : Tables) → (r ≡ 0 → ⊥) → at_once r m t ≡ granted_at_once t r m
+known_at_once : (r m : ℕ) (t : Tables) → within (length t.resources) r ≡ true → at_once r m t ≡ granted_at_once t r m
 unfolding at_once
-known_at_once zero m t z = absurd (z refl)
-known_at_once (suc r) m t z = refl
+known_at_once zero m t h = absurd (cc)
+known_at_once (suc r) m t h = refl
 
 -- a resource that is found is there
-found_within : (n : List ℕ) (t : Tables) (r : ℕ) → find n t ≡ r → (r ≡ 0 → ⊥) → within (length t.resources) r ≡ true
+found_within : (t : Tables) (n : List ℕ) (x : ℕ) → find n t ≡ x → IfSome (numbered x) (λ r. within (length t.resources) r ≡ true)
 unfolding find
-found_within n t zero e z = absurd (z refl)
-found_within n t (suc r) e z =
-    bit_one (within (length t.resources) (suc r)) (rw (← (count_from (length t.resources) (suc r))) (first_in _ (from 1 (length t.resources)) r e))
+found_within t n zero e = search
+found_within t n (suc r) e = bit_one (within (length t.resources) (suc r)) (rw (← (count_from (length t.resources) (suc r))) (first_in _ (from 1 (length t.resources)) r e))
 
 nand : (a b : Bool) → (a && b) ≡ false → (not a || not b) ≡ true
 nand true b h = rw h
 nand false b h = refl
 
-pub finds_resource : (n : List ℕ) (r : ℕ) (t : Tables) → Finds n r t → ResourceOrNone r t
-finds_resource n r t g = record { core = g.core; in_range = found_within n t r (sym g.found) }
+-- the number of a resource that is there is not 0
+numberless : (r : Option ℕ) (t : Tables) → ResourceIfAny r t → eqb (unwrap_or r 0) 0 ≡ not (is_some r)
+numberless None t g = refl
+numberless (Some zero) t g = absurd (let h : false ≡ true = g.in_range in cc)
+numberless (Some (suc k)) t g = ne_eqb (suc k) 0 (omega arith)
 
-module _ (ws : List ℕ) (r : ℕ) where
-  pub room_long : Some (ResourceOrNone r) ws → 3 < length ws
+not-not : (b : Bool) → not (not b) ≡ b
+not-not true = refl
+not-not false = refl
+
+unwrap_numbered : (n : ℕ) → unwrap_or (numbered n) 0 ≡ n
+unwrap_numbered zero = refl
+unwrap_numbered (suc n) = refl
+
+module _ (n : List ℕ) (r : Option ℕ) (t : Tables) (g : Finds n r t) where
+  pub finds_resource : ResourceIfAny r t
+  finds_resource = record { core = g.core; in_range = rw g.is_found (found_within t n (find n t) refl) }
+
+  pub found_number : unwrap_or r 0 ≡ find n t
+  found_number = rw g.is_found (unwrap_numbered (find n t))
+
+module _ (ws : List ℕ) (r : Option ℕ) where
+  pub room_long : chains.Some (ResourceIfAny r) ws → 3 < length ws
   room_long s = omega (arith, (core_sized s.state ws s.is s.good.core).long)
 
-  pub room_longer : Some (ResourceOrNone r) ws → 2 < length ws
+  pub room_longer : chains.Some (ResourceIfAny r) ws → 2 < length ws
   room_longer s = omega (arith, room_long s)
 
-  module _ (m f : ℕ) where
-    pub room_none : (eqb r 0 && eqb (get_or ws 2 0) 0) ≡ true → Tells (ResourceOrNone r) (room_refusal r m f) ws 11
+  module _ (x : ℕ) (ex : r ≡ Some x) where
+    there : (t : Tables) → ResourceIfAny r t → Resourced x t
+    there t g = record { core = g.core; in_range = rw ex at g.in_range }
+
+    pub room_resourced : chains.Some (ResourceIfAny r) ws → chains.Some (Resourced x) ws
+    room_resourced s = record { state = s.state; good = there s.state s.good; is = s.is }
+
+  module _ (m f : ℕ) (n : Bool) (en : is_some r ≡ not n) where
+    new_is : (t : Tables) → ResourceIfAny r t → eqb (unwrap_or r 0) 0 ≡ n
+    new_is t g = numberless r t g ∙ rw en (not-not n)
+
+    pub room_none : (n && eqb (get_or ws 2 0) 0) ≡ true → Tells (ResourceIfAny r) (room_refusal (unwrap_or r 0) m f) ws 11
     unfolding room_refusal unless
     room_none h = record {
       then = λ t g is.
-          rw (← (spare_null t g.core ws is), and_left (eqb r 0) (eqb (get_or ws 2 0) 0) h, and_right (eqb r 0) (eqb (get_or ws 2 0) 0) h);
+          rw (← (spare_null t g.core ws is), new_is t g, and_left n (eqb (get_or ws 2 0) 0) h, and_right n (eqb (get_or ws 2 0) 0) h);
     }
 
-    module _ (some : (eqb r 0 && eqb (get_or ws 2 0) 0) ≡ false) where
-      room_is : (t : Tables) → Core t → ws ≡ words t → (not (eqb r 0) || not (null t.free_resources)) ≡ true
-      room_is t g is = rw (← (spare_null t g ws is)) (nand (eqb r 0) (eqb (get_or ws 2 0) 0) some)
+    module _ (some : (n && eqb (get_or ws 2 0) 0) ≡ false) where
+      room_is : (t : Tables) → ResourceIfAny r t → ws ≡ words t → (not (eqb (unwrap_or r 0) 0) || not (null t.free_resources)) ≡ true
+      room_is t g is = rw (← (spare_null t g.core ws is), new_is t g) (nand n (eqb (get_or ws 2 0) 0) some)
 
-      pub room_locks : get_or ws 3 0 ≡ 0 → Tells (ResourceOrNone r) (room_refusal r m f) ws 12
+      pub room_locks : get_or ws 3 0 ≡ 0 → Tells (ResourceIfAny r) (room_refusal (unwrap_or r 0) m f) ws 12
       unfolding room_refusal unless
-      room_locks h = record { then = λ t g is. rw (room_is t g.core is, sym (free_null t g.core ws is) ∙ eq-eqb (get_or ws 3 0) 0 h) }
+      room_locks h = record { then = λ t g is. rw (room_is t g is, sym (free_null t g.core ws is) ∙ eq-eqb (get_or ws 3 0) 0 h) }
 
-      module _ (left : get_or ws 3 0 ≡ 0 → ⊥) (q : Bool) (eq : q ≡ no_queue f) where
+      module _ (left : get_or ws 3 0 ≡ 0 → ⊥) where
         free_is : (t : Tables) → Core t → ws ≡ words t → null t.free_locks ≡ false
         free_is t g is = sym (free_null t g ws is) ∙ ne_eqb (get_or ws 3 0) 0 left
 
-        may_queue : (eqb r 0 || not q) ≡ true → (t : Tables) → (not (no_queue f) || at_once r m t) ≡ true
-        may_queue h t =
-            rw (← eq)
-            (by_cases (eqb r 0)
-            (λ z. or_right (not q) _ (new_at_once r m t (eqb-true r 0 z)))
-            (λ z. rw (rw z at h)))
+        may_queue : r ≡ None → (t : Tables) → (not (no_queue f) || at_once (unwrap_or r 0) m t) ≡ true
+        may_queue e t = or_right (not (no_queue f)) _ (rw e (new_at_once m t))
 
-        pub room_queues : (eqb r 0 || not q) ≡ true → Tells (ResourceOrNone r) (room_refusal r m f) ws 0
+        pub room_new : r ≡ None → Tells (ResourceIfAny r) (room_refusal (unwrap_or r 0) m f) ws 0
         unfolding room_refusal unless
-        room_queues h = record { then = λ t g is. rw (room_is t g.core is, free_is t g.core is, may_queue h t) }
+        room_new e = record { then = λ t g is. rw (room_is t g is, free_is t g.core is, may_queue e t) }
 
-        module _ (only : (eqb r 0 || not q) ≡ false) where
-          known : r ≡ 0 → ⊥
-          known = eqb-false r 0 (nor_left (eqb r 0) (not q) only)
-
-          there : (t : Tables) → ResourceOrNone r t → Resourced r t
-          there t g = record { core = g.core; in_range = g.in_range known }
-
-          pub room_resourced : Some (ResourceOrNone r) ws → Some (Resourced r) ws
-          room_resourced s = record { state = s.state; good = there s.state s.good; is = s.is }
-
-          module _ (b : Bool) (eb : Tells (Resourced r) (λ t. granted_at_once t r m) ws b) where
-            at_once_is : (t : Tables) → ResourceOrNone r t → ws ≡ words t → (not (no_queue f) || at_once r m t) ≡ b
-            at_once_is t g is = rw (← eq, not-false q (nor_right (eqb r 0) (not q) only)) (known_at_once r m t known ∙ sym (eb.then t (there t g) is))
-
-            pub room_at_once : b ≡ true → Tells (ResourceOrNone r) (room_refusal r m f) ws 0
+        module _ (x : ℕ) (ex : r ≡ Some x) where
+          module _ (q : Bool) (eq : q ≡ no_queue f) where
+            pub room_queues : not q ≡ true → Tells (ResourceIfAny r) (room_refusal (unwrap_or r 0) m f) ws 0
             unfolding room_refusal unless
-            room_at_once h = record { then = λ t g is. rw (room_is t g.core is, free_is t g.core is, at_once_is t g is, h) }
+            room_queues h = record { then = λ t g is. rw (room_is t g is, free_is t g.core is, ← eq, not-true q h) }
 
-            pub room_blocks : b ≡ false → Tells (ResourceOrNone r) (room_refusal r m f) ws 13
-            unfolding room_refusal unless
-            room_blocks h = record { then = λ t g is. rw (room_is t g.core is, free_is t g.core is, at_once_is t g is, h) }
+            module _ (only : not q ≡ false) (b : Bool) (eb : Tells (Resourced x) (λ t. granted_at_once t x m) ws b) where
+              at_once_is : (t : Tables) → ResourceIfAny r t → ws ≡ words t → (not (no_queue f) || at_once (unwrap_or r 0) m t) ≡ b
+              at_once_is t g is = rw (← eq, not-false q only, ex) (known_at_once x m t (there x ex t g).in_range ∙ sym (eb.then t (there x ex t g) is))
+
+              pub room_at_once : b ≡ true → Tells (ResourceIfAny r) (room_refusal (unwrap_or r 0) m f) ws 0
+              unfolding room_refusal unless
+              room_at_once h = record { then = λ t g is. rw (room_is t g is, free_is t g.core is, at_once_is t g is, h) }
+
+              pub room_blocks : b ≡ false → Tells (ResourceIfAny r) (room_refusal (unwrap_or r 0) m f) ws 13
+              unfolding room_refusal unless
+              room_blocks h = record { then = λ t g is. rw (room_is t g is, free_is t g.core is, at_once_is t g is, h) }

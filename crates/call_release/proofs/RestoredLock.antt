@@ -26,7 +26,7 @@ use Rattle.table_chains.specs.Promises.{Some, Turns, Movable, Moving, Moved, Res
 use Rattle.queues.specs.Promises.{Locked}
 use Rattle.queues.proofs.ResourceRecord.{slots_sweep, slots_free}
 use Rattle.queues.proofs.StateAfter.{freed_resourced}
-use Rattle.answers.specs.Answers.{cancelled}
+use Rattle.answers.specs.Answers.{cancel_answer}
 use Rattle.answers.specs.declared.Cancelled.TheVariants as cancelled_cases
 use Rattle.answers.specs.Promises.{MakesWords}
 use Rattle.call_release.specs.Promises.{Restorable, restore}
@@ -164,7 +164,7 @@ module _ (k : ℕ) (a : List ℕ) where
       pub cancel_restorable : Some (Cancellable k) a → Some (Restorable k 0) a
       cancel_restorable s = record { state = s.state; good = restorable_at 0 (omega arith) (omega arith) s.state s.good s.is; is = s.is }
 
-      pub cancel_conversion : (b : List ℕ) → Turns (Restorable k 0) (restore k 0) a b → MakesWords (Cancellable k) (cancel_change k) a b (cancelled cancelled_cases.Conversion)
+      pub cancel_conversion : (b : List ℕ) → Turns (Restorable k 0) (restore k 0) a b → MakesWords (Cancellable k) (cancel_change k) a b (cancel_answer cancelled_cases.Conversion)
       cancel_conversion b turns = record {
         then = λ t p is.
             stepped (cancel_change k t) 1 0 (restore k 0 t) b (slots t) (cancel_converts k t (converts_at t p is))
@@ -186,7 +186,7 @@ module _ (k : ℕ) (a : List ℕ) where
           }
 
       pub cancel_request : (l.state ≡ 2 → ⊥) → (d : List ℕ) → Turns (Resourced l.resource) (sweep l.resource) b d →
-          MakesWords (Cancellable k) (cancel_change k) a d (cancelled cancelled_cases.Request)
+          MakesWords (Cancellable k) (cancel_change k) a d (cancel_answer cancelled_cases.Request)
       cancel_request n d sweeps = record {
         then = λ t p is.
             let r = (lock t k).resource in

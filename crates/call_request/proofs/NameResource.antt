@@ -3,6 +3,7 @@ use mathlib.Core.Path.{◌≡◌, refl, sym, ◌∙◌, ap}
 use mathlib.Core.List.{List}
 use Prim.Native.Nat.{ℕ, zero, suc, ◌≤◌}
 use native.Mathlib.Omega.{arith}
+use Rattle.std.specs.Prelude.{Option, Some, None}
 use borrow.Author.Rules.{rules}
 use borrow.Author.Tests.{not-true}
 use Rattle.tables.specs.Lists.{count, first, null}
@@ -17,7 +18,9 @@ use Rattle.rules.specs.Calls.{new_resource, resource_for, with_resource}
 use Rattle.rules.proofs.RequestKeepsSound.{first_member}
 use Rattle.table_fields.specs.Sizes.{Sized}
 use Rattle.table_fields.proofs.StateWords.{core_sized}
+use Rattle.tables.specs.Numbered.{numbered}
 use Rattle.table_chains.specs.Promises.{Changes}
+use Rattle.table_chains.proofs.NumberOrNone.{is_number, none_is, above_none}
 use Rattle.table_names.specs.Names.{find_in}
 use Rattle.table_names.proofs.StateNames.{find_is}
 use Rattle.queues.specs.Promises.{SomeTables, Takes}
@@ -50,21 +53,26 @@ module _ (n a sa : List ℕ) where
   pub house_sized : SomeTables (Nameable n) a sa → Sized a
   house_sized s = core_sized s.state a s.is s.good.core
 
-  module _ (x : ℕ) (ex : x ≡ find_in a sa n) where
-    found_at : (t : Tables) → Nameable n t → a ≡ words t → sa ≡ slots t → x ≡ find n t
-    found_at t p is iss = ex ∙ (rw (is, iss) (find_is t p.core n))
+  module _ (found : Option ℕ) (found_is : found ≡ numbered (find_in a sa n)) where
+    found_at : (t : Tables) → Nameable n t → a ≡ words t → sa ≡ slots t → found ≡ numbered (find n t)
+    found_at t p is iss = found_is ∙ ap numbered (rw (is, iss) (find_is t p.core n))
 
-    pub house_old : (x ≡ 0 → ⊥) → Houses n a sa a sa x
-    house_old h = record {
+    pub house_old : (x : ℕ) → found ≡ Some x → Houses n a sa a sa x
+    house_old x h = record {
       then = λ t p is iss.
-          let e = found_at t p is iss in
-          let o = old_resource (find n t) n t (λ z. h (e ∙ z)) in
-          (e ∙ sym o.0, is ∙ ap words (sym o.1), iss ∙ ap slots (sym o.1));
+          let e : Some x ≡ numbered (find n t) = sym h ∙ found_at t p is iss in
+          let low : 1 ≤ x = above_none x (find n t) e in
+          let same : x ≡ find n t = is_number x (find n t) e in
+          let o = old_resource (find n t) n t (λ z. omega arith) in
+          (same ∙ sym o.0, is ∙ ap words (sym o.1), iss ∙ ap slots (sym o.1));
     }
 
-    module _ (z : x ≡ 0) (f : ℕ) (ef : f ≡ word_in a (of_header 2)) where
+    module _ (z : found ≡ None) (f : ℕ) (ef : f ≡ word_in a (of_header 2)) where
+      new_at : (t : Tables) → Nameable n t → a ≡ words t → sa ≡ slots t → find n t ≡ 0
+      new_at t p is iss = none_is (find n t) (sym z ∙ found_at t p is iss)
+
       takes_at : (t : Tables) → Nameable n t → a ≡ words t → sa ≡ slots t → Takes f n t
-      takes_at t p is iss = rw (ef ∙ first_free t a is) (takes_first n t p (sym (found_at t p is iss) ∙ z))
+      takes_at t p is iss = rw (ef ∙ first_free t a is) (takes_first n t p (new_at t p is iss))
 
       pub house_takes : SomeTables (Nameable n) a sa → SomeTables (Takes f n) a sa
       house_takes s = record { state = s.state; good = takes_at s.state s.good s.is s.slots_are; is = s.is; slots_are = s.slots_are }
@@ -73,7 +81,7 @@ module _ (n a sa : List ℕ) where
       house_new b sb h = record {
         then = λ t p is iss.
             let e = ef ∙ first_free t a is in
-            let o = new_resource_is (find n t) n t (sym (found_at t p is iss) ∙ z) in
+            let o = new_resource_is (find n t) n t (new_at t p is iss) in
             let d = h.then t (takes_at t p is iss) is iss in
             let same : move_resource f (new_resource n) t ≡ with_resource (find n t) n t = ap (λ (r : ℕ). move_resource r (new_resource n) t) e ∙ sym o.1 in
             (e ∙ sym o.0, d.0 ∙ ap words same, d.1 ∙ ap slots same);

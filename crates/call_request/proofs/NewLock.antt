@@ -18,7 +18,7 @@ use Rattle.marks.specs.Promises.{Begun}
 use Rattle.marks.proofs.ToldLocks.{told_slots}
 use Rattle.answers.proofs.Steps.{stepped}
 use Rattle.answers.specs.declared.Requested.TheVariants.{Granted, Waiting}
-use Rattle.answers.specs.Answers.{requested}
+use Rattle.answers.specs.Answers.{request_answer}
 use Rattle.answers.specs.Promises.{MakesWords}
 use Rattle.call_request.specs.Promises.{AsksOn, Enters}
 
@@ -83,7 +83,7 @@ module _ (r k c m f : ℕ) where
         enter_begins s = record { state = move r k (queued r c m) s.state; good = queued_begun s.state s.good; is = queued_is s.state s.good s.is }
 
       module _ (x : Bool) (told : Tells (AsksOn r m f) (λ t. granted_at_once t r m) a x) where
-        pub enter_grants : x ≡ true → l ≡ holding r c m → MakesWords (Enters r k c m f) (request_on r k c m) a b (requested (Granted k))
+        pub enter_grants : x ≡ true → l ≡ holding r c m → MakesWords (Enters r k c m f) (request_on r k c m) a b (request_answer (Granted k))
         unfolding request_on
         enter_grants q e = record {
           then = λ t p is.
@@ -92,7 +92,7 @@ module _ (r k c m f : ℕ) where
               (stepped _ 1 k (move r k (holding r c m) t) b (slots t) refl ((rw e at (moved.then r t)) (enters_held t p) is) (sym (slots_move r k (holding r c m) t)));
         }
 
-        pub enter_waits : x ≡ false → l ≡ queued r c m → (d : List ℕ) → Turns (Begun k) (tell_obstacles k) b d → MakesWords (Enters r k c m f) (request_on r k c m) a d (requested (Waiting k))
+        pub enter_waits : x ≡ false → l ≡ queued r c m → (d : List ℕ) → Turns (Begun k) (tell_obstacles k) b d → MakesWords (Enters r k c m f) (request_on r k c m) a d (request_answer (Waiting k))
         unfolding request_on
         enter_waits q e d tells = record {
           then = λ t p is.

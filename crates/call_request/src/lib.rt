@@ -3,11 +3,12 @@
 // and those in its way are told.
 ghost use Rattle.std.specs.Prelude.{◌≡◌};
 ghost use Rattle.rules.specs.Calls.{granted_at_once, holding, queued, request_on, request_change};
+ghost use Rattle.tables.specs.Numbered.{numbered};
 ghost use Rattle.rules.specs.Accepted.{Requestable};
 ghost use Rattle.table_chains.specs.Promises.{Some, Tells};
 ghost use Rattle.table_names.specs.Names.{find_in};
 ghost use Rattle.queues.specs.Promises.{SomeTables};
-ghost use Rattle.answers.specs.Answers.{requested};
+ghost use Rattle.answers.specs.Answers.{request_answer};
 ghost use Rattle.answers.specs.Promises.{Makes, MakesWords};
 ghost use Rattle.call_request.specs.Promises.{Nameable, Houses, AsksOn, Enters};
 
@@ -16,14 +17,14 @@ use table_chains::{Hints, NO_HINTS};
 use table_fields::{header_word, new_lock};
 use tables::Lock;
 
-// The resource of that name: `found`, or if that is 0 the first free one, which takes the name.
-fn resource_for(words: &mut [u32], slots: &mut [u8], found: u32, name: &[u8]) -> u32
+// The resource of that name: the one that was found, or else the first free one, which takes the name.
+fn resource_for(words: &mut [u32], slots: &mut [u8], found: Option<u32>, name: &[u8]) -> u32
     requires some_tables { SomeTables (Nameable name.now) words.old slots.old }
-    requires found_value { found ≡ find_in words.old slots.old name.now }
+    requires found_value { found ≡ numbered (find_in words.old slots.old name.now) }
     ensures { Houses name.now words.old slots.old words.new slots.new result }
 {
-    if found != 0 {
-        return found;
+    if let Some(r) = found {
+        return r;
     }
     let first = header_word(words, table_fields::FREE_RESOURCES);
     queues::take_resource(words, slots, first, name);
@@ -44,6 +45,7 @@ fn queued(r: u32, client: u32, mode: u32) -> Lock
 }
 
 // Whether the mode is granted at once on r. With flag 4 it is: a request that would block has been refused.
+#[tactic(auto, using(crate::proofs::NewLock::asks_laws))]
 fn at_once(words: &[u32], r: u32, mode: u32, flags: u32) -> bool
     requires { Some (AsksOn r mode flags) words.now }
     ensures { Tells (AsksOn r mode flags) (λ t. granted_at_once t r mode) words.now result }
@@ -66,13 +68,10 @@ fn enter(
     last: u32,
 ) -> Requested
     requires { Some (Enters r k client mode flags) words.old }
-    ensures { MakesWords (Enters r k client mode flags) (request_on r k client mode) words.old words.new (requested result) }
+    ensures { MakesWords (Enters r k client mode flags) (request_on r k client mode) words.old words.new (request_answer result) }
 {
     if at_once(words, r, mode, flags) {
-        let hints = Hints {
-            before: 0,
-            last: last,
-        };
+        let hints = Hints { before: 0, last };
         table_chains::move_lock(words, k, holding(r, client, mode), hints);
         return Requested::Granted(k);
     }
@@ -81,12 +80,12 @@ fn enter(
     Requested::Waiting(k)
 }
 
-// The client requests the mode on the name, and nothing refuses it. `found` is the resource that has the name, or 0; `last`
-// is a hint at the last lock granted there.
+// The client requests the mode on the name, and nothing refuses it. `found` is the resource that has the name, if one has it;
+// `last` is a hint at the last lock granted there.
 pub fn request_change(
     words: &mut [u32],
     slots: &mut [u8],
-    found: u32,
+    found: Option<u32>,
     last: u32,
     client: u32,
     mode: u32,
@@ -94,8 +93,8 @@ pub fn request_change(
     name: &[u8],
 ) -> Requested
     requires some_tables { SomeTables (Requestable client mode flags name.now) words.old slots.old }
-    requires found_value { found ≡ find_in words.old slots.old name.now }
-    ensures { Makes (Requestable client mode flags name.now) (request_change client mode name.now) words.old slots.old words.new slots.new (requested result) }
+    requires found_value { found ≡ numbered (find_in words.old slots.old name.now) }
+    ensures { Makes (Requestable client mode flags name.now) (request_change client mode name.now) words.old slots.old words.new slots.new (request_answer result) }
 {
     let k = header_word(words, table_fields::FREE_LOCKS);
     let r = resource_for(words, slots, found, name);

@@ -11,7 +11,8 @@ use Rattle.tables.specs.State.{most_resources, most_locks}
 use Rattle.tables.specs.Layout.{header_width, resource_width, lock_width, size, slot_width}
 use Rattle.tables.proofs.Cases.{parts}
 use Rattle.rules.specs.Entries.{lent, outcome, start_accepts, start_if, start_entry}
-use Rattle.answers.specs.declared.Done.TheVariants.{Accepted, Refused}
+use Rattle.std.specs.Prelude.{Ok, Err}
+use Rattle.answers.specs.declared.Refusal.TheVariants as refusals
 use Rattle.answers.specs.Answers.{done}
 use Rattle.call_start.specs.Fresh.{Sizes, headed, linked_up, fresh_words}
 use Rattle.call_start.proofs.StartedWords.{started_words, started_slots}
@@ -27,7 +28,7 @@ pub ruleset fresh_laws = (rules, fresh_end)
 
 -- `start`
 module _ (ws ss : List ℕ) (r l : ℕ) (x : Bool) (tested : x ≡ start_accepts ws ss r l) where
-  pub start_refused : not x ≡ true → outcome (done (Refused 2)) (lent ws ss) ≡ start_entry (lent ws ss) r l
+  pub start_refused : not x ≡ true → outcome (done (Err refusals.Sizes)) (lent ws ss) ≡ start_entry (lent ws ss) r l
   unfolding start_entry start_if
   start_refused q = let e : start_accepts ws ss r l ≡ false = sym tested ∙ not-true x q in rw e
 
@@ -51,7 +52,7 @@ module _ (ws ss : List ℕ) (r l : ℕ) (x : Bool) (tested : x ≡ start_accepts
     unfolding start_accepts
     slots_long = let h = accepts in eqb-true (length ss) (slot_width * r) (search parts depth 20)
 
-    pub start_accepted : (vs zs : List ℕ) → vs ≡ fresh_words r l → zs ≡ replicate (length ss) 0 → outcome (done Accepted) (lent vs zs) ≡ start_entry (lent ws ss) r l
+    pub start_accepted : (vs zs : List ℕ) → vs ≡ fresh_words r l → zs ≡ replicate (length ss) 0 → outcome (done (Ok tt)) (lent vs zs) ≡ start_entry (lent ws ss) r l
     unfolding start_entry start_if
     start_accepted vs zs e f = rw (accepts, e, f, slots_long, ← (started_slots r l))
 

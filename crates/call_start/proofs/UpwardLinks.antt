@@ -4,10 +4,9 @@ use mathlib.Core.Logic.{◌≢◌}
 use mathlib.Core.List.{List}
 use Prim.Native.Nat.{ℕ, zero, suc, ◌+◌, ◌-◌, ◌*◌, ◌<◌, ◌≤◌}
 use native.Mathlib.Omega.{arith}
-use native.Mathlib.Nat.{le_of_lt, mul-le-mul_left, mul-suc, mul-zero}
+use native.Mathlib.Nat.{mul-le-mul_left, mul-suc, mul-zero}
 use lib.ListN.{get_or, set, length, length-set}
 use lib.Seq.{get_or-set_same, get_or-set_other}
-use borrow.Author.Rules.{rules}
 use Rattle.tables.proofs.Cases.{by_equal}
 use Rattle.call_start.specs.Fresh.{Links, linked_up}
 
@@ -38,10 +37,8 @@ module _ (first w : ℕ) (ws : List ℕ) where
       let v : first + w * k < first + w * n = links_apart k n (omega arith) q in
       get_or-set_other (linked_up first w n ws) (first + w * n) (first + w * k) (n + 2) 0 (λ f. omega arith) ∙ linked_here n k (omega arith) q (omega arith))
 
--- `while next <= n { words[at] = next; at += w; next += 1; }`: the records before the one whose link stands at `at` name the one after
-pub record Linking (first w n : ℕ) (d ws : List ℕ) (at_link following : ℕ) : Type 0 where
-  pub some : 2 ≤ following
-  pub most : following ≤ n + 1
+-- `for next in 2..n + 1 { words[at] = next; at += w; }`: the records before the one whose link stands at `at` name the one after
+pub record Linking (first w : ℕ) (d ws : List ℕ) (at_link following : ℕ) : Type 0 where
   pub here : at_link ≡ first + w * (following - 2)
   pub inside : at_link + w ≤ length d
   pub long : length ws ≡ length d
@@ -52,32 +49,23 @@ module _ (first w n : ℕ) (d : List ℕ) (h : Links first w n d) where
   link_inside : (j : ℕ) → suc j ≤ n → first + w * j + w ≤ length d
   link_inside j p = let u : w * suc j ≡ w * j + w = mul-suc w j in let v : w * suc j ≤ w * n = mul-le-mul_left w p in let room = h.room in omega arith
 
-  pub link_starts : Linking first w n d d first 2
+  pub link_starts : Linking first w d d first 2
   unfolding linked_up
   link_starts =
       let p = h.some in
       let z : first ≡ first + w * 0 = rw mul-zero (omega arith) in
-      record { some = omega arith; most = omega arith; here = z; inside = rw (← z) at (link_inside 0 p); long = refl; done = refl }
+      record { here = z; inside = rw (← z) at (link_inside 0 p); long = refl; done = refl }
 
-  module _ (ws : List ℕ) (at_link following : ℕ) (i : Linking first w n d ws at_link following) where
-    pub link_next : following ≤ n → Linking first w n d (set ws at_link following) (at_link + w) (following + 1)
+  module _ (ws : List ℕ) (at_link following : ℕ) (i : Linking first w d ws at_link following) where
+    pub link_next : 2 ≤ following → following ≤ n → Linking first w d (set ws at_link following) (at_link + w) (following + 1)
     unfolding linked_up
-    link_next more =
-        let low = i.some in
+    link_next low more =
         let s : following + 1 - 2 ≡ suc (following - 2) = omega arith in
         let t : following - 2 + 2 ≡ following = omega arith in
         let here : at_link + w ≡ first + w * (following + 1 - 2) = rw (s, mul-suc, i.here) (omega arith) in
         record {
-          some = omega arith;
-          most = omega arith;
           here = here;
           inside = rw here (link_inside (following + 1 - 2) (omega arith));
           long = length-set ws at_link following ∙ i.long;
           done = rw (s, t, i.here, ← i.done);
         }
-
-    pub link_ends : n < following → ws ≡ linked_up first w (n - 1) d
-    link_ends m = let e : n - 1 ≡ following - 2 = (let u = i.most in let v = i.some in omega arith) in rw e i.done
-
--- `le_of_lt`: a loop that stops early is refused at its end
-pub ruleset link_laws = (rules, le_of_lt, link_starts, link_next, link_ends)

@@ -1,6 +1,6 @@
 #![tactic(auto)]
 // Fresh tables, whatever the lent ones held before: all records free, chained upward.
-ghost use Rattle.std.specs.Prelude.{◌≡◌, ◌-◌, ◌≤◌, length, replicate};
+ghost use Rattle.std.specs.Prelude.{◌≡◌, ◌-◌, ◌≤◌, length};
 ghost use Rattle.tables.specs.Layout.{header_width};
 ghost use Rattle.rules.specs.Entries.{start_accepts};
 ghost use Rattle.call_start.specs.Fresh.{Sizes, Links, headed, linked_up, fresh_words};
@@ -25,17 +25,6 @@ pub fn sizes_right(words: &[u32], slots: &[u8], resources: u32, locks: u32) -> b
         & (slots.len() == SLOT_BYTES * r)
 }
 
-// All words become zero.
-fn clear_words(words: &mut [u32])
-    ensures { words.new ≡ replicate (length words.old) 0 }
-{
-    let mut i = 0;
-    while i < words.len() {
-        words[i] = 0;
-        i += 1;
-    }
-}
-
 // Writes how many records there are, and record 1 as the first free one of both kinds.
 fn put_header(words: &mut [u32], resources: u32, locks: u32)
     requires { header_width ≤ length words.old }
@@ -54,11 +43,9 @@ fn chain_up(words: &mut [u32], first: usize, width: usize, n: u32)
     ensures { words.new ≡ linked_up first width (n - 1) words.old }
 {
     let mut at = first;
-    let mut next = 2;
-    while next <= n {
+    for next in 2..n + 1 {
         words[at] = next;
         at += width;
-        next += 1;
     }
 }
 
@@ -67,7 +54,7 @@ pub fn start_words(words: &mut [u32], resources: u32, locks: u32)
     requires { Sizes resources locks words.old }
     ensures { words.new ≡ fresh_words resources locks }
 {
-    clear_words(words);
+    words.fill(0);
     put_header(words, resources, locks);
     let resource_links = HEADER_WORDS + RESOURCE_NEXT;
     chain_up(words, resource_links, RESOURCE_WORDS, resources);

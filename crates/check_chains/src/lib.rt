@@ -1,6 +1,6 @@
 #![tactic(auto)]
-// How many records each chain has, in whatever tables are lent. A walk counts its steps, so that it ends. Along a home
-// chain it also tests each lock.
+// How many records each chain has, in whatever tables are lent. A walk counts down how many records are left to meet, so
+// that it ends. Along a home chain it also tests each lock.
 // In a run of records the successor of each is the next number, as in fresh tables. A walk has an inner loop for runs:
 // the next record's place is then known before the link is read, so the processor need not wait for the link. The inner
 // loop stands in the same function: a call for each run was measured to be slower on full tables, where runs are short.
@@ -11,7 +11,7 @@ ghost use Rattle.table_fields.specs.Sizes.{Sized};
 ghost use Rattle.table_names.specs.Names.{named};
 ghost use Rattle.check_laws.specs.Check.{home_steps, free_resources_fine, blocked_fine, notices_fine};
 ghost use Rattle.check_resources.specs.Passes.{free_count, blocked_count, noticed_count};
-ghost use Rattle.check_chains.specs.Walks.{free_met, OnUsed, belongs_on, locks_met};
+ghost use Rattle.check_chains.specs.Walks.{Met, free_met, OnUsed, belongs_on, locks_met};
 
 use check_locks::{stands_denied, stands_free, stands_waiting};
 use check_resources::in_use;
@@ -21,15 +21,15 @@ use table_fields::{
     resource_word,
 };
 
-// The chains of locks that one loop walks, by number. The compiler makes a loop for each number. It makes none for each
-// case of an enum: the check of full tables was then measured to be an eighth slower.
-pub const FREE_CHAIN: u32 = 0;
-
-pub const BLOCKED_CHAIN: u32 = 1;
-
-pub const NOTICE_CHAIN: u32 = 2;
-
-pub const WAIT_CHAIN: u32 = 3;
+// The chains of locks that one loop walks. The last is the wait chain of a resource. The compiler makes a loop for
+// each.
+#[derive(Clone, Copy)]
+pub enum Chain {
+    Free,
+    Blocked,
+    Notices,
+    Waiting(u32),
+}
 
 // Resource r has no name.
 fn nameless(words: &[u32], r: u32) -> bool
@@ -40,28 +40,29 @@ fn nameless(words: &[u32], r: u32) -> bool
     !in_use(words, r)
 }
 
-// How many resources the free chain has; one more than there are if it does not end, or has a resource in use.
-fn free_met(words: &[u32]) -> u32
+// How many resources the free chain has; none if it does not end, or has a resource in use.
+#[tactic(auto, using(crate::proofs::ChainWalk::walk_loop, crate::proofs::WalkStarts::starts))]
+fn free_met(words: &[u32]) -> Option<u32>
     requires { Sized words.now }
-    ensures { result ≡ free_met words.now }
+    ensures { Met (resources_in words.now) (free_met words.now) result }
 {
     let n = words[RESOURCES];
     let mut r = words[FREE_RESOURCES];
-    let mut met = 0;
+    let mut left = n;
     while r != 0 {
         loop {
-            if n <= met {
-                return n + 1;
+            if left == 0 {
+                return None;
             }
+            left -= 1;
             if n < r {
-                return n + 1;
+                return None;
             }
             if !nameless(words, r) {
-                return n + 1;
+                return None;
             }
             let beside = r + 1;
             let next = resource_word(words, r, RESOURCE_NEXT);
-            met += 1;
             if next != beside {
                 r = next;
                 break;
@@ -69,53 +70,51 @@ fn free_met(words: &[u32]) -> u32
             r = beside;
         }
     }
-    met
+    Some(n - left)
 }
 
 // Lock k belongs on the chain. On a home chain its fields must be right too.
-fn belongs(words: &[u32], chain: u32, r: u32, k: u32) -> bool
+#[tactic(auto, unfolding(crate::specs::Walks::belongs_on))]
+fn belongs(words: &[u32], chain: Chain, k: u32) -> bool
     requires sized { Sized words.now }
     requires le_k { (1 ≤ k) × (k ≤ locks_in words.now) }
-    requires on_used { OnUsed words.now chain r }
-    ensures { result ≡ belongs_on words.now chain r k }
+    requires on_used { OnUsed words.now chain }
+    ensures { result ≡ belongs_on words.now chain k }
 {
-    if chain == FREE_CHAIN {
-        return stands_free(words, k);
+    match chain {
+        Chain::Free => stands_free(words, k),
+        Chain::Blocked => is_blocked(lock_at(words, k)),
+        Chain::Notices => is_noticed(lock_at(words, k)),
+        Chain::Waiting(r) => stands_waiting(words, r, k),
     }
-    if chain == BLOCKED_CHAIN {
-        return is_blocked(lock_at(words, k));
-    }
-    if chain == NOTICE_CHAIN {
-        return is_noticed(lock_at(words, k));
-    }
-    stands_waiting(words, r, k)
 }
 
-// How many locks the chain has from the first on, where the field of each names the next; one more than there are if it
-// does not end, or has a lock that does not belong there.
-pub fn met(words: &[u32], chain: u32, r: u32, field: usize, first: u32) -> u32
+// How many locks the chain has from the first on, where the field of each names the next; none if it does not end, or
+// has a lock that does not belong there.
+#[tactic(auto, using(crate::proofs::ChainWalk::walk_loop, crate::proofs::WalkStarts::starts))]
+pub fn met(words: &[u32], chain: Chain, field: usize, first: u32) -> Option<u32>
     requires sized { Sized words.now }
-    requires on_used { OnUsed words.now chain r }
+    requires on_used { OnUsed words.now chain }
     requires field_lt_lock_width { field < lock_width }
-    ensures { (result ≡ locks_met words.now chain r field first) × (result ≤ locks_in words.now + 1) }
+    ensures { Met (locks_in words.now) (locks_met words.now chain field first) result }
 {
     let n = words[LOCKS];
     let mut k = first;
-    let mut met = 0;
+    let mut left = n;
     while k != 0 {
         loop {
-            if n <= met {
-                return n + 1;
+            if left == 0 {
+                return None;
             }
+            left -= 1;
             if n < k {
-                return n + 1;
+                return None;
             }
-            if !belongs(words, chain, r, k) {
-                return n + 1;
+            if !belongs(words, chain, k) {
+                return None;
             }
             let beside = k + 1;
             let next = lock_word(words, k, field);
-            met += 1;
             if next != beside {
                 k = next;
                 break;
@@ -123,62 +122,67 @@ pub fn met(words: &[u32], chain: u32, r: u32, field: usize, first: u32) -> u32
             k = beside;
         }
     }
-    met
+    Some(n - left)
 }
 
 // How many locks the chain of free locks has.
-pub fn free_locks_met(words: &[u32]) -> u32
+#[tactic(auto, using(crate::proofs::WalkStarts::chains))]
+pub fn free_locks_met(words: &[u32]) -> Option<u32>
     requires { Sized words.now }
-    ensures { (result ≡ home_steps words.now state_free 0 (word_in words.now (of_header 3))) × (result ≤ locks_in words.now + 1) }
+    ensures { Met (locks_in words.now) (home_steps words.now state_free 0 (word_in words.now (of_header 3))) result }
 {
-    met(words, FREE_CHAIN, 0, LOCK_NEXT, words[FREE_LOCKS])
+    met(words, Chain::Free, LOCK_NEXT, words[FREE_LOCKS])
 }
 
 // The same of the chain of denied locks, which is short: it has no inner loop.
-pub fn denied_met(words: &[u32]) -> u32
+#[tactic(auto, using(crate::proofs::ChainWalk::walk_loop, crate::proofs::WalkStarts::starts))]
+pub fn denied_met(words: &[u32]) -> Option<u32>
     requires { Sized words.now }
-    ensures { (result ≡ home_steps words.now state_denied 0 (word_in words.now (of_header 4))) × (result ≤ locks_in words.now + 1) }
+    ensures { Met (locks_in words.now) (home_steps words.now state_denied 0 (word_in words.now (of_header 4))) result }
 {
     let n = words[LOCKS];
     let mut k = words[DENIED];
-    let mut met = 0;
+    let mut left = n;
     while k != 0 {
-        if n <= met {
-            return n + 1;
+        if left == 0 {
+            return None;
         }
+        left -= 1;
         if n < k {
-            return n + 1;
+            return None;
         }
         if !stands_denied(words, k) {
-            return n + 1;
+            return None;
         }
         k = lock_word(words, k, LOCK_NEXT);
-        met += 1;
     }
-    met
+    Some(n - left)
 }
 
 // The free, the blocked and the notice chain: as many as belong there, and no others.
+#[tactic(auto, using(crate::proofs::WalkStarts::chains))]
 pub fn free_resources_fine(words: &[u32], count: u32) -> bool
     requires sized { Sized words.now }
     requires count_value { count ≡ free_count words.now }
     ensures { result ≡ free_resources_fine words.now }
 {
-    free_met(words) == count
+    free_met(words) == Some(count)
 }
 
+#[tactic(auto, using(crate::proofs::WalkStarts::chains))]
 pub fn blocked_fine(words: &[u32], count: u32) -> bool
     requires sized { Sized words.now }
     requires count_value { count ≡ blocked_count words.now }
     ensures { result ≡ blocked_fine words.now }
 {
-    met(words, BLOCKED_CHAIN, 0, LOCK_NEXT_BLOCKED, words[BLOCKED]) == count
+    met(words, Chain::Blocked, LOCK_NEXT_BLOCKED, words[BLOCKED]) == Some(count)
 }
 
+#[tactic(auto, using(crate::proofs::WalkStarts::chains))]
 pub fn notices_fine(words: &[u32], count: u32) -> bool
     requires sized { Sized words.now }
     requires count_value { count ≡ noticed_count words.now }
     ensures { result ≡ notices_fine words.now }
 {
-    met(words, NOTICE_CHAIN, 0, LOCK_NEXT_NOTICE, words[NOTICES]) == count
+    met(words, Chain::Notices, LOCK_NEXT_NOTICE, words[NOTICES]) == Some(count)
 }

@@ -18,7 +18,8 @@ use Rattle.table_names.specs.Names.{named}
 use Rattle.check_laws.specs.Check.{steps, free_resource_on, free_resources_fine, blocked_on, blocked_fine, notice_on, notices_fine}
 use Rattle.check_laws.proofs.ChainSteps.{Passed, steps_passed, passed_steps, once, first_low, links_low, member}
 
-keep_short : (p : ℕ → Bool) (xs : List ℕ) → length (keep p xs) ≤ length xs
+-- fewer pass than there are
+pub keep_short : (p : ℕ → Bool) (xs : List ℕ) → length (keep p xs) ≤ length xs
 unfolding keep
 keep_short p [] = omega arith
 keep_short p (x ∷ xs) = by_cases (p x) (λ h. rw h (omega (arith, keep_short p xs))) (λ h. rw h (omega (arith, keep_short p xs)))

@@ -15,7 +15,7 @@ pub struct ResourceRow {
 }
 
 // What a walk along holders finds: how many, the set of their modes, how many of them belong on the notice chain, and
-// their modes added up, a digit of 12 bits for each mode from CR on; or one more than there may be, and nothing else.
+// their modes added up, a digit of 12 bits for each mode from CR on.
 #[derive(Clone, Copy)]
 pub struct HolderCount {
     pub met: u32,

@@ -16,6 +16,7 @@ use table_fields::{
 use tables::Lock;
 
 // The lock has a client.
+#[tactic(auto, unfolding(tables::specs::Sound::client_right))]
 fn client_right(l: Lock) -> bool
     ensures { result ≡ client_right l.client }
 {
@@ -23,6 +24,7 @@ fn client_right(l: Lock) -> bool
 }
 
 // It holds and asks for a mode from 0 to 5, and its mark is at most 5.
+#[tactic(auto, unfolding(tables::specs::Sound::modes_right))]
 fn modes_right(l: Lock) -> bool
     ensures { result ≡ modes_right l }
 {
@@ -49,6 +51,7 @@ fn notice_link_right(words: &[u32], k: u32, l: Lock) -> bool
 
 // The same of a granted lock, and its completion is right. Most locks have no notice: the link's test is then all that is
 // left.
+#[tactic(auto, using(crate::proofs::LockStates::notice_some, crate::proofs::LockStates::notice_none))]
 fn notice_right(words: &[u32], k: u32, l: Lock) -> bool
     requires sized { Sized words.now }
     requires le_k { (1 ≤ k) × (k ≤ locks_in words.now) }
@@ -63,6 +66,7 @@ fn notice_right(words: &[u32], k: u32, l: Lock) -> bool
 // These tests are of a lock that is met on a home chain: its state and its resource are that chain's, its other fields
 // are right, and its link on the blocked or the notice chain is zero if it does not belong there. Of a free lock all
 // but its home link is zero.
+#[tactic(auto, using(crate::proofs::LockStates::free_stands))]
 pub fn stands_free(words: &[u32], k: u32) -> bool
     requires sized { Sized words.now }
     requires le_k { (1 ≤ k) × (k ≤ locks_in words.now) }
@@ -81,6 +85,7 @@ pub fn stands_free(words: &[u32], k: u32) -> bool
 }
 
 // A denied lock: it has a client and a completion that is unread, and no mark.
+#[tactic(auto, using(crate::proofs::LockStates::denied_stands))]
 pub fn stands_denied(words: &[u32], k: u32) -> bool
     requires sized { Sized words.now }
     requires le_k { (1 ≤ k) × (k ≤ locks_in words.now) }
@@ -99,6 +104,7 @@ pub fn stands_denied(words: &[u32], k: u32) -> bool
 
 // A lock granted on resource r, which is in use: it asks for nothing, and it may have an unread completion and a mark. The
 // notice is looked at last, after a `return` of its own: the walk along the grant chain then needs fewer registers.
+#[tactic(auto, using(crate::proofs::LockStates::granted_off, crate::proofs::LockStates::granted_on))]
 pub fn stands_granted(words: &[u32], r: u32, k: u32) -> bool
     requires sized { Sized words.now }
     requires le_k { (1 ≤ k) × (k ≤ locks_in words.now) }
@@ -120,6 +126,7 @@ pub fn stands_granted(words: &[u32], r: u32, k: u32) -> bool
 }
 
 // A lock converting on resource r, which is in use: it may have a mark.
+#[tactic(auto, using(crate::proofs::LockStates::converting_stands))]
 pub fn stands_converting(words: &[u32], r: u32, k: u32) -> bool
     requires sized { Sized words.now }
     requires le_k { (1 ≤ k) × (k ≤ locks_in words.now) }
@@ -137,6 +144,7 @@ pub fn stands_converting(words: &[u32], r: u32, k: u32) -> bool
 }
 
 // A lock waiting on resource r, which is in use: it holds nothing and has no mark.
+#[tactic(auto, using(crate::proofs::LockStates::waiting_stands))]
 pub fn stands_waiting(words: &[u32], r: u32, k: u32) -> bool
     requires sized { Sized words.now }
     requires le_k { (1 ≤ k) × (k ≤ locks_in words.now) }

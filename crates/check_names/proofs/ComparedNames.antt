@@ -5,21 +5,18 @@ use mathlib.Core.List.{List, [], ◌∷◌}
 use Prim.Native.Nat.{ℕ, suc, ◌+◌, ◌-◌, ◌*◌, ◌≤◌}
 use native.Mathlib.Numerals.{add-one}
 use native.Mathlib.Omega.{arith}
-use borrow.Author.Tests.{eq-eqb, ne_eqb}
+use borrow.Author.Tests.{eq-eqb}
 use borrow.Author.Rules.{rules}
 use lib.Dec.{eqb}
 use lib.ListN.{take, drop}
 use Rattle.tables.specs.Lists.{all, from, same}
 use Rattle.tables.specs.State.{name_width}
 use Rattle.tables.specs.Layout.{of_resource, slot_width, resources_in, word_in}
-use Rattle.tables.proofs.Cases.{by_equal}
 use Rattle.table_names.specs.Names.{named, name_in, apart, apart_after, names_differ}
 use Rattle.table_names.proofs.NumberRuns.{upto, from_first}
+use Rattle.table_names.proofs.Spans.{eqb_sym}
 use Rattle.table_names.proofs.SlotParts.{name_part}
 use Rattle.check_names.proofs.RunTests.{all_loop, all_each}
-
-eqb_sym : (x y : ℕ) → eqb x y ≡ eqb y x
-eqb_sym x y = by_equal x y (λ e. rw e) (λ n. rw (ne_eqb x y n, ne_eqb y x (λ e. n (sym e))))
 
 same_sym : (xs ys : List ℕ) → same xs ys ≡ same ys xs
 unfolding same

@@ -1,14 +1,15 @@
 -- A name's number: the loops that make it and look for it, and that equal names have equal numbers.
 use mathlib.Core.Path.{◌≡◌, refl, sym, ap, ap₂, ◌∙◌}
-use mathlib.Core.Bool.{Bool, true, false, ◌||◌}
-use mathlib.Core.List.{List, ◌++◌}
+use mathlib.Core.Bool.{Bool, true, false, ◌||◌, or_comm, or_assoc}
+use mathlib.Core.List.{List, [], ◌∷◌, ◌++◌}
 use Prim.Native.Nat.{ℕ, ◌+◌, ◌-◌, ◌*◌, ◌%◌, ◌<◌, ◌≤◌, ◌^◌}
 use native.Mathlib.Nat.{le_trans, mul-le-mul_left, mul-le-mul_right}
 use native.Mathlib.Numerals.{add-one}
 use native.Mathlib.Omega.{arith}
 use borrow.Author.Rules.{rules}
 use lib.Dec.{eqb}
-use lib.ListN.{length, get_or, take, drop, replicate, take-append-drop, length-drop, drop_of_length-le}
+use Rattle.std.proofs.Common.{fold}
+use lib.ListN.{length, get_or, take, drop, replicate, take-append-drop, length-drop}
 use lib.Seq.{take-take, length-take-le}
 use Rattle.tables.specs.Lists.{any, same}
 use Rattle.tables.specs.State.{name_width}
@@ -18,7 +19,7 @@ use Rattle.tables.proofs.ReadState.{zeros_are}
 use Rattle.rules.specs.Images.{word_from}
 use Rattle.table_names.specs.Names.{named, name_in, slot_fine}
 use Rattle.table_names.specs.Promises.{Tidy}
-use Rattle.table_names.proofs.Spans.{drop_more}
+use Rattle.table_names.proofs.Spans.{eqb_sym}
 use Rattle.table_names.proofs.SlotParts.{slot_head, slot_long, slot_inside, name_long}
 use Rattle.check_names.specs.Numbers.{name_words, number_range, weighed, name_number}
 
@@ -67,26 +68,15 @@ number_read ks ss r start {x} e h =
 
 pub ruleset number_laws = (rules, number_read)
 
--- ---- `while i < l.len() { met = met | (x == l[i]); i += 1; } met`
+-- ---- `l.iter().fold(false, |met, y| met | (*y == x))`
 
-module _ (l : List ℕ) (x : ℕ) {i : ℕ} where
-  among_more : i < length l → (m : Bool) → (m || any (eqb x) (drop i l)) ≡ (m || eqb x (get_or l i 0) || any (eqb x) (drop (i + 1) l))
-  unfolding any
-  among_more h true = refl
-  among_more h false = rw (drop_more l h)
+any_from : (x : ℕ) (m : Bool) (l : List ℕ) → fold (λ (b : Bool) (y : ℕ). b || eqb y x) m l ≡ (m || any (eqb x) l)
+unfolding any
+any_from x m [] = or_comm false m
+any_from x m (y ∷ l) = any_from x (m || eqb y x) l ∙ or_assoc m (eqb y x) (any (eqb x) l) ∙ ap (λ (b : Bool). m || (b || any (eqb x) l)) (eqb_sym y x)
 
-  among_over : length l ≤ i → (m : Bool) → (m || any (eqb x) (drop i l)) ≡ m
-  unfolding any
-  among_over h true = refl
-  among_over h false = rw (drop_of_length-le l h)
-
-  pub among_next : (m : Bool) {whole : Bool} → whole ≡ (m || any (eqb x) (drop i l)) → i < length l → whole ≡ (m || eqb x (get_or l i 0) || any (eqb x) (drop (i + 1) l))
-  among_next m left h = left ∙ among_more h m
-
-  pub among_end : (m : Bool) {whole : Bool} → whole ≡ (m || any (eqb x) (drop i l)) → length l ≤ i → m ≡ whole
-  among_end m left h = sym (left ∙ among_over h m)
-
-pub ruleset among_loop = (rules, among_next, among_end)
+pub any_folded : (x : ℕ) (l : List ℕ) → fold (λ (b : Bool) (y : ℕ). b || eqb y x) false l ≡ any (eqb x) l
+any_folded x l = any_from x false l
 
 -- ---- equal names stand in equal bytes, so they have equal numbers
 

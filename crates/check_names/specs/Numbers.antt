@@ -5,6 +5,7 @@ use Rattle.tables.specs.Layout.{resources_in, slot_in}
 use Rattle.rules.specs.Images.{word_from}
 use Rattle.table_fields.specs.Sizes.{resource_places}
 use Rattle.table_names.specs.Names.{named, apart_after}
+use Rattle.check_names.specs.declared.Met.{Met}
 
 -- how many words the bytes where a name stands have
 abbrev pub name_words : ℕ
@@ -32,15 +33,15 @@ unfoldable pub name_number : List ℕ → List ℕ → ℕ → ℕ
 unfolding weighed
 name_number ks ss r = weighed ks (take name_width (slot_in ss r)) name_words % number_range
 
--- the names after r are noted: ns has the number of each, and ms a mark at its place
-pub record Noted (ws ss ks ns : List ℕ) (ms : List Bool) (r : ℕ) : Type 0 where
+-- the names after r are noted: the number of each, and a mark at its place
+pub record Noted (ws ss ks : List ℕ) (m : Met) (r : ℕ) : Type 0 where
   pub weights : length ks ≡ name_words
-  pub numbers : length ns ≡ resource_places
-  pub marks : length ms ≡ places
-  pub noted : (s : ℕ) → r < s → s ≤ resources_in ws → named ws s ≡ true → get_or ns s 0 ≡ name_number ks ss s
-  pub marked : (s : ℕ) → r < s → s ≤ resources_in ws → named ws s ≡ true → get_or ms (mark_place (name_number ks ss s)) false ≡ true
+  pub numbers : length m.numbers ≡ resource_places
+  pub marks : length m.marks ≡ places
+  pub noted : (s : ℕ) → r < s → s ≤ resources_in ws → named ws s ≡ true → get_or m.numbers s 0 ≡ name_number ks ss s
+  pub marked : (s : ℕ) → r < s → s ≤ resources_in ws → named ws s ≡ true → get_or m.marks (mark_place (name_number ks ss s)) false ≡ true
 
 -- the answer for r says whether no name after it is its own; after that its name is noted too
-pub record TellsApart (ws ss ks ns : List ℕ) (ms : List Bool) (r : ℕ) (x : Bool) : Type 0 where
+pub record TellsApart (ws ss ks : List ℕ) (m : Met) (r : ℕ) (x : Bool) : Type 0 where
   pub answer : x ≡ apart_after ws ss r
-  pub next : Noted ws ss ks ns ms (r - 1)
+  pub next : Noted ws ss ks m (r - 1)

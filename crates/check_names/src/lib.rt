@@ -1,7 +1,7 @@
 #![tactic(auto)]
 // No two resources have one name. In large tables each name gets a number, and names are compared only where numbers are
 // equal.
-ghost use Rattle.std.specs.Prelude.{◌≡◌, ◌*◌, ◌<◌, ◌≤◌, ◌^◌, eqb, length};
+ghost use Rattle.std.specs.Prelude.{◌≡◌, ◌*◌, ◌≤◌, eqb, length};
 ghost use Rattle.tables.specs.Lists.{any};
 ghost use Rattle.tables.specs.State.{name_width};
 ghost use Rattle.tables.specs.Layout.{slot_width, resources_in};
@@ -10,7 +10,7 @@ ghost use Rattle.table_names.specs.Promises.{Named, Tidy};
 ghost use Rattle.check_names.specs.Numbers.{name_words, weighed, name_number, Noted, TellsApart};
 
 use table_bytes::{WORD_BYTES, word_at};
-use table_fields::{RESOURCE_PLACES, resource_count, wide};
+use table_fields::{RESOURCE_PLACES, resource_count};
 use table_names::{NAME_BYTES, has_name, name_length, slot_start};
 
 // With at most so many resources the names themselves are compared: filling an array is not worth it.
@@ -35,6 +35,7 @@ const PLACES: usize = 4096;
 const PLACE_STEP: usize = NUMBER_RANGE as usize / PLACES;
 
 // Resources r and s do not share a name.
+#[tactic(auto, using(crate::proofs::ComparedNames::apart_laws))]
 fn apart(words: &[u32], slots: &[u8], r: u32, s: u32) -> bool
     requires named { Named words.now slots.now }
     requires le_r { (1 ≤ r) × (r ≤ resources_in words.now) }
@@ -43,12 +44,12 @@ fn apart(words: &[u32], slots: &[u8], r: u32, s: u32) -> bool
 {
     let own = name_length(words, r);
     let start = slot_start(r);
-    let end = start + own;
-    let alike = has_name(words, slots, s, &slots[start..end]);
+    let alike = has_name(words, slots, s, &slots[start..start + own]);
     !((own != 0) & alike)
 }
 
 // No resource after r has its name: each is compared, unless r has none.
+#[tactic(auto, using(crate::proofs::ComparedNames::compare_loop))]
 fn compare_after(words: &[u32], slots: &[u8], r: u32) -> bool
     requires named { Named words.now slots.now }
     requires le_r { (1 ≤ r) × (r ≤ resources_in words.now) }
@@ -58,134 +59,115 @@ fn compare_after(words: &[u32], slots: &[u8], r: u32) -> bool
         return true;
     }
     let n = resource_count(words);
-    let mut s = r + 1;
-    while s <= n {
+    for s in r + 1..n + 1 {
         if !apart(words, slots, r, s) {
             return false;
         }
-        s += 1;
     }
     true
 }
 
 // Each name is compared with those after it.
+#[tactic(auto, using(crate::proofs::ComparedNames::compare_loop))]
 fn compare_all(words: &[u32], slots: &[u8]) -> bool
     requires { Named words.now slots.now }
     ensures { result ≡ names_differ words.now slots.now }
 {
     let n = resource_count(words);
-    let mut r = 1;
-    while r <= n {
+    for r in 1..n + 1 {
         if !compare_after(words, slots, r) {
             return false;
         }
-        r += 1;
     }
     true
 }
 
-fn of_weight(x: u16) -> u64
-    ensures { (result ≡ x) × (result < 2 ^ 16) }
-{
-    x as u64
-}
-
-fn of_word(x: u32) -> u64
-    ensures { (result ≡ x) × (result < 2 ^ 32) }
-{
-    x as u64
-}
-
 // The sum of the words, each times its weight.
+#[tactic(auto, using(crate::proofs::NameNumbers::weigh_loop))]
 fn weigh(bytes: &[u8], weights: &[u16]) -> u64
     requires { (length bytes.now ≡ name_width) × (length weights.now ≡ name_words) }
     ensures { result ≡ weighed weights.now bytes.now name_words }
 {
     let mut sum = 0;
-    let mut i = 0;
-    while i < NAME_WORDS {
-        let weight = of_weight(weights[i]);
-        let word = of_word(word_at(bytes, WORD_BYTES * i));
-        sum += weight * word;
-        i += 1;
+    for (i, weight) in weights.iter().enumerate() {
+        sum += u64::from(*weight) * u64::from(word_at(bytes, WORD_BYTES * i));
     }
     sum
 }
 
 // A number for the name of resource r, made of all the bytes where it stands.
+#[tactic(auto, using(crate::proofs::NameNumbers::number_laws))]
 fn number(slots: &[u8], weights: &[u16], r: u32) -> u32
     requires weights_len { length weights.now ≡ name_words }
     requires le_r { (1 ≤ r) × (slot_width * r ≤ length slots.now) }
     ensures { result ≡ name_number weights.now slots.now r }
 {
     let start = slot_start(r);
-    let end = start + NAME_BYTES;
-    (weigh(&slots[start..end], weights) % NUMBER_RANGE) as u32
+    (weigh(&slots[start..start + NAME_BYTES], weights) % NUMBER_RANGE) as u32
 }
 
 // x is one of these numbers. All of them are looked at, so that the processor can compare many at once.
 fn among(a: &[u32], x: u32) -> bool
     ensures { result ≡ any (eqb x) a.now }
 {
-    let mut met = false;
-    let mut i = 0;
-    while i < a.len() {
-        met = met | (x == a[i]);
-        i += 1;
-    }
-    met
+    a.iter().fold(false, |met, y| met | (*y == x))
 }
 
-// No resource after r has its name. The numbers of the names after r have been noted and their places marked; the
-// number of r's own name is added to them. If its place was not marked yet, no name after r has its number. Names are
-// compared only if one of them has it.
-fn new_name(
-    words: &[u32],
-    slots: &[u8],
-    weights: &[u16],
-    numbers: &mut [u32],
-    met: &mut [bool],
-    r: u32,
-) -> bool
-    requires tidy { Tidy words.now slots.now }
-    requires le_r { (1 ≤ r) × (r ≤ resources_in words.now) }
-    requires noted { Noted words.now slots.now weights.now numbers.old met.old r }
-    ensures { TellsApart words.now slots.now weights.now numbers.new met.new r result }
-{
-    if name_length(words, r) == 0 {
-        return true;
+// The names met so far, from the last resource down: the number of each at the place of its resource, and marks for the numbers.
+#[derive(Drop)]
+struct Met {
+    numbers: [u32; RESOURCE_PLACES],
+    marks: [bool; PLACES],
+}
+
+impl Met {
+    // No resource after r has its name. The numbers of the names after r have been noted and their places marked; the
+    // number of r's own name is added to them. If its place was not marked yet, no name after r has its number. Names are
+    // compared only if one of them has it.
+    #[tactic(auto, using(crate::proofs::NewNames::telling))]
+    fn add(&mut self, words: &[u32], slots: &[u8], weights: &[u16], r: u32) -> bool
+        requires tidy { Tidy words.now slots.now }
+        requires le_r { (1 ≤ r) × (r ≤ resources_in words.now) }
+        requires noted { Noted words.now slots.now weights.now self.old r }
+        ensures { TellsApart words.now slots.now weights.now self.new r result }
+    {
+        if name_length(words, r) == 0 {
+            return true;
+        }
+        let x = number(slots, weights, r);
+        self.numbers[r as usize] = x;
+        let digits = x as usize;
+        let place = (digits + digits / PLACE_STEP) % PLACES;
+        if !self.marks[place] {
+            self.marks[place] = true;
+            return true;
+        }
+        let after = r as usize + 1;
+        let end = resource_count(words) as usize + 1;
+        if !among(&self.numbers[after..end], x) {
+            return true;
+        }
+        compare_after(words, slots, r)
     }
-    let x = number(slots, weights, r);
-    numbers[r as usize] = x;
-    let digits = wide(x);
-    let place = (digits + digits / PLACE_STEP) % PLACES;
-    if !met[place] {
-        met[place] = true;
-        return true;
-    }
-    let after = r as usize + 1;
-    let end = wide(resource_count(words)) + 1;
-    if !among(&numbers[after..end], x) {
-        return true;
-    }
-    compare_after(words, slots, r)
 }
 
 // The names are taken from the last one down, so that the numbers noted before a name's own are those of the names
-// after it. A name's number is noted at the place of its resource.
+// after it.
+#[tactic(auto, using(crate::proofs::NewNames::left_loop))]
 fn by_number(words: &[u32], slots: &[u8]) -> bool
     requires { Tidy words.now slots.now }
     ensures { result ≡ names_differ words.now slots.now }
 {
     let weights = WEIGHTS;
-    let mut numbers = [0; RESOURCE_PLACES];
-    let mut met = [false; PLACES];
-    let mut r = resource_count(words);
-    while 1 <= r {
-        if !new_name(words, slots, &weights, &mut numbers, &mut met, r) {
+    let mut met = Met {
+        numbers: [0; RESOURCE_PLACES],
+        marks: [false; PLACES],
+    };
+    let n = resource_count(words);
+    for r in (1..n + 1).rev() {
+        if !met.add(words, slots, &weights, r) {
             return false;
         }
-        r -= 1;
     }
     true
 }

@@ -18,7 +18,8 @@ use Rattle.tables.proofs.Cases.{and_left, and_right, parts}
 use Rattle.check_laws.specs.declared.HolderCount.{HolderCount}
 use Rattle.check_laws.specs.Check.{on_named, fields_fine, links_fine, lock_fine, stands, home_on, digit, too_many, mode_steps, fits_beside, tail_steps, grant_walk}
 use Rattle.check_laws.proofs.ChainSteps.{one_more, modes_zero, modes_none, modes_turn}
-use Rattle.check_queues.specs.QueueWalks.{modes_left, over, Walked}
+use Rattle.check_queues.specs.QueueWalks.{modes_left, Walked}
+use Rattle.std.proofs.Common.{Some, None}
 
 -- MODES. A lock's fields, whatever its state, have modes up to 5
 pub record Modes (l : Lock) : Type 0 where
@@ -86,9 +87,8 @@ unfolding digit
 digit_small h l = leb-true (digit h) (2 ^ 48) (below (λ h. leb (digit h) (2 ^ 48)) 6 refl h l)
 
 -- STEPS along holders: the chain ends; it is too long; it leaves the table; it meets another lock; a mode that doesn't fit; it goes on
-pub walked_over : {n : ℕ} {whole x : HolderCount} → x ≡ over n → over n ≡ whole → Walked n whole x
-unfolding over
-walked_over e w = record { is = e ∙ w; short = rw e (omega arith); small = rw e (omega arith); few = rw e (omega arith); light = rw e (omega arith) }
+pub walked_over : {n : ℕ} {whole : HolderCount} → too_many n ≡ whole → Walked n whole None
+walked_over w = record { is = w; fits = tt }
 
 module _ (ws : List ℕ) (s r : ℕ) (fit : ℕ → ℕ → Bool) where
   modes_at : (n m k set c d : ℕ) → (k ≡ 0 → ⊥) → m < n →
@@ -98,37 +98,40 @@ module _ (ws : List ℕ) (s r : ℕ) (fit : ℕ → ℕ → Bool) where
       (too_many (n - m))
   modes_at n m k set c d e h = let z : n - m - 1 ≡ n - (m + 1) = omega arith in rw (modes_turn ws s r fit set c d (n - m) k (omega arith) e, z)
 
-  pub modes_end : (n : ℕ) {m k set c d : ℕ} {whole : HolderCount} → whole ≡ modes_left ws s r fit n m k set c d → k ≡ 0 → m ≤ n → set < 64 → c ≤ m + 1 → d ≤ (m + 1) * 2 ^ 48 → Walked n whole (record { met = m; modes = set; noticed = c; digits = d })
+  pub modes_end : (n : ℕ) {m k set c d : ℕ} {whole : HolderCount} → whole ≡ modes_left ws s r fit n m k set c d → k ≡ 0 → m ≤ n → set < 64 → c ≤ m + 1 → d ≤ (m + 1) * 2 ^ 48 → Walked n whole (Some (record { met = m; modes = set; noticed = c; digits = d }))
   unfolding modes_left
   modes_end n {m} {k} {set} {c} {d} i e l h f g =
       let z : m + 0 ≡ m = omega arith in
-      record { is = sym (i ∙ rw (e, modes_zero ws s r fit set c d (n - m), z)); short = omega arith; small = h; few = omega arith; light = omega arith }
+      record {
+        is = sym (i ∙ rw (e, modes_zero ws s r fit set c d (n - m), z));
+        fits = record { short = l; small = h; few = omega arith; light = omega arith };
+      }
 
   module _ (set c d : ℕ) {n m k : ℕ} {whole : HolderCount} (i : whole ≡ modes_left ws s r fit n m k set c d) (e : k ≡ 0 → ⊥) where
-    pub modes_long : {x : HolderCount} → m ≤ n → n ≤ m → x ≡ over n → Walked n whole x
-    unfolding modes_left over
-    modes_long l h o =
+    pub modes_long : m ≤ n → n ≤ m → Walked n whole None
+    unfolding modes_left
+    modes_long l h =
         let z : n - m ≡ 0 = omega arith in
-        let w : m + 1 ≡ n + 1 = omega arith in
-        walked_over o (sym (i ∙ rw (z, modes_none ws s r fit set c d k e, w)))
+        let w : m + 1 ≡ suc n = omega arith in
+        walked_over (sym (i ∙ rw (z, modes_none ws s r fit set c d k e, w)))
 
-    modes_fail : {x : HolderCount} → m < n → (home_on ws s r k && fit set (held_in ws k)) ≡ false → x ≡ over n → Walked n whole x
-    unfolding modes_left over
-    modes_fail h f o =
-        let w : m + suc (n - m) ≡ n + 1 = omega arith in
-        walked_over o (sym (i ∙ rw (modes_at n m k set c d e h, f, w)))
+    modes_fail : m < n → (home_on ws s r k && fit set (held_in ws k)) ≡ false → Walked n whole None
+    unfolding modes_left
+    modes_fail h f =
+        let w : m + suc (n - m) ≡ suc n = omega arith in
+        walked_over (sym (i ∙ rw (modes_at n m k set c d e h, f, w)))
 
-    pub modes_off : {x : HolderCount} → m < n → locks_in ws < k → x ≡ over n → Walked n whole x
+    pub modes_off : m < n → locks_in ws < k → Walked n whole None
     unfolding home_on
     modes_off h b = modes_fail h (rw (lt-leb k (locks_in ws) b))
 
     module _ {a : Bool} (h : m < n) (b : k ≤ locks_in ws) (t : a ≡ stands ws s r k) where
-      pub modes_other : {x : HolderCount} → not a ≡ true → x ≡ over n → Walked n whole x
+      pub modes_other : not a ≡ true → Walked n whole None
       unfolding home_on
       modes_other f = modes_fail h (rw (le-leb k (locks_in ws) b, ← t, not-true a f))
 
       module _ {l : ℕ} {u : Bool} (f : not a ≡ false) (g : l ≡ word_in ws (of_lock k 6)) (v : u ≡ fit set l) where
-        pub modes_clash : {x : HolderCount} → not u ≡ true → x ≡ over n → Walked n whole x
+        pub modes_clash : not u ≡ true → Walked n whole None
         unfolding home_on
         modes_clash w = modes_fail h (rw (le-leb k (locks_in ws) b, ← t, not-false a f, ← held_read ws k g, ← v, not-true u w))
 
@@ -150,3 +153,5 @@ grant_start ws r e = rw e (modes_start ws 1 r fits_set (locks_in ws) (word_in ws
 
 pub tail_start : (ws : List ℕ) (r h n k set c : ℕ) {d : ℕ} → d ≡ digit h → tail_steps ws r h n k set c ≡ modes_left ws 2 r (fits_beside h) n 0 k set c d
 tail_start ws r h n k set c e = rw e (modes_start ws 2 r (fits_beside h) n k set c (digit h))
+
+pub ruleset holders = (stands_held, modes_end, modes_long, modes_off, modes_other, modes_clash, modes_on, grant_start, tail_start)

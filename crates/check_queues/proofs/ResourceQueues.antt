@@ -2,11 +2,11 @@
 use mathlib.Core.Path.{◌≡◌, sym, ap, ◌∙◌}
 use mathlib.Core.Bool.{Bool, true, false, not, ◌&&◌}
 use mathlib.Core.List.{List}
-use Prim.Native.Nat.{ℕ, ◌+◌, ◌-◌, ◌*◌, ◌^◌, ◌≤◌, ◌<◌}
+use Prim.Native.Nat.{ℕ, suc, ◌+◌, ◌-◌, ◌*◌, ◌^◌, ◌≤◌, ◌<◌}
 use native.Mathlib.Nat.{lt_of_lt_of_le}
 use native.Mathlib.Numerals.{add-one}
 use native.Mathlib.Omega.{arith}
-use lib.Dec.{eqb}
+use lib.Dec.{eqb, leb}
 use lib.ListN.{length}
 use borrow.Author.Tests.{not-true, not-false, le-leb, lt-leb, eq-eqb, ne_eqb}
 use Rattle.modes.specs.Sets.{fits_set}
@@ -22,47 +22,55 @@ use Rattle.check_laws.proofs.ChainSteps.{convert_zero, convert_turn, first_passe
 use Rattle.check_laws.proofs.ResourceWalk.{link_of, head_of, Right, grant_met, grant_is, convert_met, convert_is, wait_met, wait_is}
 use Rattle.check_laws.proofs.Heads.{home_low, home_fine}
 use Rattle.check_laws.proofs.SideCounts.{queue_is}
-use Rattle.check_queues.specs.QueueWalks.{Census, over, queues_over, Walked, HoldersWalked, head_on, Heads, Counted}
-use Rattle.check_queues.proofs.HolderWalks.{walked_over, fine_modes, held_read}
+use Rattle.std.proofs.Common.{Option, Some, None}
+use Rattle.table_chains.specs.declared.Hints.{Hints}
+use Rattle.check_chains.specs.Walks.{Met}
+use Rattle.check_queues.specs.QueueWalks.{Small, Walked, HoldersWalked, head_on, Heads, Counted}
+use Rattle.check_queues.proofs.HolderWalks.{walked_over, fine_modes, held_read, stands_held}
 
 -- CONVERTS. The head leaves the table; is another lock; its mode doesn't fit; the rest is walked
 module _ (ws : List ℕ) (r c set : ℕ) (o : 1 ≤ locks_in ws) (m : 1 ≤ c) where
-  convert_fail : {x : HolderCount} → (home_on ws 2 r c && fits_set set (held_in ws c)) ≡ false → x ≡ over (locks_in ws) → Walked (locks_in ws) (convert_from ws r c set) x
-  unfolding over
-  convert_fail f e = walked_over e (rw (convert_turn ws r set c o (omega arith), f, add-one (locks_in ws)))
+  convert_fail : (home_on ws 2 r c && fits_set set (held_in ws c)) ≡ false → Walked (locks_in ws) (convert_from ws r c set) None
+  convert_fail f = walked_over (rw (convert_turn ws r set c o (omega arith), f))
 
-  pub convert_off : {x : HolderCount} → locks_in ws < c → x ≡ over (locks_in ws) → Walked (locks_in ws) (convert_from ws r c set) x
+  pub convert_off : locks_in ws < c → Walked (locks_in ws) (convert_from ws r c set) None
   unfolding home_on
   convert_off h = convert_fail (rw (lt-leb c (locks_in ws) h))
 
   module _ {a : Bool} (h : c ≤ locks_in ws) (t : a ≡ stands ws 2 r c) where
-    pub convert_other : {x : HolderCount} → not a ≡ true → x ≡ over (locks_in ws) → Walked (locks_in ws) (convert_from ws r c set) x
+    pub convert_other : not a ≡ true → Walked (locks_in ws) (convert_from ws r c set) None
     unfolding home_on
     convert_other f = convert_fail (rw (le-leb c (locks_in ws) h, ← t, not-true a f))
 
     module _ {l : ℕ} {b : Bool} (f : not a ≡ false) (e : l ≡ word_in ws (of_lock c 6)) (u : b ≡ fits_set set l) where
-      pub convert_clash : {x : HolderCount} → not b ≡ true → x ≡ over (locks_in ws) → Walked (locks_in ws) (convert_from ws r c set) x
+      pub convert_clash : not b ≡ true → Walked (locks_in ws) (convert_from ws r c set) None
       unfolding home_on
       convert_clash v = convert_fail (rw (le-leb c (locks_in ws) h, ← t, not-false a f, ← held_read ws c e, ← u, not-true b v))
 
-      pub convert_on : {k q : ℕ} {rest : HolderCount} → not b ≡ false → k ≡ word_in ws (of_lock c 0) → q ≡ bit (noticed (read_lock ws c)) → Walked (locks_in ws - 1) (tail_steps ws r l (locks_in ws - 1) k set q) rest → Walked (locks_in ws) (convert_from ws r c set) (record { met = rest.met + 1; modes = rest.modes; noticed = rest.noticed; digits = rest.digits })
-      unfolding home_on
-      convert_on {k} {q} {rest} v g n w =
-          let same = w.is in
-          record {
-            is = rw (convert_turn ws r set c o (omega arith), le-leb c (locks_in ws) h, ← t, not-false a f, ← held_read ws c e, ← u, not-false b v, ← g, ← n, ← same, add-one rest.met);
-            short = let z = w.short in omega arith;
-            small = w.small;
-            few = let z = w.few in omega arith;
-            light = let z = w.light in omega arith;
-          }
+      module _ {k q : ℕ} (v : not b ≡ false) (g : k ≡ word_in ws (of_lock c 0)) (n : q ≡ bit (noticed (read_lock ws c))) where
+        pub convert_rest : Walked (locks_in ws - 1) (tail_steps ws r l (locks_in ws - 1) k set q) None → Walked (locks_in ws) (convert_from ws r c set) None
+        unfolding home_on
+        convert_rest w =
+            let same = w.is in
+            let all : suc (locks_in ws - 1) ≡ locks_in ws = omega arith in
+            walked_over (rw (convert_turn ws r set c o (omega arith), le-leb c (locks_in ws) h, ← t, not-false a f, ← held_read ws c e, ← u, not-false b v, ← g, ← n, ← same, all))
+
+        pub convert_on : {rest : HolderCount} → Walked (locks_in ws - 1) (tail_steps ws r l (locks_in ws - 1) k set q) (Some rest) → Walked (locks_in ws) (convert_from ws r c set) (Some (record { met = rest.met + 1; modes = rest.modes; noticed = rest.noticed; digits = rest.digits }))
+        unfolding home_on
+        convert_on {rest} w =
+            let same = w.is in
+            let fit : Small (locks_in ws - 1) rest = w.fits in
+            record {
+              is = rw (convert_turn ws r set c o (omega arith), le-leb c (locks_in ws) h, ← t, not-false a f, ← held_read ws c e, ← u, not-false b v, ← g, ← n, ← same, add-one rest.met);
+              fits = record { short = omega (arith, fit.short); small = fit.small; few = omega (arith, fit.few); light = omega (arith, fit.light) };
+            }
 
 module _ (ws : List ℕ) (r set : ℕ) {c : ℕ} (e : c ≡ word_in ws (of_resource r 2)) where
-  pub convert_none : set < 64 → c ≡ 0 → Walked (locks_in ws) (convert_walk ws r set) (record { met = 0; modes = set; noticed = 0; digits = 0 })
+  pub convert_none : set < 64 → c ≡ 0 → Walked (locks_in ws) (convert_walk ws r set) (Some (record { met = 0; modes = set; noticed = 0; digits = 0 }))
   unfolding convert_walk
-  convert_none s z = record { is = rw (← e, z, convert_zero ws r set); short = omega arith; small = s; few = omega arith; light = omega arith }
+  convert_none s z = record { is = rw (← e, z, convert_zero ws r set); fits = record { short = omega arith; small = s; few = omega arith; light = omega arith } }
 
-  pub convert_some : {x : HolderCount} → Walked (locks_in ws) (convert_from ws r c set) x → Walked (locks_in ws) (convert_walk ws r set) x
+  pub convert_some : {x : Option HolderCount} → Walked (locks_in ws) (convert_from ws r c set) x → Walked (locks_in ws) (convert_walk ws r set) x
   unfolding convert_walk
   convert_some w = rw (← e) w
 
@@ -150,77 +158,104 @@ module _ (ws : List ℕ) (r met digits : ℕ) {x : ModeCounts} (e : x ≡ read_c
   unfolding counts_fine
   counts_agree y = rw (← in_all, eq-eqb _ met y, ← as_digits)
 
--- ONE RESOURCE: a walk says that something is wrong, or all three are done
-counted_over : (ws : List ℕ) (r : ℕ) {x : Census} → x ≡ queues_over (locks_in ws) → locks_in ws + 1 ≡ resource_walk ws r → Counted ws r x
-unfolding queues_over
-counted_over ws r e w =
-    rw e (record { met = w; short = omega arith; blocked = λ h. absurd (omega arith); noticed = λ h. absurd (omega arith); few = (omega arith, omega arith) })
+-- ONE RESOURCE: a walk finds that something is wrong, or all three are done
+over_leb : (n : ℕ) → leb (suc n) n ≡ false
+over_leb n = lt-leb (suc n) n (omega arith)
 
-module _ (ws : List ℕ) (r : ℕ) {g : HolderCount} (p : Walked (locks_in ws) (grant_walk ws r) g) where
-  pub over_grant : {x : Census} → locks_in ws < g.met → x ≡ queues_over (locks_in ws) → Counted ws r x
+counted_over : (ws : List ℕ) (r : ℕ) → suc (locks_in ws) ≡ resource_walk ws r → Counted ws r None
+counted_over ws r w = record { met = rw (add-one (locks_in ws)) w; short = tt; blocked = tt; noticed = tt; few = tt }
+
+module _ (ws : List ℕ) (r : ℕ) where
+  pub over_grant : Walked (locks_in ws) (grant_walk ws r) None → Counted ws r None
   unfolding resource_walk
-  over_grant h o = let eg = p.is in counted_over ws r o (rw (← eg, lt-leb g.met (locks_in ws) h, add-one (locks_in ws)))
+  over_grant p = let eg = p.is in counted_over ws r (rw (← eg, over_leb (locks_in ws)))
 
-  module _ {c : HolderCount} (lg : g.met ≤ locks_in ws) (q : Walked (locks_in ws) (convert_walk ws r g.modes) c) where
-    pub over_convert : {x : Census} → locks_in ws < c.met → x ≡ queues_over (locks_in ws) → Counted ws r x
+  module _ {g : HolderCount} (p : Walked (locks_in ws) (grant_walk ws r) (Some g)) where
+    granted_few : leb g.met (locks_in ws) ≡ true
+    granted_few = let fit : Small (locks_in ws) g = p.fits in le-leb g.met (locks_in ws) fit.short
+
+    pub over_convert : Walked (locks_in ws) (convert_walk ws r g.modes) None → Counted ws r None
     unfolding resource_walk convert_part
-    over_convert h o =
+    over_convert q =
         let eg = p.is in
         let ec = q.is in
-        counted_over ws r o (rw (← eg, le-leb g.met (locks_in ws) lg, ← ec, lt-leb c.met (locks_in ws) h, add-one (locks_in ws)))
+        counted_over ws r (rw (← eg, granted_few, ← ec, over_leb (locks_in ws)))
 
-    module _ {b : Bool} (lc : c.met ≤ locks_in ws) (eb : b ≡ counts_fine ws r (g.met + c.met) (g.digits + c.digits)) where
-      pub over_counts : {x : Census} → not b ≡ true → x ≡ queues_over (locks_in ws) → Counted ws r x
+    module _ {c : HolderCount} (q : Walked (locks_in ws) (convert_walk ws r g.modes) (Some c)) {b : Bool} (eb : b ≡ counts_fine ws r (g.met + c.met) (g.digits + c.digits)) where
+      converting_few : leb c.met (locks_in ws) ≡ true
+      converting_few = let fit : Small (locks_in ws) c = q.fits in le-leb c.met (locks_in ws) fit.short
+
+      pub over_counts : not b ≡ true → Counted ws r None
       unfolding resource_walk convert_part
-      over_counts f o =
+      over_counts f =
           let eg = p.is in
           let ec = q.is in
-          counted_over ws r o (rw (← eg, le-leb g.met (locks_in ws) lg, ← ec, le-leb c.met (locks_in ws) lc, ← eb, not-true b f, add-one (locks_in ws)))
+          counted_over ws r (rw (← eg, granted_few, ← ec, converting_few, ← eb, not-true b f))
 
       pub holders_walked : not b ≡ false → HoldersWalked ws r g c
-      holders_walked f = record { granted = p; grants_end = lg; converting = q; converts_end = lc; counts = sym eb ∙ not-false b f }
+      holders_walked f = record { granted = p; converting = q; counts = sym eb ∙ not-false b f }
 
 module _ (ws : List ℕ) (r : ℕ) {g c : HolderCount} (p : HoldersWalked ws r g c) where
+  fit_granted : Small (locks_in ws) g
+  fit_granted = p.granted.fits
+
+  fit_converting : Small (locks_in ws) c
+  fit_converting = p.converting.fits
+
   walk_on : wait_part ws r g c ≡ resource_walk ws r
   unfolding resource_walk convert_part
   walk_on =
       let eg = p.granted.is in
       let ec = p.converting.is in
-      rw (← eg, le-leb g.met (locks_in ws) p.grants_end, ← ec, le-leb c.met (locks_in ws) p.converts_end, p.counts)
+      rw (← eg, le-leb g.met (locks_in ws) fit_granted.short, ← ec, le-leb c.met (locks_in ws) fit_converting.short, p.counts)
 
-  module _ {w : ℕ} (ew : w ≡ home_steps ws 3 r (word_in ws (of_resource r 3))) where
-    pub over_wait : {x : Census} → locks_in ws < w → x ≡ queues_over (locks_in ws) → Counted ws r x
-    unfolding wait_part
-    over_wait h o = counted_over ws r o (rw (← walk_on, ← ew, lt-leb w (locks_in ws) h, add-one (locks_in ws)))
+  pub over_wait : Met (locks_in ws) (home_steps ws 3 r (word_in ws (of_resource r 3))) None → Counted ws r None
+  unfolding wait_part
+  over_wait m = let ew = rw (add-one (locks_in ws)) at m.is in counted_over ws r (rw (← walk_on, ← ew, over_leb (locks_in ws)))
 
-    pub heads : w ≤ locks_in ws → Heads ws r
-    heads l =
+  module _ {w : ℕ} (m : Met (locks_in ws) (home_steps ws 3 r (word_in ws (of_resource r 3))) (Some w)) where
+    ew : w ≡ home_steps ws 3 r (word_in ws (of_resource r 3))
+    ew = m.is
+
+    lw : w ≤ locks_in ws
+    lw = m.few
+
+    pub heads : Heads ws r
+    heads =
         let ec = p.converting.is in
         record {
-          convert = head_stands ws r converts 2 (convert_met ws r g.modes (rw (← ec) p.converts_end)).0;
-          wait = head_stands ws r waits 3 (wait_met ws r (rw (← ew) l));
+          convert = head_stands ws r converts 2 (convert_met ws r g.modes (rw (← ec) fit_converting.short)).0;
+          wait = head_stands ws r waits 3 (wait_met ws r (rw (← ew) lw));
         }
 
-    module _ {b : Bool} (lw : w ≤ locks_in ws) (eb : b ≡ heads_wait ws r g.modes c.modes) where
-      pub head_fits : {x : Census} → not b ≡ true → x ≡ queues_over (locks_in ws) → Counted ws r x
+    module _ {b : Bool} (eb : b ≡ heads_wait ws r g.modes c.modes) where
+      pub head_fits : not b ≡ true → Counted ws r None
       unfolding wait_part
-      head_fits f o = counted_over ws r o (rw (← walk_on, ← ew, le-leb w (locks_in ws) lw, ← eb, not-true b f, add-one (locks_in ws)))
+      head_fits f = counted_over ws r (rw (← walk_on, ← ew, le-leb w (locks_in ws) lw, ← eb, not-true b f))
 
       all_met : not b ≡ false → g.met + c.met + w ≡ resource_walk ws r
       unfolding wait_part
       all_met f = rw (← walk_on, ← ew, le-leb w (locks_in ws) lw, ← eb, not-false b f)
 
-      pub all_three : {before last : ℕ} → 1 ≤ locks_in ws → not b ≡ false → Counted ws r (record { met = g.met + c.met + w; blocked = c.met + w; noticed = g.noticed + c.noticed; before = before; last = last })
+      pub all_three : {seen : Hints} → 1 ≤ locks_in ws → not b ≡ false → Counted ws r (Some (record { met = g.met + c.met + w; blocked = c.met + w; noticed = g.noticed + c.noticed; hints = seen }))
       unfolding blocked_at noticed_at
       all_three o f =
           let eg = p.granted.is in
           let ec = p.converting.is in
-          let few_granted = p.granted.few in
-          let few_converting = p.converting.few in
-          let lg = p.grants_end in
-          let lc = p.converts_end in
-          let converts : c.met ≡ length (onward ws 0 (word_in ws (of_resource r 2))) = rw ec (convert_length ws r g.modes (rw (← ec) lc)) in
+          let fg = fit_granted in
+          let fc = fit_converting in
+          let few = lw in
+          let converts : c.met ≡ length (onward ws 0 (word_in ws (of_resource r 2))) = rw ec (convert_length ws r g.modes (rw (← ec) fc.short)) in
           let waits : w ≡ length (onward ws 0 (word_in ws (of_resource r 3))) = rw ew (wait_length ws r (rw (← ew) lw)) in
-          let granted : g.noticed ≡ noticed_of ws (onward ws 0 (word_in ws (of_resource r 1))) = rw eg (grant_noticed ws r (rw (← eg) lg)) in
-          let converting : c.noticed ≡ noticed_of ws (onward ws 0 (word_in ws (of_resource r 2))) = rw ec (convert_noticed ws r g.modes (rw (← ec) lc)) in
-          record { met = all_met f; short = omega arith; blocked = λ h. omega arith; noticed = λ h. omega arith; few = (omega arith, omega arith) }
+          let granted : g.noticed ≡ noticed_of ws (onward ws 0 (word_in ws (of_resource r 1))) = rw eg (grant_noticed ws r (rw (← eg) fg.short)) in
+          let converting : c.noticed ≡ noticed_of ws (onward ws 0 (word_in ws (of_resource r 2))) = rw ec (convert_noticed ws r g.modes (rw (← ec) fc.short)) in
+          record { met = all_met f; short = omega arith; blocked = omega arith; noticed = omega arith; few = (omega arith, omega arith) }
+
+-- the lemmas of each function
+pub ruleset converting = (stands_held, convert_off, convert_other, convert_clash, convert_rest, convert_on)
+
+pub ruleset head_tests = (convert_low, convert_asks, wait_low, wait_asks, wait_convert, wait_none, wait_some)
+
+pub ruleset count_tests = (digits_fit, counts_differ, counts_agree)
+
+pub ruleset queue_tests = (over_grant, over_convert, over_counts, holders_walked, over_wait, head_fits)

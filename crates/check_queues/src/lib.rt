@@ -9,13 +9,15 @@ ghost use Rattle.table_fields.specs.Sizes.{Sized};
 ghost use Rattle.table_names.specs.Names.{named};
 ghost use Rattle.check_laws.specs.Check.{home_steps, digit, fits_beside, tail_steps, grant_walk, convert_from, convert_walk, heads_wait, counts_fine};
 ghost use Rattle.check_resources.specs.Passes.{Fine};
-ghost use Rattle.check_queues.specs.QueueWalks.{over, queues_over, Walked, HoldersWalked, Heads, Counted};
+ghost use Rattle.check_chains.specs.Walks.{Met};
+ghost use Rattle.check_queues.specs.QueueWalks.{Walked, holders_in, HoldersWalked, Heads, Counted};
 
-use check_chains::{WAIT_CHAIN, met};
+use check_chains::{Chain, met};
 use check_laws::HolderCount;
 use check_locks::{stands_converting, stands_granted};
+use table_chains::Hints;
 use table_fields::{
-    LOCK_ASKED, LOCK_HELD, LOCK_NEXT, LOCKS, RESOURCE_CONVERT, RESOURCE_GRANT, RESOURCE_WAIT, bit,
+    LOCK_ASKED, LOCK_HELD, LOCK_NEXT, LOCKS, RESOURCE_CONVERT, RESOURCE_GRANT, RESOURCE_WAIT,
     counts_at, is_noticed, lock_at, lock_word, resource_word,
 };
 
@@ -30,68 +32,30 @@ const DIGIT: u64 = 1 << DIGIT_BITS;
 #[derive(Clone, Copy)]
 pub struct Grants {
     pub found: HolderCount,
-    pub before: u32,
-    pub last: u32,
+    pub hints: Hints,
 }
 
-// What the walks along a resource's queues find: how many locks, or more than there are if something is wrong; how many
-// of them belong on the blocked chain, and how many on the notice chain; and what was passed on the grant chain.
+// What the walks along a resource's queues find if nothing is wrong: how many locks; how many of them belong on the
+// blocked chain, and how many on the notice chain; and what was passed on the grant chain.
 #[derive(Clone, Copy)]
 pub struct Census {
     pub met: u32,
     pub blocked: u32,
     pub noticed: u32,
-    pub before: u32,
-    pub last: u32,
+    pub hints: Hints,
 }
 
-// What a walk answers if something is wrong with a chain: one lock more than the n that there may be, and nothing else.
-fn over(n: u32) -> HolderCount
-    requires { n ≤ most_locks }
-    ensures { result ≡ over n }
-{
-    HolderCount {
-        met: n + 1,
-        modes: 0,
-        noticed: 0,
-        digits: 0,
-    }
-}
-
-fn grants_over(n: u32) -> Grants
-    requires { n ≤ most_locks }
-    ensures { result.found ≡ over n }
-{
-    Grants {
-        found: over(n),
-        before: 0,
-        last: 0,
-    }
-}
-
-fn queues_over(n: u32) -> Census
-    requires { n ≤ most_locks }
-    ensures { result ≡ queues_over n }
-{
-    Census {
-        met: n + 1,
-        blocked: 0,
-        noticed: 0,
-        before: 0,
-        last: 0,
-    }
-}
-
-// 1 if lock k belongs on the notice chain.
+// Whether lock k belongs on the notice chain, as a number to add up.
 fn notice_bit(words: &[u32], k: u32) -> u32
     requires sized { Sized words.now }
     requires le_k { (1 ≤ k) × (k ≤ locks_in words.now) }
     ensures { (result ≡ bit (noticed (read_lock words.now k))) × (result ≤ 1) }
 {
-    bit(is_noticed(lock_at(words, k)))
+    u32::from(is_noticed(lock_at(words, k)))
 }
 
 // The held mode as a number to add up: a digit for each mode from CR on. NL adds nothing.
+#[tactic(auto, using(crate::proofs::HolderWalks::digit_shifts, crate::proofs::HolderWalks::digit_small))]
 fn digit(held: u32) -> u64
     requires { held < 6 }
     ensures { (result ≡ digit held) × (result ≤ 2 ^ 48) }
@@ -99,20 +63,13 @@ fn digit(held: u32) -> u64
     (1u64 << (DIGIT_BITS * held)) >> DIGIT_BITS
 }
 
-// What stands before the watched lock: lock k, if the next one is that, or what was found already.
-fn passed(watched: u32, next: u32, k: u32, before: u32) -> u32 {
-    if next == watched {
-        return k;
-    }
-    before
-}
-
 // Walks along a resource's grant chain: each held mode must fit those before it.
-fn grant_walk(words: &[u32], r: u32, watched: u32) -> Grants
+#[tactic(auto, using(crate::proofs::HolderWalks::holders))]
+fn grant_walk(words: &[u32], r: u32, watched: u32) -> Option<Grants>
     requires fine { Fine words.now }
     requires le_r { (1 ≤ r) × (r ≤ resources_in words.now) }
     requires r_value { named words.now r ≡ true }
-    ensures { Walked (locks_in words.now) (grant_walk words.now r) result.found }
+    ensures { Walked (locks_in words.now) (grant_walk words.now r) (holders_in result) }
 {
     let n = words[LOCKS];
     let mut k = resource_word(words, r, RESOURCE_GRANT);
@@ -124,40 +81,42 @@ fn grant_walk(words: &[u32], r: u32, watched: u32) -> Grants
     let mut last = 0;
     while k != 0 {
         if n <= met {
-            return grants_over(n);
+            return None;
         }
         if n < k {
-            return grants_over(n);
+            return None;
         }
         if !stands_granted(words, r, k) {
-            return grants_over(n);
+            return None;
         }
         let held = lock_word(words, k, LOCK_HELD);
         if !modes::fits_by_masks(set, held) {
-            return grants_over(n);
+            return None;
         }
         set = modes::with_mode(set, held);
         noticed += notice_bit(words, k);
         digits += digit(held);
         let next = lock_word(words, k, LOCK_NEXT);
-        before = passed(watched, next, k, before);
+        if next == watched {
+            before = k;
+        }
         last = k;
         k = next;
         met += 1;
     }
-    Grants {
+    Some(Grants {
         found: HolderCount {
-            met: met,
+            met,
             modes: set,
-            noticed: noticed,
-            digits: digits,
+            noticed,
+            digits,
         },
-        before: before,
-        last: last,
-    }
+        hints: Hints { before, last },
+    })
 }
 
 // The mode fits the set and the convert head's mode.
+#[tactic(auto, unfolding(check_laws::specs::Check::fits_beside))]
 fn fits_beside(head: u32, set: u32, mode: u32) -> bool
     requires head_bound { head < 6 }
     requires set_bound { set < 64 }
@@ -170,7 +129,15 @@ fn fits_beside(head: u32, set: u32, mode: u32) -> bool
 // Walks along the locks behind the convert head: each held mode must fit those before it, the granted ones and the
 // head's. The set that is answered leaves the head's mode out, the sum does not. `before` is 1 if the head belongs on
 // the notice chain.
-fn tail_walk(words: &[u32], r: u32, head: u32, first: u32, granted: u32, before: u32) -> HolderCount
+#[tactic(auto, using(crate::proofs::HolderWalks::holders))]
+fn tail_walk(
+    words: &[u32],
+    r: u32,
+    head: u32,
+    first: u32,
+    granted: u32,
+    before: u32,
+) -> Option<HolderCount>
     requires fine { Fine words.now }
     requires le_r { (1 ≤ r) × (r ≤ resources_in words.now) }
     requires r_value { named words.now r ≡ true }
@@ -188,17 +155,17 @@ fn tail_walk(words: &[u32], r: u32, head: u32, first: u32, granted: u32, before:
     let mut digits = digit(head);
     while k != 0 {
         if n <= met {
-            return over(n);
+            return None;
         }
         if last < k {
-            return over(n);
+            return None;
         }
         if !stands_converting(words, r, k) {
-            return over(n);
+            return None;
         }
         let held = lock_word(words, k, LOCK_HELD);
         if !fits_beside(head, set, held) {
-            return over(n);
+            return None;
         }
         set = modes::with_mode(set, held);
         noticed += notice_bit(words, k);
@@ -206,16 +173,17 @@ fn tail_walk(words: &[u32], r: u32, head: u32, first: u32, granted: u32, before:
         k = lock_word(words, k, LOCK_NEXT);
         met += 1;
     }
-    HolderCount {
-        met: met,
+    Some(HolderCount {
+        met,
         modes: set,
-        noticed: noticed,
-        digits: digits,
-    }
+        noticed,
+        digits,
+    })
 }
 
 // Walks along the convert chain from its head c on: c's held mode must fit the granted ones.
-fn convert_from(words: &[u32], r: u32, c: u32, granted: u32) -> HolderCount
+#[tactic(auto, using(crate::proofs::ResourceQueues::converting))]
+fn convert_from(words: &[u32], r: u32, c: u32, granted: u32) -> Option<HolderCount>
     requires fine { Fine words.now }
     requires le_r { (1 ≤ r) × (r ≤ resources_in words.now) }
     requires r_value { named words.now r ≡ true }
@@ -225,26 +193,25 @@ fn convert_from(words: &[u32], r: u32, c: u32, granted: u32) -> HolderCount
 {
     let n = words[LOCKS];
     if n < c {
-        return over(n);
+        return None;
     }
     if !stands_converting(words, r, c) {
-        return over(n);
+        return None;
     }
     let held = lock_word(words, c, LOCK_HELD);
     if !modes::fits_by_masks(granted, held) {
-        return over(n);
+        return None;
     }
     let first = lock_word(words, c, LOCK_NEXT);
-    let rest = tail_walk(words, r, held, first, granted, notice_bit(words, c));
-    HolderCount {
+    let rest = tail_walk(words, r, held, first, granted, notice_bit(words, c))?;
+    Some(HolderCount {
         met: rest.met + 1,
-        modes: rest.modes,
-        noticed: rest.noticed,
-        digits: rest.digits,
-    }
+        ..rest
+    })
 }
 
-fn convert_walk(words: &[u32], r: u32, granted: u32) -> HolderCount
+#[tactic(auto, using(crate::proofs::ResourceQueues::convert_none, crate::proofs::ResourceQueues::convert_some))]
+fn convert_walk(words: &[u32], r: u32, granted: u32) -> Option<HolderCount>
     requires fine { Fine words.now }
     requires le_r { (1 ≤ r) × (r ≤ resources_in words.now) }
     requires r_value { named words.now r ≡ true }
@@ -253,30 +220,31 @@ fn convert_walk(words: &[u32], r: u32, granted: u32) -> HolderCount
 {
     let c = resource_word(words, r, RESOURCE_CONVERT);
     if c == 0 {
-        return HolderCount {
+        return Some(HolderCount {
             met: 0,
             modes: granted,
             noticed: 0,
             digits: 0,
-        };
+        });
     }
     convert_from(words, r, c, granted)
 }
 
-// How many locks the wait chain of r has; one more than there are if it does not end, or has a lock that does not
-// belong there.
-fn waiting_met(words: &[u32], r: u32) -> u32
+// How many locks the wait chain of r has; none if it does not end, or has a lock that does not belong there.
+#[tactic(auto, using(check_chains::proofs::WalkStarts::chains))]
+fn waiting_met(words: &[u32], r: u32) -> Option<u32>
     requires sized { Sized words.now }
     requires le_r { (1 ≤ r) × (r ≤ resources_in words.now) }
     requires r_value { named words.now r ≡ true }
-    ensures { (result ≡ home_steps words.now state_waiting r (word_in words.now (of_resource r 3))) × (result ≤ locks_in words.now + 1) }
+    ensures { Met (locks_in words.now) (home_steps words.now state_waiting r (word_in words.now (of_resource r 3))) result }
 {
     let first = resource_word(words, r, RESOURCE_WAIT);
-    met(words, WAIT_CHAIN, r, LOCK_NEXT, first)
+    met(words, Chain::Waiting(r), LOCK_NEXT, first)
 }
 
 // The convert head is kept out by the others' modes. If there is no convert head, the wait head is kept out by the
 // granted ones.
+#[tactic(auto, using(crate::proofs::ResourceQueues::head_tests))]
 fn heads_wait(words: &[u32], r: u32, granted: u32, others: u32) -> bool
     requires fine { Fine words.now }
     requires le_r { (1 ≤ r) × (r ≤ resources_in words.now) }
@@ -297,6 +265,7 @@ fn heads_wait(words: &[u32], r: u32, granted: u32, others: u32) -> bool
 
 // The counts of r are true, where `met` locks hold a mode and `digits` is their modes added up: they are as many in all,
 // and the same as digits. If they are as many in all, none is too large for a digit.
+#[tactic(auto, using(crate::proofs::ResourceQueues::count_tests))]
 fn counts_fine(words: &[u32], r: u32, met: u32, digits: u64) -> bool
     requires sized { Sized words.now }
     requires le_r { (1 ≤ r) × (r ≤ resources_in words.now) }
@@ -304,73 +273,62 @@ fn counts_fine(words: &[u32], r: u32, met: u32, digits: u64) -> bool
     ensures { result ≡ counts_fine words.now r met digits }
 {
     let x = counts_at(words, r);
-    let cr = x.cr as u64;
-    let cw = x.cw as u64;
-    let pr = x.pr as u64;
-    let pw = x.pw as u64;
-    let ex = x.ex as u64;
-    if (x.nl as u64) + cr + cw + pr + pw + ex != (met as u64) {
+    let cr = u64::from(x.cr);
+    let cw = u64::from(x.cw);
+    let pr = u64::from(x.pr);
+    let pw = u64::from(x.pw);
+    let ex = u64::from(x.ex);
+    if u64::from(x.nl) + cr + cw + pr + pw + ex != u64::from(met) {
         return false;
     }
     cr + DIGIT * (cw + DIGIT * (pr + DIGIT * (pw + DIGIT * ex))) == digits
 }
 
 // What is found of a resource whose granted and converting locks are as g and c say.
-fn wait_part(words: &[u32], r: u32, g: Grants, c: HolderCount) -> Census
+#[tactic(auto, using(crate::proofs::ResourceQueues::queue_tests))]
+fn wait_part(words: &[u32], r: u32, g: Grants, c: HolderCount) -> Option<Census>
     requires fine { Fine words.now }
     requires le_r { (1 ≤ r) × (r ≤ resources_in words.now) }
     requires r_value { named words.now r ≡ true }
     requires holders_walked { HoldersWalked words.now r g.found c }
     ensures { Counted words.now r result }
 {
-    let n = words[LOCKS];
-    let w = waiting_met(words, r);
-    if n < w {
-        return queues_over(n);
-    }
+    let w = waiting_met(words, r)?;
     if !heads_wait(words, r, g.found.modes, c.modes) {
-        return queues_over(n);
+        return None;
     }
-    Census {
+    Some(Census {
         met: g.found.met + c.met + w,
         blocked: c.met + w,
         noticed: g.found.noticed + c.noticed,
-        before: g.before,
-        last: g.last,
-    }
+        hints: g.hints,
+    })
 }
 
 // What is found of a resource whose granted locks are as g says.
-fn convert_part(words: &[u32], r: u32, g: Grants) -> Census
+#[tactic(auto, using(crate::proofs::ResourceQueues::queue_tests))]
+fn convert_part(words: &[u32], r: u32, g: Grants) -> Option<Census>
     requires fine { Fine words.now }
     requires le_r { (1 ≤ r) × (r ≤ resources_in words.now) }
     requires r_value { named words.now r ≡ true }
-    requires walked { Walked (locks_in words.now) (grant_walk words.now r) g.found }
-    requires met_bound { g.found.met ≤ locks_in words.now }
+    requires walked { Walked (locks_in words.now) (grant_walk words.now r) (Some g.found) }
     ensures { Counted words.now r result }
 {
-    let n = words[LOCKS];
-    let c = convert_walk(words, r, g.found.modes);
-    if n < c.met {
-        return queues_over(n);
-    }
+    let c = convert_walk(words, r, g.found.modes)?;
     if !counts_fine(words, r, g.found.met + c.met, g.found.digits + c.digits) {
-        return queues_over(n);
+        return None;
     }
     wait_part(words, r, g, c)
 }
 
 // The locks on the three queues of a resource in use.
-pub fn resource_walk(words: &[u32], r: u32, watched: u32) -> Census
+#[tactic(auto, using(crate::proofs::ResourceQueues::queue_tests))]
+pub fn resource_walk(words: &[u32], r: u32, watched: u32) -> Option<Census>
     requires fine { Fine words.now }
     requires le_r { (1 ≤ r) × (r ≤ resources_in words.now) }
     requires r_value { named words.now r ≡ true }
     ensures { Counted words.now r result }
 {
-    let n = words[LOCKS];
-    let g = grant_walk(words, r, watched);
-    if n < g.found.met {
-        return queues_over(n);
-    }
+    let g = grant_walk(words, r, watched)?;
     convert_part(words, r, g)
 }

@@ -1,2 +1,1 @@
-pub mod RecordTests
 pub mod PassedRecords

@@ -15,6 +15,8 @@ use Rattle.check_laws.specs.declared.ResourceRow.{ResourceRow}
 use Rattle.check_laws.specs.Check.{row_in, unheld, free_row, row_fine, resource_fine, home_on, home_steps, grant_walk, convert_walk, heads_wait, wait_part, convert_part, resource_walk, blocked_at, noticed_at}
 use Rattle.check_laws.proofs.RecordTests.{unheld_fine}
 use Rattle.check_laws.proofs.ChainSteps.{steps_zero, modes_zero, convert_zero}
+use Rattle.std.proofs.Common.{Some}
+use Rattle.table_chains.specs.declared.Hints.{Hints}
 use Rattle.check_queues.specs.QueueWalks.{Counted}
 
 -- by its words a resource has a name or not
@@ -74,13 +76,13 @@ module _ (ws ss : List ℕ) (r : ℕ) (fine : resource_fine ws ss r ≡ true) (f
   unfolding onward
   no_queue f z = rw (z, follow_zero (lock_link ws 0) (locks_in ws))
 
-  pub no_queues : Counted ws r (record { met = 0; blocked = 0; noticed = 0; before = 0; last = 0 })
+  pub no_queues : {seen : Hints} → Counted ws r (Some (record { met = 0; blocked = 0; noticed = 0; hints = seen }))
   unfolding blocked_at noticed_at keep
   no_queues =
       record {
         met = sym no_walk;
         short = omega arith;
-        blocked = λ h. rw (no_queue 2 no_convert, no_queue 3 no_wait);
-        noticed = λ h. rw (no_queue 1 no_grant, no_queue 2 no_convert);
+        blocked = rw (no_queue 2 no_convert, no_queue 3 no_wait);
+        noticed = rw (no_queue 1 no_grant, no_queue 2 no_convert);
         few = (omega arith, omega arith);
       }

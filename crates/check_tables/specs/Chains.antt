@@ -1,5 +1,5 @@
 -- What the pass over the resources finds, and what is looked at after it.
-use Rattle.std.specs.Prelude.{◌≡◌, Bool, true, ◌&&◌, List, ℕ, ◌+◌, eqb}
+use Rattle.std.specs.Prelude.{◌≡◌, Bool, ◌&&◌, List, ℕ, ◌+◌, eqb, Option, is_some, IfSome}
 use Rattle.tables.specs.Lists.{all, from}
 use Rattle.tables.specs.Layout.{resources_in, locks_in}
 use Rattle.table_fields.specs.Sizes.{Sized}
@@ -17,20 +17,20 @@ resources_fine ws ss = all (resource_fine ws ss) (from 1 (resources_in ws))
 unfoldable pub sides_fine : List ℕ → List ℕ → Bool
 sides_fine ws ss = free_resources_fine ws && (blocked_fine ws && (notices_fine ws && names_differ ws ss))
 
--- what the pass finds, if there are `others` locks on the other home chains, `denied` of them denied, which belong on the notice chain: whether each
--- resource is fine and these locks and those on the queues are all that there are; and if so, how many records belong on the side chains
-pub record Queues (ws ss : List ℕ) (others denied : ℕ) (x : HomeCounts) : Type 0 where
-  pub fine : x.fine ≡ (resources_fine ws ss && eqb (others + queues_walk ws (from 1 (resources_in ws))) (locks_in ws))
-  pub free : x.fine ≡ true → x.free ≡ free_count ws
-  pub blocked : x.fine ≡ true → x.blocked ≡ sum_over (blocked_at ws) (from 1 (resources_in ws))
-  pub noticed : x.fine ≡ true → x.noticed ≡ denied + sum_over (noticed_at ws) (from 1 (resources_in ws))
+-- what the pass finds, if there are `others` locks on the other home chains, `denied` of them denied, which belong on the notice chain: something
+-- exactly if each resource is fine and these locks and those on the queues are all that there are; and then how many records belong on the side chains
+pub record Queues (ws ss : List ℕ) (others denied : ℕ) (x : Option HomeCounts) : Type 0 where
+  pub fine : is_some x ≡ (resources_fine ws ss && eqb (others + queues_walk ws (from 1 (resources_in ws))) (locks_in ws))
+  pub free : IfSome x (λ c. c.free ≡ free_count ws)
+  pub blocked : IfSome x (λ c. c.blocked ≡ sum_over (blocked_at ws) (from 1 (resources_in ws)))
+  pub noticed : IfSome x (λ c. c.noticed ≡ denied + sum_over (noticed_at ws) (from 1 (resources_in ws)))
 
 -- what is found of the resources and on all home chains
-pub record Homes (ws ss : List ℕ) (x : HomeCounts) : Type 0 where
-  pub fine : x.fine ≡ (resources_fine ws ss && homes_fine ws)
-  pub free : x.fine ≡ true → x.free ≡ free_count ws
-  pub blocked : x.fine ≡ true → x.blocked ≡ blocked_count ws
-  pub noticed : x.fine ≡ true → x.noticed ≡ noticed_count ws
+pub record Homes (ws ss : List ℕ) (x : Option HomeCounts) : Type 0 where
+  pub fine : is_some x ≡ (resources_fine ws ss && homes_fine ws)
+  pub free : IfSome x (λ c. c.free ≡ free_count ws)
+  pub blocked : IfSome x (λ c. c.blocked ≡ blocked_count ws)
+  pub noticed : IfSome x (λ c. c.noticed ≡ noticed_count ws)
 
 -- words and slots whose resources passed, and how many records belong on the side chains
 pub record Checked (ws ss : List ℕ) (x : HomeCounts) : Type 0 where

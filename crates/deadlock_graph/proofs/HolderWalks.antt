@@ -3,7 +3,7 @@ use mathlib.Core.Path.{◌≡◌, refl, sym, ap, ◌∙◌}
 use mathlib.Core.Logic.{◌≢◌}
 use mathlib.Core.Bool.{Bool, true, false, not, ◌&&◌, and-false}
 use mathlib.Core.List.{List, [], ◌∷◌, ◌++◌}
-use Prim.Native.Nat.{ℕ, ◌+◌, ◌*◌, ◌≤◌, ◌<◌, ◌^◌}
+use Prim.Native.Nat.{ℕ, ◌+◌, ◌*◌, ◌≤◌, ◌<◌}
 use native.Mathlib.Omega.{arith}
 use lib.ListN.{get_or, length}
 use lib.Dec.{eqb, leb}
@@ -24,14 +24,14 @@ use Rattle.rules.specs.Deadlock.{in_the_way, obstacles}
 use Rattle.table_fields.specs.Sizes.{Sized}
 use Rattle.table_chains.specs.Promises.{Some}
 use Rattle.table_chains.specs.Walking.{At, Walking}
-use Rattle.table_chains.proofs.LockLimits.{at_sized}
+use Rattle.table_chains.proofs.LockLimits.{at_sized, held_mode, asked_mode}
 use Rattle.table_chains.proofs.ChainWalks.{some_sized, walk_ends, walk_splits, walk_goes, walk_high, walk_on, walk_sized, walk_low, blocked_walks, grants_walk, converts_walk, waits_walk}
 use Rattle.deadlock_graph.specs.Promises.{seen, Blocked, Asks, StandsOn}
 use Rattle.deadlock_graph.specs.Hops.{looks}
 use Rattle.deadlock_graph.specs.Links.{link_width, link_of, Leaps, Leaping, Looker}
 use Rattle.deadlock_graph.specs.Holders.{Holds, since, holders_since, Looking}
 use Rattle.deadlock_graph.proofs.SeenChains.{queue_seen}
-use Rattle.deadlock_graph.proofs.LockWords.{some_alike, locks_told, resources_told, resource_told, state_told, asked_told, asked_few, held_told, blocked_at, blocked_home}
+use Rattle.deadlock_graph.proofs.LockWords.{some_alike, locks_told, resources_told, resource_told, state_told, asked_told, asked_few, held_told, blocked_at, blocked_home, owner_known, way_known}
 
 -- ---- what follows a member of two lists that are joined
 
@@ -397,9 +397,9 @@ module _ {ws : List ℕ} {r k : ℕ} where
         look_less = rw look_splits (omega arith)
 
 -- the mode that a lock asks for
-pub asks_known : (ws : List ℕ) (k x r : ℕ) → At ws k → x ≡ word_in ws (of_lock k 7) → (r ≡ x) × (r < 2 ^ 32) → Asks ws k r
-asks_known ws k x r a e h =
-    let is : r ≡ (lock (seen ws) k).asked = h.0 ∙ e ∙ asked_told ws k a in
+pub asks_known : {ws : List ℕ} {k x : ℕ} → At ws k → x ≡ word_in ws (of_lock k 7) → Asks ws k x
+asks_known {ws} {k} {x} a e =
+    let is : x ≡ (lock (seen ws) k).asked = e ∙ asked_told ws k a in
     record { is = is; few = rw is (asked_few ws a.some k) }
 
 -- the resource of a blocked lock, and whether a lock holds NL
@@ -548,4 +548,4 @@ pub link_read : (ls : List ℕ) (k f : ℕ) → get_or ls (link_width * k + f) 0
 unfolding link_of
 link_read ls k f = refl
 
-pub ruleset holder_laws = (rules, some_sized, walk_sized, walk_low, walk_high, blocked_small, granted_small, converting_small, waiting_small, next_small, holder_granted, holder_converting, holds_sized, holds_low, holds_high, home_low, home_high, after_small, after_next, after_last, after_granted, asks_known, at_sized, link_read, stands_sized, stands_low, stands_high, stands_on, null_known, bars_none)
+pub ruleset holder_laws = (rules, some_sized, walk_sized, walk_low, walk_high, blocked_small, granted_small, converting_small, waiting_small, next_small, holder_granted, holder_converting, holds_sized, holds_low, holds_high, home_low, home_high, after_small, after_next, after_last, after_granted, asks_known, at_sized, owner_known, held_mode, asked_mode, way_known, link_read, stands_sized, stands_low, stands_high, stands_on, null_known, bars_none)

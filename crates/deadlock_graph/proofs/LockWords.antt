@@ -2,11 +2,10 @@
 use mathlib.Core.Path.{◌≡◌, sym, ap, ◌∙◌}
 use mathlib.Core.Bool.{Bool, true, not, ◌&&◌}
 use mathlib.Core.List.{List}
-use Prim.Native.Nat.{ℕ, ◌≤◌, ◌<◌, ◌^◌}
+use Prim.Native.Nat.{ℕ, ◌≤◌, ◌<◌}
 use native.Mathlib.Omega.{arith}
 use lib.ListN.{length}
 use lib.Dec.{eqb}
-use borrow.Author.Rules.{rules}
 use Rattle.modes.specs.Modes.{compatible}
 use Rattle.tables.specs.Lists.{within, count}
 use Rattle.tables.specs.declared.Lock.{Lock}
@@ -21,7 +20,6 @@ use Rattle.table_fields.proofs.StateWords.{resources_is, locks_is}
 use Rattle.table_chains.specs.Promises.{Some}
 use Rattle.table_chains.specs.Walking.{At}
 use Rattle.table_chains.proofs.LockLimits as limits
-use Rattle.table_chains.proofs.LockLimits.{at_sized, held_mode, asked_mode}
 use Rattle.deadlock_graph.specs.Promises.{seen, Blocked}
 use Rattle.deadlock_graph.proofs.SameVictim.{Alike, alike}
 
@@ -74,9 +72,9 @@ module _ (ws : List ℕ) (k : ℕ) (a : At ws k) where
   unfolding read_lock
   asked_told = ap (λ (l : Lock). l.asked) lock_seen
 
-  -- its owner
-  pub owner_known : (x r : ℕ) → x ≡ word_in ws (of_lock k 4) → (r ≡ x) × (r < 2 ^ 32) → r ≡ owner (lock (seen ws) k)
-  owner_known x r e h = h.0 ∙ e ∙ client_told
+-- its owner
+pub owner_known : {ws : List ℕ} {k x : ℕ} → At ws k → x ≡ word_in ws (of_lock k 4) → x ≡ owner (lock (seen ws) k)
+owner_known {ws} {k} a e = e ∙ client_told ws k a
 
 -- whether j is in a's way
 pub way_known : (ws : List ℕ) (a j x y : ℕ) (g : Bool) → At ws a → At ws j → x ≡ word_in ws (of_lock j 6) → y ≡ word_in ws (of_lock a 7) → g ≡ compatible x y
@@ -120,5 +118,3 @@ blocked_stands {ws} {a} b = blocked_at ws a b
 
 pub blocked_low : {ws : List ℕ} {a : ℕ} → Blocked ws a → 1 ≤ a
 blocked_low {ws} {a} b = (blocked_at ws a b).low
-
-pub ruleset read_laws = (rules, at_sized, owner_known, held_mode, asked_mode, way_known)

@@ -1,4 +1,4 @@
-#![tactic(auto)]
+#![tactic(auto, using(crate::proofs::HolderWalks::holder_laws))]
 // Blocked locks in the lent words: who has a lock, who is in whose way, and the locks of a chain one after the other. The
 // definitions and laws that `deadlock_lines`, `deadlock_owners`, `deadlock_prune` and `deadlock_search` share are here, so
 // that an edit of their code does not prove these again.
@@ -6,14 +6,15 @@
 // A lock number has 16 bits here and in those crates: none is above 1,024. It is wide only where a word is read.
 ghost use Rattle.std.specs.Prelude.{◌≡◌, ◌≢◌, ◌+◌, ◌*◌, ◌≤◌, ◌<◌, eqb, set, length};
 ghost use Rattle.tables.specs.Lists.{first, next};
-ghost use Rattle.tables.specs.State.{most_locks, lock};
-ghost use Rattle.tables.specs.Layout.{of_header, of_resource, of_lock, resources_in, word_in};
+ghost use Rattle.tables.specs.State.{lock};
+ghost use Rattle.std.specs.Iterator.{item_count};
+ghost use Rattle.tables.specs.Layout.{of_header, of_resource, of_lock, resources_in, word_in, onward};
 ghost use Rattle.tables.specs.Grants.{holders};
 ghost use Rattle.tables.specs.Validity.{Core};
 ghost use Rattle.rules.specs.Deadlock.{in_the_way, owner};
 ghost use Rattle.table_chains.specs.Promises.{Some};
 ghost use Rattle.table_chains.specs.Walking.{At, Walking};
-ghost use Rattle.deadlock_graph.specs.Promises.{seen, Blocked, Asks, StandsOn};
+ghost use Rattle.deadlock_graph.specs.Promises.{seen, Blocked, Asks, StandsOn, OnChain, Stepped};
 ghost use Rattle.deadlock_graph.specs.Holders.{Holds};
 ghost use Rattle.deadlock_graph.specs.Links.{link_width, link_of};
 
@@ -21,7 +22,7 @@ use modes::goes_with;
 use table_fields::{
     BLOCKED, LOCK_ASKED, LOCK_CLIENT, LOCK_HELD, LOCK_NEXT, LOCK_NEXT_BLOCKED, LOCK_RESOURCE,
     LOCK_STATE, RESOURCE_CONVERT, RESOURCE_GRANT, RESOURCE_WAIT, STATE_GRANTED, header_word,
-    lock_word, resource_word, wide,
+    lock_word, resource_word,
 };
 
 // What is kept of each lock, in a row of links at its number: the lock right ahead of it on its line; the holder at which it
@@ -39,37 +40,62 @@ pub const LINK_MATE: usize = 3;
 
 pub const LINK_NEXT: usize = 4;
 
-// The number of a lock that a word names, or 0.
-fn narrow(x: u32) -> u16
-    requires { x ≤ most_locks }
-    ensures { result ≡ x }
-{
-    x as u16
+// The locks of a chain, one after the other: the word FIELD of each names the next, or 0.
+#[derive(Drop)]
+pub struct Chain<'a, const FIELD: usize> {
+    words: &'a [u32],
+    next: u16,
 }
 
-// The first lock on the blocked chain, and the one after k.
-pub fn first_blocked(words: &[u32]) -> u16
+impl<'a, const FIELD: usize> Iterator for Chain<'a, FIELD> {
+    type Item = u16;
+
+    ghost can_next = { λ s. OnChain FIELD s.words.now s.next };
+
+    ghost next_gives = { λ s r t. Stepped FIELD s.words.now s.next r t.words.now t.next };
+
+    ghost remaining = { item_count (λ s. onward s.words.now FIELD s.next) };
+
+    fn next(&mut self) -> Option<u16> {
+        let k = self.next;
+        if k == 0 {
+            return None;
+        }
+        self.next = lock_word(self.words, k as u32, FIELD) as u16;
+        Some(k)
+    }
+}
+
+// The blocked locks.
+pub fn blocked_locks<'a>(words: &'a [u32]) -> Chain<'a, LOCK_NEXT_BLOCKED>
     requires { Some Core words.now }
-    ensures { result ≡ word_in words.now (of_header 5) }
+    ensures starts { result.next ≡ word_in words.now (of_header 5) }
+    ensures same { result.words.now ≡ words.now }
+    ensures walks { OnChain 1 result.words.now result.next }
 {
-    narrow(header_word(words, BLOCKED))
+    Chain {
+        words,
+        next: header_word(words, BLOCKED) as u16,
+    }
 }
 
-pub fn next_blocked(words: &[u32], k: u16) -> u16
-    requires walking { Walking words.now 1 k }
-    requires k_nonzero { k ≢ 0 }
-    ensures { result ≡ word_in words.now (of_lock k 1) }
+// The locks of a home chain, from `first` on.
+pub fn locks_from<'a>(words: &'a [u32], first: u16) -> Chain<'a, LOCK_NEXT>
+    requires { Walking words.now 0 first }
+    ensures starts { result.next ≡ first }
+    ensures same { result.words.now ≡ words.now }
+    ensures walks { OnChain 0 result.words.now result.next }
 {
-    narrow(lock_word(words, k as u32, LOCK_NEXT_BLOCKED))
+    Chain { words, next: first }
 }
 
-// The line of resource r: the first that converts, the first that waits, and the one after k on the same chain.
+// The line of resource r: the first that converts, and the first that waits.
 pub fn first_converting(words: &[u32], r: u32) -> u16
     requires some { Some Core words.now }
     requires le_r { (1 ≤ r) × (r ≤ resources_in words.now) }
     ensures { result ≡ word_in words.now (of_resource r 2) }
 {
-    narrow(resource_word(words, r, RESOURCE_CONVERT))
+    resource_word(words, r, RESOURCE_CONVERT) as u16
 }
 
 pub fn first_waiting(words: &[u32], r: u32) -> u16
@@ -77,15 +103,7 @@ pub fn first_waiting(words: &[u32], r: u32) -> u16
     requires le_r { (1 ≤ r) × (r ≤ resources_in words.now) }
     ensures { result ≡ word_in words.now (of_resource r 3) }
 {
-    narrow(resource_word(words, r, RESOURCE_WAIT))
-}
-
-pub fn next_on_line(words: &[u32], k: u16) -> u16
-    requires walking { Walking words.now 0 k }
-    requires k_nonzero { k ≢ 0 }
-    ensures { result ≡ word_in words.now (of_lock k 0) }
-{
-    narrow(lock_word(words, k as u32, LOCK_NEXT))
+    resource_word(words, r, RESOURCE_WAIT) as u16
 }
 
 // The holders on resource r, those that are granted and then those that convert: the first, and the one after k.
@@ -96,7 +114,7 @@ pub fn first_holder(words: &[u32], r: u32) -> u16
 {
     let granted = resource_word(words, r, RESOURCE_GRANT);
     if granted != 0 {
-        return narrow(granted);
+        return granted as u16;
     }
     first_converting(words, r)
 }
@@ -107,7 +125,7 @@ pub fn next_holder(words: &[u32], k: u16) -> u16
 {
     let after = lock_word(words, k as u32, LOCK_NEXT);
     if after != 0 {
-        return narrow(after);
+        return after as u16;
     }
     if lock_word(words, k as u32, LOCK_STATE) != STATE_GRANTED {
         return 0;
@@ -120,7 +138,7 @@ pub fn owner_of(words: &[u32], k: u16) -> usize
     requires { At words.now k }
     ensures { result ≡ owner (lock (seen words.now) k) }
 {
-    wide(lock_word(words, k as u32, LOCK_CLIENT))
+    lock_word(words, k as u32, LOCK_CLIENT) as usize
 }
 
 // The resource on which the blocked lock k stands.
@@ -144,7 +162,7 @@ pub fn asked_of(words: &[u32], k: u16) -> usize
     requires { At words.now k }
     ensures { Asks words.now k result }
 {
-    wide(lock_word(words, k as u32, LOCK_ASKED))
+    lock_word(words, k as u32, LOCK_ASKED) as usize
 }
 
 // Whether the mode that j holds is incompatible with the mode that a, another lock, asks for.

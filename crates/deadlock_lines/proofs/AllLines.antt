@@ -3,7 +3,7 @@ use mathlib.Core.Path.{◌≡◌, refl, sym, ap, ◌∙◌}
 use mathlib.Core.Logic.{◌≢◌}
 use mathlib.Core.Bool.{Bool, true, false, cond}
 use mathlib.Core.List.{List, [], ◌∷◌, map}
-use Prim.Native.Nat.{ℕ, ◌+◌, ◌*◌, ◌≤◌, ◌<◌, ◌^◌}
+use Prim.Native.Nat.{ℕ, ◌+◌, ◌*◌, ◌≤◌, ◌<◌}
 use native.Mathlib.Omega.{arith}
 use lib.ListN.{get_or, set, length, length-set}
 use lib.Seq.{get_or-set_same, get_or-set_other}
@@ -116,29 +116,26 @@ module _ {ws ls lasts : List ℕ} (i : SomeLined ws ls lasts) where
   unfolding marked
   for_cleared c k h = stays c k (λ f. clash (get_or c k false) h f)
 
-  module _ {k r j : ℕ} (o : StandsOn ws k r) (w : (j ≡ r) × (j < 2 ^ 32)) where
-    pub for_place : j < length lasts
+  module _ {k r : ℕ} (o : StandsOn ws k r) where
+    pub for_place : r < length lasts
     for_place = omega (arith, i.wide, o.high)
 
-    pub for_done : (c : List Bool) → get_or lasts j 0 ≢ 0 → LineMade ws c k ls ls lasts lasts
-    for_done c n = stays c k (λ f. rw (w.0 ∙ o.is) at n)
+    pub for_done : (c : List Bool) → get_or lasts r 0 ≢ 0 → LineMade ws c k ls ls lasts lasts
+    for_done c n = stays c k (λ f. rw o.is at n)
 
     -- the line is linked, and x is the last on it
-    module _ (b : Blocked ws k) (z : get_or lasts j 0 ≡ 0) {x : ℕ} {ls' : List ℕ} (d : LineLinked ws r ls ls' x) where
+    module _ (b : Blocked ws k) (z : get_or lasts r 0 ≡ 0) {x : ℕ} {ls' : List ℕ} (d : LineLinked ws r ls ls' x) where
       some : Some Core ws
       some = b.some
 
       abbrev lasts' : List ℕ
-      lasts' = set lasts j x
-
-      was_empty : get_or lasts r 0 ≡ 0
-      was_empty = rw w.0 at z
+      lasts' = set lasts r x
 
       last_here : get_or lasts' r 0 ≡ x
-      last_here = ap (λ q. get_or lasts' q 0) (sym w.0) ∙ get_or-set_same lasts j x 0 for_place
+      last_here = get_or-set_same lasts r x 0 for_place
 
       last_there : (q : ℕ) → q ≢ r → get_or lasts' q 0 ≡ get_or lasts q 0
-      last_there q n = get_or-set_other lasts j q x 0 (λ e. n (e ∙ w.0))
+      last_there q n = get_or-set_other lasts r q x 0 n
 
       last_real : x ≢ 0
       last_real e = end_real ws some k b.stands (rw o.is at (sym d.last ∙ e))
@@ -172,13 +169,13 @@ module _ {ws ls lasts : List ℕ} (i : SomeLined ws ls lasts) where
             let all : get_or none_met asked 0 + those ≡ those = omega (arith, none_there asked) in
             ap (λ zs. link_of zs m 1) d.written
             ∙ links_holder (seen ws) 0 none_met (line (seen ws) r) ls m (rw none_wide (asked_few ws some m)) (seen_once ws some r m) row on
-            ∙ rw (all, i.left m (rw q was_empty), looks_before ws some m s, q)
+            ∙ rw (all, i.left m (rw q z), looks_before ws some m s, q)
 
       lines_more : SomeLined ws ls' lasts'
       lines_more =
           record {
             roomy = record { rows = rw size i.roomy.rows };
-            wide = rw (length-set lasts j x) i.wide;
+            wide = rw (length-set lasts r x) i.wide;
             ahead = λ m s n.
                 by_equal (lock (seen ws) m).resource r
                 (λ q. linked_ahead m s q)
@@ -202,7 +199,7 @@ module _ {ws ls lasts : List ℕ} (i : SomeLined ws ls lasts) where
           record {
             lined = lines_more;
             here = λ f e. last_real (sym last_here ∙ rw (sym o.is) at e);
-            kept = λ q n e. by_equal q r (λ f. n (rw f was_empty)) (λ f. n (sym (last_there q f) ∙ e));
+            kept = λ q n e. by_equal q r (λ f. n (rw f z)) (λ f. n (sym (last_there q f) ∙ e));
             owners = same 2 (omega arith) (omega arith);
             mates = same 3 (omega arith) (omega arith);
           }

@@ -12,10 +12,9 @@ ghost use Rattle.deadlock_graph.specs.Links.{Roomy};
 ghost use Rattle.deadlock_lines.specs.Lines.{mode_places, Faces, ChainFaces, LockLinked, ChainLinked, LineLinked, SomeLined, LineMade, Unlined, LinesLinked};
 
 use deadlock_graph::{
-    LINK_AHEAD, LINK_HOLDER, asked_of, bars, first_blocked, first_converting, first_holder,
-    first_waiting, next_blocked, next_holder, next_on_line, put_link, resource_of,
+    LINK_AHEAD, LINK_HOLDER, asked_of, bars, blocked_locks, first_converting, first_holder,
+    first_waiting, locks_from, next_holder, put_link, resource_of,
 };
-use table_fields::wide;
 
 // Modes are numbered from 0.
 const MODES: usize = 6;
@@ -72,12 +71,10 @@ fn link_chain(
     requires roomy { Roomy words.now links.old }
     ensures { ChainLinked words.now first ahead met.old met.new links.old links.new result }
 {
-    let mut k = first;
     let mut last = ahead;
-    while k != 0 {
+    for k in locks_from(words, first) {
         link_lock(words, k, last, holder, met, links);
         last = k;
-        k = next_on_line(words, k);
     }
     last
 }
@@ -99,6 +96,7 @@ fn link_line(words: &[u32], r: u32, links: &mut [u16]) -> u16
 
 // The line of the blocked lock k is linked, unless k is cleared or it was linked before. `lasts` has at the number of a
 // resource the last lock of its line, once that is linked.
+#[tactic(auto, using(crate::proofs::AllLines::for_laws))]
 fn link_for(words: &[u32], cleared: &[bool], k: u16, links: &mut [u16], lasts: &mut [u16])
     requires blocked { Blocked words.now k }
     requires cleared_len { length cleared.now ≡ lock_places }
@@ -109,11 +107,10 @@ fn link_for(words: &[u32], cleared: &[bool], k: u16, links: &mut [u16], lasts: &
         return;
     }
     let r = resource_of(words, k);
-    let place = wide(r);
-    if lasts[place] != 0 {
+    if lasts[r as usize] != 0 {
         return;
     }
-    lasts[place] = link_line(words, r, links);
+    lasts[r as usize] = link_line(words, r, links);
 }
 
 // The lines of the blocked locks that are not cleared.
@@ -121,9 +118,7 @@ pub fn link_lines(words: &[u32], cleared: &[bool], links: &mut [u16], lasts: &mu
     requires { Unlined words.now cleared.now links.old lasts.old }
     ensures { LinesLinked words.now cleared.now links.old links.new lasts.new }
 {
-    let mut k = first_blocked(words);
-    while k != 0 {
+    for k in blocked_locks(words) {
         link_for(words, cleared, k, links, lasts);
-        k = next_blocked(words, k);
     }
 }

@@ -339,6 +339,9 @@ lines_start {ws} {lists} {others} {ls} lasts h =
       chained = λ q l m. absurd (omega arith);
     }
 
+pub lines_fit : {ws lists others ls : List ℕ} {n : ℕ} → Holding ws lists others ls → n ≡ resources_in ws → n + 1 < 2 ^ 32
+lines_fit h e = omega (arith, (some_sized (holding_some h)).few_resources)
+
 module _ {ws lasts lists others ls₀ ls : List ℕ} {r : ℕ} (i : LinesTo ws lasts lists others ls₀ ls r) where
   pub lines_again : {ls' : List ℕ} → LineDone ws lasts r ls ls' → length ls' ≡ length ls → LinesTo ws lasts lists others ls₀ ls' (r + 1)
   lines_again {ls'} d e =
@@ -360,9 +363,6 @@ module _ {ws lasts lists others ls₀ ls : List ℕ} {r : ℕ} (i : LinesTo ws l
   module _ {n : ℕ} (e : n ≡ resources_in ws) where
     pub lines_range : r ≤ n → (1 ≤ r) × (r ≤ resources_in ws)
     lines_range l = (i.low, omega arith)
-
-    pub lines_fit : r ≤ n → r + 1 < 2 ^ 32
-    lines_fit l = omega (arith, (some_sized (holding_some i.holding)).few_resources)
 
     pub lines_end : n < r → LinesDone ws lasts ls₀ ls
     lines_end l = record { righter = i.righter; each = λ q a b. i.each q a (omega arith); chained = λ q a b. i.chained q a (omega arith) }

@@ -10,8 +10,8 @@ ghost use Rattle.deadlock_owners.specs.OwnerLists.{passed, LookedFor, Found, Not
 ghost use Rattle.deadlock_owners.specs.OwnerNumbers.{Listable, ListedLock, Numbering, Done, Unnumbered, Holding, Appended, HoldersDone, LineDone, LinesDone, OwnersNumbered};
 
 use deadlock_graph::{
-    LINK_MATE, LINK_NEXT, LINK_OWNER, first_blocked, first_holder, holds_null, next_blocked,
-    next_holder, owner_of, put_link,
+    LINK_MATE, LINK_NEXT, LINK_OWNER, blocked_locks, first_holder, holds_null, next_holder,
+    owner_of, put_link,
 };
 use table_fields::resource_count;
 
@@ -50,6 +50,7 @@ fn note_owner(words: &[u32], k: u16, lists: &mut [u16], others: &mut [u16]) -> u
 }
 
 // The lock k gets its owner's number, and is the first on its owner's list of blocked locks.
+#[tactic(auto, using(crate::proofs::NumberedLocks::list_done))]
 fn list_lock(k: u16, number: u16, links: &mut [u16], heads: &mut [u16])
     requires { Listable k number links.old heads.old }
     ensures { ListedLock k number links.old links.new heads.old heads.new }
@@ -86,15 +87,14 @@ fn number_blocked(
     requires { Done words.now [] lists.old others.old links.old links.old heads.old }
     ensures { Done words.now (seen words.now).blocked lists.new others.new links.old links.new heads.new }
 {
-    let mut k = first_blocked(words);
-    while k != 0 {
+    for k in blocked_locks(words) {
         number_lock(words, k, lists, others, links, heads);
-        k = next_blocked(words, k);
     }
 }
 
 // The holder j comes next after `last`, the last holder that was met and holds more than NL, or 0, which is no lock's number. A
 // holder in NL is left out: it is in nobody's way. Answers which is the last then.
+#[tactic(auto, using(crate::proofs::NumberedHolders::append_laws))]
 fn append(words: &[u32], j: u16, last: u16, links: &mut [u16]) -> u16
     requires at { At words.now j }
     requires last_in_bounds { link_width * last + 4 < length links.old }
@@ -146,16 +146,15 @@ fn number_line(
 }
 
 // The same for each resource.
+#[tactic(auto, using(crate::proofs::NumberedHolders::lines_laws))]
 fn number_lines(words: &[u32], lasts: &[u16], lists: &[u16], others: &[u16], links: &mut [u16])
     requires holding { Holding words.now lists.now others.now links.old }
     requires words_in_bounds { resources_in words.now < length lasts.now }
     ensures { LinesDone words.now lasts.now links.old links.new }
 {
     let n = resource_count(words);
-    let mut r = 1;
-    while r <= n {
+    for r in 1..n + 1 {
         number_line(words, lasts, lists, others, r, links);
-        r += 1;
     }
 }
 

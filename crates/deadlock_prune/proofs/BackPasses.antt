@@ -143,7 +143,7 @@ module _ {ws ls lasts : List ℕ} {m : List Bool} (p : BackReady ws ls lasts m) 
       record { low = omega arith; few = back_sized.few_resources; stopped = p.stopped; pass = record { ready = p.ready; wanted = d }; size = refl; width = refl; fewer = omega arith }
 
 module _ {ws ls lasts₀ lasts : List ℕ} {w m₀ m : List Bool} {more : Bool} {r : ℕ} (i : BackAt ws ls lasts₀ lasts w m₀ m more r) where
-  module _ {n : ℕ} (e : n ≡ resources_in ws) (h : r ≤ n) where
+  module _ {n : ℕ} (e : n ≡ resources_in ws) (h : r < n + 1) where
     pub back_place : r < length lasts
     back_place = omega (arith, i.stopped.wide)
 

@@ -312,7 +312,7 @@ module _ {ws : List ℕ} {f m₀ m : List Bool} {b : Bool} {r : ℕ} (i : FreeAt
             (λ n. p.kept j (i.all (and_left b x h) j s (omega (arith, l, n))));
       }
 
-  pub lines_end : {n : ℕ} → n ≡ resources_in ws → n < r → LinesCleared ws m b
+  pub lines_end : {n : ℕ} → n ≡ resources_in ws → n + 1 ≤ r → LinesCleared ws m b
   lines_end e h =
       record {
         cleared = i.pass.cleared;

@@ -1,12 +1,11 @@
 -- The count of the locks that are left, and pass after pass: a law for each return, turn and call.
 use mathlib.Core.Path.{◌≡◌, refl, sym, ap, ◌∙◌}
 use mathlib.Core.Logic.{◌≢◌}
-use mathlib.Core.Bool.{Bool, true, false, ◌||◌, not}
+use mathlib.Core.Bool.{Bool, true, false, ◌||◌}
 use mathlib.Core.List.{List}
 use Prim.Native.Nat.{ℕ, suc, ◌+◌, ◌≤◌, ◌<◌, ◌^◌}
 use native.Mathlib.Omega.{arith}
 use lib.ListN.{get_or, length}
-use borrow.Author.Tests.{not-true, not-false}
 use borrow.Author.Rules.{rules}
 use Rattle.tables.specs.Lists.{bit}
 use Rattle.tables.specs.Layout.{of_header, of_lock, word_in, onward}
@@ -52,20 +51,20 @@ module _ {ws : List ℕ} {m : List Bool} {n k : ℕ} (i : Counting ws m n k) whe
     counting_number = omega (arith, counting_place, i.wide)
 
     module _ {x : ℕ} (h : x ≡ word_in ws (of_lock k 1)) where
-      pub counting_past : not (get_or m k false) ≡ false → Counting ws m n x
+      pub counting_past : get_or m k false ≡ true → Counting ws m n x
       unfolding unmarked marked
       counting_past f =
           record {
             walks = walk_on i.walks e h;
             wide = i.wide;
-            whole = i.whole ∙ rw (walk_splits ws 1 k i.walks e, not-false (get_or m k false) f, h);
+            whole = i.whole ∙ rw (walk_splits ws 1 k i.walks e, f, h);
             few = i.few;
           }
 
-      module _ (f : not (get_or m k false) ≡ true) where
+      module _ (f : get_or m k false ≡ false) where
         split : unmarked (onward ws 1 k) m ≡ suc (unmarked (onward ws 1 x) m)
         unfolding unmarked marked
-        split = rw (walk_splits ws 1 k i.walks e, not-true (get_or m k false) f, h)
+        split = rw (walk_splits ws 1 k i.walks e, f, h)
 
         pub counting_fits : n + 1 < 2 ^ 16
         counting_fits = omega (arith, i.whole, i.few, split)

@@ -16,9 +16,8 @@ ghost use Rattle.deadlock_prune.specs.FreeLines.{filter_places, OwnersNoted, cou
 ghost use Rattle.deadlock_prune.specs.BothEnds.{Placed, LinkedLock, Ready, Passed, BusyNoted, Busy, hinders, Hindered, FrontPass, FrontStep, OwnerNoted, WantNoted, Wanted, BackLine, LineBacked, BackReady, BackPassed};
 
 use deadlock_graph::{
-    LINK_AHEAD, LINK_HOLDER, LINK_NEXT, LINK_OWNER, bars, first_blocked, first_converting,
-    first_holder, first_waiting, holds_null, link, next_blocked, next_holder, next_on_line,
-    owner_of,
+    LINK_AHEAD, LINK_HOLDER, LINK_NEXT, LINK_OWNER, bars, blocked_locks, first_converting,
+    first_holder, first_waiting, holds_null, link, locks_from, next_holder, owner_of,
 };
 use table_fields::{LOCK_PLACES, resource_count};
 
@@ -32,11 +31,8 @@ fn count_left(words: &[u32], cleared: &[bool]) -> u16
     ensures { result ≡ unmarked (seen words.now).blocked cleared.now }
 {
     let mut n = 0;
-    let mut k = first_blocked(words);
-    while k != 0 {
-        let done = cleared[k as usize];
-        k = next_blocked(words, k);
-        if !done {
+    for k in blocked_locks(words) {
+        if !cleared[k as usize] {
             n += 1;
         }
     }
@@ -49,15 +45,13 @@ fn note_owners(words: &[u32], filter: &mut [bool])
     requires filter_len { length filter.old ≡ filter_places }
     ensures { OwnersNoted words.now filter.new }
 {
-    let mut k = first_blocked(words);
-    while k != 0 {
-        let owner = owner_of(words, k);
-        filter[owner % FILTER] = true;
-        k = next_blocked(words, k);
+    for k in blocked_locks(words) {
+        filter[owner_of(words, k) % FILTER] = true;
     }
 }
 
 // Whether the holder k can be in someone's way and its owner is noted.
+#[tactic(auto, using(crate::proofs::FreeLines::counts_laws))]
 fn counts(words: &[u32], filter: &[bool], k: u16) -> bool
     requires at { At words.now k }
     requires filter_len { length filter.now ≡ filter_places }
@@ -92,10 +86,8 @@ fn clear_chain(words: &[u32], first: u16, cleared: &mut [bool])
     requires { FreeChain words.now cleared.old first }
     ensures { ChainCleared words.now cleared.old cleared.new first }
 {
-    let mut k = first;
-    while k != 0 {
+    for k in locks_from(words, first) {
         cleared[k as usize] = true;
-        k = next_on_line(words, k);
     }
 }
 
@@ -120,6 +112,7 @@ fn clear_line(words: &[u32], filter: &[bool], r: u32, cleared: &mut [bool]) -> b
 }
 
 // One cheap pass along the lines, which needs no links. Answers whether it cleared every blocked lock.
+#[tactic(auto, using(crate::proofs::FreeLines::lines_laws))]
 pub fn clear_free_lines(words: &[u32], cleared: &mut [bool]) -> bool
     requires { Clearable words.now cleared.old }
     ensures { LinesCleared words.now cleared.new result }
@@ -128,16 +121,14 @@ pub fn clear_free_lines(words: &[u32], cleared: &mut [bool]) -> bool
     note_owners(words, &mut filter);
     let n = resource_count(words);
     let mut all = true;
-    let mut r = 1;
-    while r <= n {
-        let line = clear_line(words, &filter, r, cleared);
-        r += 1;
-        all = all & line;
+    for r in 1..n + 1 {
+        all &= clear_line(words, &filter, r, cleared);
     }
     all
 }
 
 // The owner of the blocked lock k is busy, unless k is cleared.
+#[tactic(auto, using(crate::proofs::FrontPasses::note_busy_laws))]
 fn note_busy(links: &[u16], cleared: &[bool], k: u16, busy: &mut [bool])
     requires placed { Placed links.now k }
     requires cleared_len { length cleared.now ≡ lock_places }
@@ -158,14 +149,13 @@ fn busy_owners(words: &[u32], links: &[u16], cleared: &[bool], busy: &mut [bool]
     requires busy_len { length busy.old ≡ lock_places }
     ensures { Busy words.now links.now cleared.now busy.new }
 {
-    let mut k = first_blocked(words);
-    while k != 0 {
+    for k in blocked_locks(words) {
         note_busy(links, cleared, k, busy);
-        k = next_blocked(words, k);
     }
 }
 
 // Whether j is in k's way and its owner is busy.
+#[tactic(auto, using(crate::proofs::FrontPasses::hinders_laws))]
 fn hinders(words: &[u32], links: &[u16], busy: &[bool], k: u16, j: u16) -> bool
     requires at { At words.now k }
     requires at_2 { At words.now j }
@@ -226,16 +216,14 @@ fn clear_front(words: &[u32], links: &[u16], cleared: &mut [bool]) -> bool
     let mut busy = [false; LOCK_PLACES];
     busy_owners(words, links, cleared, &mut busy);
     let mut more = false;
-    let mut k = first_blocked(words);
-    while k != 0 {
-        let one = clear_if_free(words, links, &busy, k, cleared);
-        k = next_blocked(words, k);
-        more = more | one;
+    for k in blocked_locks(words) {
+        more |= clear_if_free(words, links, &busy, k, cleared);
     }
     more
 }
 
 // Passes from the front, as long as they clear locks.
+#[tactic(auto, using(crate::proofs::LocksLeft::passes_laws))]
 fn clear_from_front(words: &[u32], links: &[u16], cleared: &mut [bool])
     requires { Ready words.now links.now cleared.old }
     ensures { Ready words.now links.now cleared.new }
@@ -247,6 +235,7 @@ fn clear_from_front(words: &[u32], links: &[u16], cleared: &mut [bool])
 }
 
 // The owner of j is wanted if j is in k's way.
+#[tactic(auto, using(crate::proofs::WantedOwners::owner_laws))]
 fn want_owner(words: &[u32], links: &[u16], k: u16, j: u16, wanted: &mut [bool])
     requires at { At words.now k }
     requires at_2 { At words.now j }
@@ -286,10 +275,8 @@ fn wanted_owners(words: &[u32], links: &[u16], cleared: &[bool], wanted: &mut [b
     requires wanted_len { length wanted.old ≡ lock_places }
     ensures { Wanted words.now links.now cleared.now wanted.new }
 {
-    let mut k = first_blocked(words);
-    while k != 0 {
+    for k in blocked_locks(words) {
         want_owners(words, links, cleared, k, wanted);
-        k = next_blocked(words, k);
     }
 }
 
@@ -317,6 +304,7 @@ fn clear_line_back(links: &[u16], wanted: &[bool], last: u16, cleared: &mut [boo
 
 // One pass along the lines, each from where the last pass stopped, which `lasts` keeps. A lock is on no cycle if only cleared
 // locks hop to it: the one right behind it, and those that its owner is in the way of. Answers whether it cleared a lock.
+#[tactic(auto, using(crate::proofs::BackPasses::back_laws))]
 fn clear_back(words: &[u32], links: &[u16], lasts: &mut [u16], cleared: &mut [bool]) -> bool
     requires { BackReady words.now links.now lasts.old cleared.old }
     ensures { BackPassed words.now links.now lasts.new cleared.old cleared.new result }
@@ -325,18 +313,17 @@ fn clear_back(words: &[u32], links: &[u16], lasts: &mut [u16], cleared: &mut [bo
     wanted_owners(words, links, cleared, &mut wanted);
     let n = resource_count(words);
     let mut more = false;
-    let mut r = 1;
-    while r <= n {
+    for r in 1..n + 1 {
         let last = lasts[r as usize];
         let stop = clear_line_back(links, &wanted, last, cleared);
         lasts[r as usize] = stop;
-        r += 1;
-        more = more | (stop != last);
+        more |= stop != last;
     }
     more
 }
 
 // Passes from the back, as long as they clear locks.
+#[tactic(auto, using(crate::proofs::BackPasses::backs_laws))]
 fn clear_from_back(words: &[u32], links: &[u16], lasts: &mut [u16], cleared: &mut [bool])
     requires { BackReady words.now links.now lasts.old cleared.old }
     ensures { Ready words.now links.now cleared.new }
@@ -348,6 +335,7 @@ fn clear_from_back(words: &[u32], links: &[u16], lasts: &mut [u16], cleared: &mu
 }
 
 // Clears from the front, then from the back. Answers how many blocked locks are left.
+#[tactic(auto, using(crate::proofs::BackPasses::ends_laws))]
 pub fn clear_ends(words: &[u32], links: &[u16], lasts: &mut [u16], cleared: &mut [bool]) -> u16
     requires { Prunable words.now links.now lasts.old cleared.old }
     ensures { Uncleared words.now links.now cleared.new result }

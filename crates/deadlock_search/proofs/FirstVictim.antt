@@ -1,5 +1,5 @@
 -- The functions above the search: whether a lock is on a cycle, the first such, the victim.
-use mathlib.Core.Path.{◌≡◌, refl, sym, ◌∙◌}
+use mathlib.Core.Path.{◌≡◌, refl, sym, ap, ◌∙◌}
 use mathlib.Core.Logic.{◌≢◌, ◌↔◌}
 use mathlib.Core.Bool.{Bool, true, false}
 use mathlib.Core.List.{List, [], ◌∷◌}
@@ -7,8 +7,9 @@ use Prim.Native.Nat.{ℕ, ◌+◌, ◌*◌, ◌≤◌, ◌<◌, ◌^◌}
 use native.Mathlib.Omega.{arith}
 use lib.ListN.{get_or, set, length, replicate, length-replicate}
 use borrow.Author.Rules.{rules}
+use Rattle.std.specs.Prelude.{Option, None, Some as Just}
 use Rattle.tables.specs.Lists.{count, first_that}
-use Rattle.tables.specs.State.{most_locks}
+use Rattle.tables.specs.Numbered.{numbered}
 use Rattle.tables.specs.Layout.{of_header, of_lock, locks_in, word_in, onward}
 use Rattle.tables.proofs.Cases.{by_cases, clash}
 use Rattle.tables.proofs.Counts.{count_same, count_step, get_or_same}
@@ -35,7 +36,7 @@ use Rattle.deadlock_owners.specs.OwnerNumbers.{Unnumbered, OwnersNumbered}
 use Rattle.deadlock_prune.specs.Clearing.{Clearable, Prunable, Uncleared}
 use Rattle.deadlock_prune.specs.FreeLines.{LinesCleared}
 use Rattle.deadlock_search.specs.Searches.{Searching, Searched, Tried, Vain, Trying, Ready, Room, Free}
-use Rattle.deadlock_search.proofs.OwnerLists.{standing_at}
+use Rattle.deadlock_search.proofs.OwnerLists.{standing_at, numbered_met}
 use Rattle.deadlock_search.proofs.SearchSteps.{more_marks}
 use Rattle.deadlock_search.proofs.SearchMarks.{some_left}
 
@@ -149,8 +150,8 @@ module _ {ws ls : List ℕ} {d : ℕ} {fs hs₀ hs : List ℕ} {k : ℕ} {c : Li
     seeking_fits = omega (arith, seeking_place)
 
     module _ {r : Bool} (e : r ≡ deadlocked (seen ws) k) where
-      pub seeking_found : r ≡ true → k ≡ victim (seen ws)
-      seeking_found h = sym (i.whole ∙ walk_found ws 1 k i.walks n (deadlocked (seen ws)) (sym e ∙ h))
+      pub seeking_found : r ≡ true → {x : ℕ} → x ≡ k → Just x ≡ numbered (victim (seen ws))
+      seeking_found h q = rw (q, i.whole ∙ walk_found ws 1 k i.walks n (deadlocked (seen ws)) (sym e ∙ h)) (numbered_met k n)
 
       module _ {x : ℕ} (h : r ≡ false) (q : x ≡ word_in ws (of_lock k 1)) where
         -- a lock that stands behind k on the chain
@@ -174,9 +175,9 @@ module _ {ws ls : List ℕ} {d : ℕ} {fs hs₀ hs : List ℕ} {k : ℕ} {c : Li
               whole = i.whole ∙ walk_passed ws 1 k i.walks n (deadlocked (seen ws)) (sym e ∙ h) ∙ rw q;
             }
 
-  pub seeking_ends : k ≡ 0 → 0 ≡ victim (seen ws)
+  pub seeking_ends : k ≡ 0 → None ≡ numbered (victim (seen ws))
   unfolding first_that
-  seeking_ends e = sym (i.whole ∙ rw (e, walk_ends ws 1))
+  seeking_ends e = rw (i.whole, e, walk_ends ws 1)
 
 pub ready_some : {ws ls : List ℕ} {d : ℕ} {fs : List ℕ} {c : List Bool} → Ready ws ls d fs c → Some Core ws
 ready_some r = r.linked.some
@@ -251,10 +252,11 @@ all_cleared : {ws : List ℕ} {m : List Bool} → Some Core ws → Cleared (hops
 unfolding victim
 all_cleared {ws} {m} s l each = sym (first_none (deadlocked (seen ws)) (seen ws).blocked (λ j c. no_cycle ws s j c (l.none j (each j c))))
 
-pub all_free : {ws ls : List ℕ} {m : List Bool} {n : ℕ} → Uncleared ws ls m n → n ≡ 0 → 0 ≡ victim (seen ws)
+pub all_free : {ws ls : List ℕ} {m : List Bool} {n : ℕ} → Uncleared ws ls m n → n ≡ 0 → None ≡ numbered (victim (seen ws))
 all_free {ws} {ls} {m} l z =
-    all_cleared l.linked.some l.cleared
-    (λ j c. by_cases (marked m j) (λ k. k) (λ k. absurd (omega (arith, l.is, some_left (seen ws).blocked m j c k))))
+    ap numbered
+    (all_cleared l.linked.some l.cleared
+    (λ j c. by_cases (marked m j) (λ k. k) (λ k. absurd (omega (arith, l.is, some_left (seen ws).blocked m j c k)))))
 
 -- ---- the victim
 
@@ -267,29 +269,29 @@ none_cleared s =
     }
 
 module _ {ws : List ℕ} {m : List Bool} {r : Bool} (s : Some Core ws) (u : LinesCleared ws m r) where
-  pub free_tables : {l : ℕ} → l ≡ locks_in ws → (q : ℕ) → l < q + 1 → Free q ws m
-  free_tables e q h = record { some = s; cleared = u.cleared; few = omega (arith, h, e) }
+  pub free_tables : {l : ℕ} → l ≡ locks_in ws → (p : ℕ) → l < p → Free p ws m
+  free_tables e p h = record { some = s; cleared = u.cleared; few = rw (sym e) h }
 
-  pub free_large : Free most_locks ws m
-  free_large = record { some = s; cleared = u.cleared; few = (some_sized s).few_locks }
+  pub free_large : Free lock_places ws m
+  free_large = record { some = s; cleared = u.cleared; few = omega (arith, (some_sized s).few_locks) }
 
-pub free_room : {n : ℕ} {ws : List ℕ} {m : List Bool} (p q : ℕ) → Free n ws m → p ≡ link_width * (n + 1) → q ≡ n + 1 → Room ws m (replicate p 0) (replicate q 0) (replicate q 0)
-free_room {n} {ws} p q f e h =
+pub free_room : {ws : List ℕ} {m : List Bool} (p n : ℕ) → Free p ws m → n ≡ link_width * p → Room ws m (replicate n 0) (replicate p 0) (replicate p 0)
+free_room {ws} p n f e =
     record {
       some = f.some;
       cleared = f.cleared;
-      roomy = record { rows = rw (length-replicate {A = ℕ} p 0) (omega (arith, f.few, e)) };
-      blank = get_or_same {A = ℕ} 0 p;
-      lists = rw (length-replicate {A = ℕ} q 0) (omega (arith, f.few, h));
-      empty = get_or_same {A = ℕ} 0 q;
+      roomy = record { rows = rw (length-replicate {A = ℕ} n 0) (omega (arith, f.few, e)) };
+      blank = get_or_same {A = ℕ} 0 n;
+      lists = rw (length-replicate {A = ℕ} p 0) f.few;
+      empty = get_or_same {A = ℕ} 0 p;
       same = refl;
     }
 
-pub victim_told : {ws : List ℕ} {r : ℕ} → r ≡ victim (seen ws) → Tells Core victim ws r
-victim_told {ws} e = record { then = λ t c is. e ∙ victim_alike t (seen ws) (alike t c ws is) }
+pub victim_told : {ws : List ℕ} {r : Option ℕ} → r ≡ numbered (victim (seen ws)) → Tells Core (λ t. numbered (victim t)) ws r
+victim_told {ws} e = record { then = λ t c is. e ∙ ap numbered (victim_alike t (seen ws) (alike t c ws is)) }
 
-pub victim_none : {ws : List ℕ} {m : List Bool} {r : Bool} → Some Core ws → LinesCleared ws m r → r ≡ true → Tells Core victim ws 0
-victim_none s u e = victim_told (all_cleared s u.cleared (u.all e))
+pub victim_none : {ws : List ℕ} {m : List Bool} {r : Bool} → Some Core ws → LinesCleared ws m r → r ≡ true → Tells Core (λ t. numbered (victim t)) ws None
+victim_none s u e = victim_told (ap numbered (all_cleared s u.cleared (u.all e)))
 
 pub ruleset room_laws = (rules, room_lines, room_owners, room_prunes, room_ready, all_free)
 

@@ -3,13 +3,15 @@ use mathlib.Core.Path.{◌≡◌, refl, sym, ap, ◌∙◌}
 use mathlib.Core.Logic.{◌≢◌}
 use mathlib.Core.Bool.{Bool, true, false, not}
 use mathlib.Core.List.{List}
-use Prim.Native.Nat.{ℕ, ◌+◌, ◌*◌, ◌≤◌, ◌<◌, ◌^◌}
+use Prim.Native.Nat.{ℕ, zero, suc, ◌+◌, ◌*◌, ◌≤◌, ◌<◌, ◌^◌}
 use native.Mathlib.Omega.{arith}
 use lib.ListN.{get_or, set, length, length-set}
 use lib.Seq.{get_or-set_same, get_or-set_other}
 use borrow.Author.Tests.{not-true, not-false}
 use borrow.Author.Rules.{rules}
+use Rattle.std.specs.Prelude.{None, Some as Just}
 use Rattle.tables.specs.Lists.{count}
+use Rattle.tables.specs.Numbered.{numbered}
 use Rattle.tables.specs.State.{lock}
 use Rattle.tables.specs.Validity.{Core}
 use Rattle.tables.proofs.Cases.{by_equal, clash}
@@ -25,7 +27,21 @@ use Rattle.deadlock_graph.specs.Links.{link_width, link_of, mate, On}
 use Rattle.deadlock_graph.proofs.LockWords.{blocked_at}
 use Rattle.deadlock_graph.proofs.HolderWalks.{bar_strong, leap_at, leap_on, leap_less, leap_passed}
 use Rattle.deadlock_graph.proofs.LinkLaws.{row_inside, on_past, turns, turns_less}
-use Rattle.deadlock_search.specs.Searches.{Lists, HasList, OnList, FirstUnmarked, first_of, Shorter, Looks, Looked, Sought}
+use Rattle.deadlock_search.specs.Searches.{Lists, HasList, OnList, FirstUnmarked, first_of, Shorter, Looks, Looked, SoughtLock}
+
+-- ---- the number of a lock, or none
+
+pub numbered_met : (k : ℕ) → k ≢ 0 → Just k ≡ numbered k
+numbered_met zero n = absurd (n refl)
+numbered_met (suc k) n = refl
+
+pub numbered_some : (k x : ℕ) → Just x ≡ numbered k → (k ≡ x) × (x ≢ 0)
+numbered_some zero x e = absurd (cc)
+numbered_some (suc k) x e = let same : suc k ≡ x = cc in (same, λ z. absurd (omega (arith, same, z)))
+
+pub numbered_none : (k : ℕ) → None ≡ numbered k → k ≡ 0
+numbered_none zero e = refl
+numbered_none (suc k) e = absurd (cc)
 
 -- ---- lists
 
@@ -252,14 +268,18 @@ module _ {ws ls : List ℕ} {a at : ℕ} {hs₀ hs : List ℕ} {m : List Bool} {
       unfolding first_of
       still j z = l.shorter.spent (link_of ls j 2) z
 
-      pub seek_found : r ≡ true → Sought ws ls a at hs₀ m hs' k
+      pub seek_found : r ≡ true → SoughtLock ws ls a at hs₀ m hs' (Just k)
       seek_found h =
           record {
-            looks = record { lists = l.lists; stands = i.looks.stands; leaping = i.looks.leaping };
-            shorter = shorter_on i.shorter l.shorter;
-            stop = λ o. l.stop h;
-            none = i.none;
-            passed = λ j p z w. still j (i.passed j p z w);
+            lock = k;
+            is = numbered_met k n;
+            sought = record {
+              looks = record { lists = l.lists; stands = i.looks.stands; leaping = i.looks.leaping };
+              shorter = shorter_on i.shorter l.shorter;
+              stop = λ o. l.stop h;
+              none = i.none;
+              passed = λ j p z w. still j (i.passed j p z w);
+            };
           }
 
       pub seek_again : {x : ℕ} → r ≡ false → x ≡ link_of ls k 4 → Seeking ws ls a at hs₀ hs' m x
@@ -274,15 +294,18 @@ module _ {ws ls : List ℕ} {a at : ℕ} {hs₀ hs : List ℕ} {m : List Bool} {
                 (λ o. still j (i.passed j p (leap_passed i.looks.leaping n e j o (bar_strong ws a j l.lists.linked.some w) z) w));
           }
 
-  pub seek_ends : k ≡ 0 → Sought ws ls a at hs₀ m hs 0
+  pub seek_ends : k ≡ 0 → SoughtLock ws ls a at hs₀ m hs None
   seek_ends e =
-      rw (sym e)
-      (record {
-        looks = i.looks;
-        shorter = i.shorter;
-        stop = λ n. absurd (n e);
-        none = i.none;
-        passed = i.passed;
-      })
+      record {
+        lock = k;
+        is = rw e;
+        sought = record {
+          looks = i.looks;
+          shorter = i.shorter;
+          stop = λ n. absurd (n e);
+          none = i.none;
+          passed = i.passed;
+        };
+      }
 
 pub ruleset seek_laws = (rules, seek_starts, seek_size, seek_row, seek_less, seek_found, seek_again, seek_ends)

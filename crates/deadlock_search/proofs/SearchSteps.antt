@@ -8,6 +8,7 @@ use native.Mathlib.Omega.{arith}
 use lib.ListN.{get_or, set, length, length-set}
 use lib.Dec.{leb}
 use borrow.Author.Tests.{leb-true, leb-false}
+use Rattle.std.specs.Prelude.{None, Some as Just}
 use Rattle.tables.specs.Lists.{count, first}
 use Rattle.tables.specs.State.{lock}
 use Rattle.tables.specs.Grants.{holders}
@@ -29,8 +30,8 @@ use Rattle.deadlock_graph.proofs.Marks.{Keeping, mark_same, mark_other, mark_kep
 use Rattle.deadlock_graph.proofs.NearestLocks.{nearest_blocked_seen}
 use Rattle.deadlock_graph.proofs.HolderWalks.{holder_at, obstacle_on, leap_starts, look_ends}
 use Rattle.deadlock_graph.proofs.LinkLaws.{row_inside}
-use Rattle.deadlock_search.specs.Searches.{Lists, Shorter, first_of, HasList, Looks, Stop, Sought, Following, Followed, Searching, Entered, Searched, Vain}
-use Rattle.deadlock_search.proofs.OwnerLists.{lists_mark, lists_row, shorter_on}
+use Rattle.deadlock_search.specs.Searches.{Lists, first_of, HasList, Looks, Stop, Sought, SoughtLock, Following, Followed, Searching, Entered, Searched, Vain}
+use Rattle.deadlock_search.proofs.OwnerLists.{lists_mark, lists_row, shorter_on, numbered_some, numbered_none}
 use Rattle.deadlock_search.proofs.SearchMarks.{some_left, hop_ahead, hop_owner, hops_tried, empty_marked, vain_none, vain_on}
 
 -- the links of those that are left, when more locks have marks
@@ -128,7 +129,7 @@ module _ {ws ls : List ℕ} {b t d : ℕ} {hs : List ℕ} {m : List Bool} (i : F
 
 -- ---- from a lock on
 
--- at the holder `at`, which is a stop or 0: the lock right ahead has been entered, and so have the blocked locks of the owners passed
+-- at the holder `at`, or at the end, which is 0: the lock right ahead has been entered, and so have the blocked locks of the owners passed
 pub record Turning (ws ls : List ℕ) (from t d : ℕ) (hs₀ : List ℕ) (m₀ : List Bool) (hs : List ℕ) (m : List Bool) (at : ℕ) : Type 0 where
   pub links : Looker ws ls from
   pub vain : Vain ws ls t hs₀ m₀ hs m
@@ -136,7 +137,6 @@ pub record Turning (ws ls : List ℕ) (from t d : ℕ) (hs₀ : List ℕ) (m₀ 
   pub deep : unmarked (seen ws).blocked m ≤ d
   pub front : nearest (seen ws) from ≢ 0 → marked m (nearest (seen ws) from) ≡ true
   pub look : Looks ws ls from at hs m
-  pub stop : at ≢ 0 → Stop ws ls from at hs m
   pub looker : at ≢ 0 → looks (seen ws) from ≡ true
   pub passed :
       looks (seen ws) from ≡ true → (j : ℕ) → 1 ≤ count j (holders (seen ws) (lock (seen ws) from).resource) →
@@ -214,30 +214,60 @@ module _ {ws ls : List ℕ} {from t d : ℕ} {hs : List ℕ} {m : List Bool} (s 
           leaping = leap_starts some_words s.searching.links ek;
         }
 
-    pub turning_starts : {hs' : List ℕ} {at : ℕ} → Sought ws ls from k hs m hs' at → Turning ws ls from t d hs' m hs' m at
-    turning_starts {hs'} {at} g =
+    pub turning_starts : Turning ws ls from t d hs m hs m k
+    turning_starts =
         record {
           links = s.searching.links;
-          vain = vain_none g.looks.lists s.searching.clean;
+          vain = vain_none s.searching.lists s.searching.clean;
           target = s.searching.target;
           deep = s.searching.deep;
           front = s.front;
-          look = g.looks;
-          stop = g.stop;
-          looker = λ n. by_cases (looks (seen ws) from) (λ l. l) (λ l. absurd (n (g.none (k_is ∙ rw l))));
-          passed = λ l j p z w. g.passed j (obstacle_on ws from k some_words j (k_is ∙ rw l) p w) z w;
+          look = owners_look;
+          looker = λ n. by_cases (looks (seen ws) from) (λ l. l) (λ l. absurd (n (k_is ∙ rw l)));
+          passed = λ l j p z w. absurd (omega (arith, obstacle_on ws from k some_words j (k_is ∙ rw l) p w, z));
         }
 
--- a search that began with shorter lists
-pub searched_later : {ws ls : List ℕ} {from t : ℕ} {hs hs₁ hs₂ : List ℕ} {m m₂ : List Bool} {r : Bool} → Shorter hs hs₁ → Searched ws ls from t hs₁ m hs₂ m₂ r → Searched ws ls from t hs m hs₂ m₂ r
-searched_later p g =
-    record {
-      found = g.found;
-      vain = λ q. let v = g.vain q in record { lists = v.lists; shorter = shorter_on p v.shorter; clean = v.clean; kept = v.kept; closed = v.closed };
-      tried = g.tried;
-    }
+-- the same at the next stop, or at the end
+pub record Stopping (ws ls : List ℕ) (from t d : ℕ) (hs₀ : List ℕ) (m₀ : List Bool) (hs : List ℕ) (m : List Bool) (at : ℕ) : Type 0 where
+  pub turning : Turning ws ls from t d hs₀ m₀ hs m at
+  pub stop : at ≢ 0 → Stop ws ls from at hs m
 
 module _ {ws ls : List ℕ} {from t d : ℕ} {hs₀ : List ℕ} {m₀ : List Bool} {hs : List ℕ} {m : List Bool} {at : ℕ} (i : Turning ws ls from t d hs₀ m₀ hs m at) where
+  goes_on : {hs' : List ℕ} {k : ℕ} → Sought ws ls from at hs m hs' k → Stopping ws ls from t d hs₀ m₀ hs' m k
+  unfolding first_of
+  goes_on {hs'} {k} g =
+      let v = i.vain in
+      record {
+        turning = record {
+          links = i.links;
+          vain = record { lists = g.looks.lists; shorter = shorter_on v.shorter g.shorter; clean = v.clean; kept = v.kept; closed = v.closed };
+          target = i.target;
+          deep = i.deep;
+          front = i.front;
+          look = g.looks;
+          looker = λ q. i.looker (λ z. q (g.none z));
+          passed = λ l j p z w.
+              by_cases (leb 1 (count j (holders_since ws (lock (seen ws) from).resource at)))
+              (λ c. g.passed j (leb-true 1 _ c) z w)
+              (λ c. g.shorter.spent (link_of ls j 2) (i.passed l j p (omega (arith, leb-false 1 (count j (holders_since ws (lock (seen ws) from).resource at)) c)) w));
+        };
+        stop = g.stop;
+      }
+
+  -- the stop j was found, or none was
+  pub turn_stops : {hs' : List ℕ} {j : ℕ} → SoughtLock ws ls from at hs m hs' (Just j) → Stopping ws ls from t d hs₀ m₀ hs' m j
+  turn_stops {hs'} {j} g = rw (numbered_some g.lock j g.is).0 at (goes_on g.sought)
+
+  pub turn_ends : {hs' : List ℕ} → SoughtLock ws ls from at hs m hs' None → Stopping ws ls from t d hs₀ m₀ hs' m 0
+  turn_ends {hs'} g = rw (numbered_none g.lock g.is) at (goes_on g.sought)
+
+pub stop_some : {ws ls : List ℕ} {a at : ℕ} {hs hs' : List ℕ} {m : List Bool} {j : ℕ} → SoughtLock ws ls a at hs m hs' (Just j) → j ≢ 0
+stop_some {ws} {ls} {a} {at} {hs} {hs'} {m} {j} g = (numbered_some g.lock j g.is).1
+
+module _ {ws ls : List ℕ} {from t d : ℕ} {hs₀ : List ℕ} {m₀ : List Bool} {hs : List ℕ} {m : List Bool} {at : ℕ} (s : Stopping ws ls from t d hs₀ m₀ hs m at) where
+  abbrev i : Turning ws ls from t d hs₀ m₀ hs m at
+  i = s.turning
+
   module _ (n : at ≢ 0) where
     holder : 1 ≤ count at (holders (seen ws) (lock (seen ws) from).resource)
     holder = i.look.leaping.looking.stands n
@@ -254,7 +284,7 @@ module _ {ws ls : List ℕ} {from t d : ℕ} {hs₀ : List ℕ} {m₀ : List Boo
 
     module _ {b : ℕ} (e : b ≡ first_of ls hs at) where
       b_some : b ≢ 0
-      b_some z = (i.stop n).some (sym e ∙ z)
+      b_some z = (s.stop n).some (sym e ∙ z)
 
       b_first : get_or hs (link_of ls at 2) 0 ≡ b
       unfolding first_of
@@ -273,7 +303,7 @@ module _ {ws ls : List ℕ} {from t d : ℕ} {hs₀ : List ℕ} {m₀ : List Boo
             record {
               found = λ q.
                   f.found h from
-                  (hop_owner ws i.vain.lists.linked.some from i.look.stands at b (i.looker n) holder (i.stop n).bars b_stands
+                  (hop_owner ws i.vain.lists.linked.some from i.look.stands at b (i.looker n) holder (s.stop n).bars b_stands
                   ((i.links.same at b holder b_stands).0 own));
               vain = λ q. clash true refl q;
               tried = λ q. clash true refl q;
@@ -283,45 +313,34 @@ module _ {ws ls : List ℕ} {from t d : ℕ} {hs₀ : List ℕ} {m₀ : List Boo
           now_vain : Vain ws ls t hs₀ m₀ hs' m'
           now_vain = vain_on i.vain (f.vain h)
 
-          pub turn_looks : Looks ws ls from at hs' m'
-          turn_looks = record { lists = now_vain.lists; stands = i.look.stands; leaping = i.look.leaping }
-
           pub turn_less : unmarked (seen ws).blocked m' < unmarked (seen ws).blocked m
           turn_less =
-              unmarked_less (seen ws).blocked m m' (f.vain h).kept b b_stands (ap (marked m) e ∙ (i.stop n).fresh) (f.passed h b_some)
+              unmarked_less (seen ws).blocked m m' (f.vain h).kept b b_stands (ap (marked m) e ∙ (s.stop n).fresh) (f.passed h b_some)
 
-          pub turn_again : {hs'' : List ℕ} {k : ℕ} → Sought ws ls from at hs' m' hs'' k → Turning ws ls from t d hs₀ m₀ hs'' m' k
+          pub turn_again : Turning ws ls from t d hs₀ m₀ hs' m' at
           unfolding first_of
-          turn_again {hs''} {k} g =
-              let v = now_vain in
+          turn_again =
               record {
                 links = i.links;
-                vain = record { lists = g.looks.lists; shorter = shorter_on v.shorter g.shorter; clean = v.clean; kept = v.kept; closed = v.closed };
+                vain = now_vain;
                 target = i.target;
                 deep = omega (arith, i.deep, turn_less);
                 front = λ q. (f.vain h).kept (nearest (seen ws) from) (i.front q);
-                look = g.looks;
-                stop = g.stop;
-                looker = λ q. i.looker n;
-                passed = λ l j p z w.
-                    by_cases (leb 1 (count j (holders_since ws (lock (seen ws) from).resource at)))
-                    (λ c. g.passed j (leb-true 1 _ c) z w)
-                    (λ c. still j g (i.passed l j p (omega (arith, leb-false 1 (count j (holders_since ws (lock (seen ws) from).resource at)) c)) w));
+                look = record { lists = now_vain.lists; stands = i.look.stands; leaping = i.look.leaping };
+                looker = i.looker;
+                passed = λ l j p z w. (f.vain h).shorter.spent (link_of ls j 2) (i.passed l j p z w);
               }
-            where
-              still : (j : ℕ) → Sought ws ls from at hs' m' hs'' k → first_of ls hs j ≡ 0 → first_of ls hs'' j ≡ 0
-              still j g z = g.shorter.spent (link_of ls j 2) ((f.vain h).shorter.spent (link_of ls j 2) z)
 
   pub turning_done : at ≡ 0 → Searched ws ls from t hs₀ m₀ hs m false
   turning_done z =
-      let s = i.vain.lists.linked.some in
+      let some = i.vain.lists.linked.some in
       record {
         found = λ q. clash false q refl;
         vain = λ q. i.vain;
         tried = λ q.
-            hops_tried ws s from i.look.stands m i.front
+            hops_tried ws some from i.look.stands m i.front
             (λ l j b p w k e.
             empty_marked i.vain.lists j b ((i.links.same j b p k).1 e)
-            (i.passed l j p (rw (look_ends ws (lock (seen ws) from).resource at s z) (count_nil j)) w)
+            (i.passed l j p (rw (look_ends ws (lock (seen ws) from).resource at some z) (count_nil j)) w)
             k);
       }

@@ -1,6 +1,7 @@
 -- What the functions of the search ask for, and what they say.
-use Rattle.std.specs.Prelude.{◌≡◌, ◌≢◌, Bool, true, false, List, ℕ, ◌+◌, ◌*◌, ◌≤◌, ◌<◌, get_or, length}
+use Rattle.std.specs.Prelude.{◌≡◌, ◌≢◌, Bool, true, false, List, ℕ, ◌+◌, ◌*◌, ◌≤◌, ◌<◌, get_or, length, Option}
 use Rattle.tables.specs.Lists.{count}
+use Rattle.tables.specs.Numbered.{numbered}
 use Rattle.tables.specs.State.{lock, most_locks}
 use Rattle.tables.specs.Layout.{locks_in}
 use Rattle.tables.specs.Validity.{Core}
@@ -79,6 +80,12 @@ pub record Sought (ws ls : List ℕ) (a at : ℕ) (hs : List ℕ) (m : List Bool
       (j : ℕ) → 1 ≤ count j (holders_since ws (lock (seen ws) a).resource at) → count j (holders_since ws (lock (seen ws) a).resource k) ≡ 0
       → in_the_way (seen ws) a j ≡ true → first_of ls hs' j ≡ 0
 
+-- r is that lock, or none
+pub record SoughtLock (ws ls : List ℕ) (a at : ℕ) (hs : List ℕ) (m : List Bool) (hs' : List ℕ) (r : Option ℕ) : Type 0 where
+  pub lock : ℕ
+  pub is : r ≡ numbered lock
+  pub sought : Sought ws ls a at hs m hs' lock
+
 -- THE SEARCH for t, which has no mark, from the blocked lock k; no more blocked locks than the depth have no mark
 pub record Searching (ws ls : List ℕ) (k t d : ℕ) (hs : List ℕ) (m : List Bool) : Type 0 where
   pub lists : Lists ws ls hs m
@@ -147,8 +154,8 @@ pub record Room (ws : List ℕ) (m : List Bool) (ls fs hs : List ℕ) : Type 0 w
   pub empty : (o : ℕ) → get_or fs o 0 ≡ 0
   pub same : length hs ≡ length fs
 
--- tables of no more than n locks, some of them cleared
-pub record Free (n : ℕ) (ws : List ℕ) (m : List Bool) : Type 0 where
+-- tables whose locks, some of them cleared, all have a place among so many
+pub record Free (places : ℕ) (ws : List ℕ) (m : List Bool) : Type 0 where
   pub some : Some Core ws
   pub cleared : Cleared (hops (seen ws)) (seen ws).blocked m
-  pub few : locks_in ws ≤ n
+  pub few : locks_in ws < places

@@ -1,23 +1,23 @@
 #![tactic(auto)]
 // Breaking deadlocks: the first blocked lock that leads back to itself, found in the lent words.
-ghost use Rattle.std.specs.Prelude.{◌≡◌, ◌≢◌, length};
-ghost use Rattle.tables.specs.State.{most_locks};
+ghost use Rattle.std.specs.Prelude.{◌≡◌, ◌≢◌, ◌*◌, ◌≤◌, length};
+ghost use Rattle.tables.specs.Numbered.{numbered};
 ghost use Rattle.tables.specs.Validity.{Core};
 ghost use Rattle.rules.specs.Deadlock.{deadlocked, victim};
+ghost use Rattle.table_fields.specs.Sizes.{lock_places};
 ghost use Rattle.table_chains.specs.Promises.{Some, Tells};
 ghost use Rattle.deadlock_graph.specs.Promises.{seen};
-ghost use Rattle.deadlock_search.specs.Searches.{first_of, HasList, OnList, FirstUnmarked, Looks, Looked, Sought};
+ghost use Rattle.deadlock_graph.specs.Links.{link_width};
+ghost use Rattle.deadlock_search.specs.Searches.{first_of, HasList, OnList, FirstUnmarked, Looks, Looked, SoughtLock};
 ghost use Rattle.deadlock_search.specs.Searches.{Following, Followed, Searching, Entered, Searched, Trying, Ready, Room, Free};
 
 use deadlock_graph::{
-    LINK_AHEAD, LINK_HOLDER, LINK_MATE, LINK_NEXT, LINK_OWNER, LINKS, bars, first_blocked, link,
-    next_blocked,
+    LINK_AHEAD, LINK_HOLDER, LINK_MATE, LINK_NEXT, LINK_OWNER, LINKS, bars, blocked_locks, link,
 };
 use deadlock_lines::link_lines;
 use deadlock_owners::number_owners;
 use deadlock_prune::{clear_ends, clear_free_lines};
 use table_fields::{LOCK_PLACES, RESOURCE_PLACES, lock_count};
-use table_names::copy_numbers;
 
 // The first lock without a mark on an owner's list, from `first` on, or 0. The words are not read here: the contract speaks
 // of the state in them.
@@ -36,6 +36,7 @@ fn unmarked_from(words: &[u32], links: &[u16], marks: &[bool; LOCK_PLACES], firs
 }
 
 // The first lock on the list of the owner of the holder j.
+#[tactic(auto, using(crate::proofs::OwnerLists::first_laws))]
 fn first_of(links: &[u16], heads: &[u16], j: u16) -> u16
     requires { HasList links.now j heads.now }
     ensures { result ≡ first_of links.now heads.now j }
@@ -72,7 +73,7 @@ fn stops(
     bars(words, a, j)
 }
 
-// The first such holder, from `at` on, or 0. Holders in NL are left out.
+// The first such holder, from `at` on. Holders in NL are left out.
 fn seek(
     words: &[u32],
     links: &[u16],
@@ -80,18 +81,18 @@ fn seek(
     a: u16,
     at: u16,
     heads: &mut [u16],
-) -> u16
+) -> Option<u16>
     requires { Looks words.now links.now a at heads.old marks.now }
-    ensures { Sought words.now links.now a at heads.old marks.now heads.new result }
+    ensures { SoughtLock words.now links.now a at heads.old marks.now heads.new result }
 {
     let mut j = at;
     while j != 0 {
         if stops(words, links, marks, a, j, heads) {
-            return j;
+            return Some(j);
         }
         j = link(links, j, LINK_NEXT);
     }
-    0
+    None
 }
 
 // Whether the target is found by way of b, where there is such a lock: through locks without a mark.
@@ -135,20 +136,13 @@ fn follow_owners(
     requires { Entered words.now links.now from target depth heads.old marks.old }
     ensures { Searched words.now links.now from target heads.old marks.old heads.new marks.new result }
 {
-    let mut at = seek(
-        words,
-        links,
-        marks,
-        from,
-        link(links, from, LINK_HOLDER),
-        heads,
-    );
-    while at != 0 {
-        let b = first_of(links, heads, at);
+    let mut at = link(links, from, LINK_HOLDER);
+    while let Some(j) = seek(words, links, marks, from, at, heads) {
+        let b = first_of(links, heads, j);
         if follow(words, links, b, target, depth, heads, marks) {
             return true;
         }
-        at = seek(words, links, marks, from, at, heads);
+        at = j;
     }
     false
 }
@@ -203,36 +197,32 @@ fn on_cycle(
     if cleared[a as usize] {
         return false;
     }
-    copy_numbers(heads, firsts);
+    heads.copy_from_slice(firsts);
     let mut marks = *cleared;
     search(words, links, a, a, depth, heads, &mut marks)
 }
 
-// The first lock on the blocked chain that leads back to itself, or 0. A lock that does not is cleared: no later search
-// enters it. A search is never deeper than the count of blocked locks that were left.
+// The first lock on the blocked chain that leads back to itself. A lock that does not is cleared: no later search enters it. A
+// search is never deeper than the count of blocked locks that were left.
 fn first_on_cycle(
     words: &[u32],
     links: &[u16],
     firsts: &[u16],
     left: u16,
-    cleared: [bool; LOCK_PLACES],
+    mut cleared: [bool; LOCK_PLACES],
     heads: &mut [u16],
-) -> u16
+) -> Option<u32>
     requires ready { Ready words.now links.now left firsts.now cleared }
     requires heads_len { length heads.old ≡ length firsts.now }
-    ensures { result ≡ victim (seen words.now) }
+    ensures { result ≡ numbered (victim (seen words.now)) }
 {
-    let mut cleared = cleared;
-    let mut k = first_blocked(words);
-    while k != 0 {
-        let next = next_blocked(words, k);
+    for k in blocked_locks(words) {
         if on_cycle(words, links, firsts, k, left, &cleared, heads) {
-            return k;
+            return Some(u32::from(k));
         }
         cleared[k as usize] = true;
-        k = next;
     }
-    0
+    None
 }
 
 // The same where free lines are cleared, with arrays that are as large as the tables need.
@@ -242,72 +232,63 @@ fn victim_in(
     links: &mut [u16],
     firsts: &mut [u16],
     heads: &mut [u16],
-) -> u16
+) -> Option<u32>
     requires { Room words.now cleared.old links.old firsts.old heads.old }
-    ensures { result ≡ victim (seen words.now) }
+    ensures { result ≡ numbered (victim (seen words.now)) }
 {
     let mut lasts = [0; RESOURCE_PLACES];
     link_lines(words, cleared, links, &mut lasts);
     number_owners(words, &lasts, links, firsts, heads);
     let left = clear_ends(words, links, &mut lasts, cleared);
     if left == 0 {
-        return 0;
+        return None;
     }
     first_on_cycle(words, links, firsts, left, *cleared, heads)
 }
 
-// Arrays for up to 32, 256 and 1,024 locks: to clear the large ones takes longer than a break on small tables. The language has
-// no arrays of a length that is not constant, so there is a function for each.
+// Places and links for up to 32, 256 and 1,024 locks: to clear the large arrays takes longer than a break on small tables.
 const SMALL_PLACES: usize = 33;
+
+const SMALL_LINKS: usize = LINKS * SMALL_PLACES;
 
 const MIDDLE_PLACES: usize = 257;
 
-fn victim_small(words: &[u32], free: &mut [bool; LOCK_PLACES]) -> u16
-    requires { Free 32 words.now free.old }
-    ensures { result ≡ victim (seen words.now) }
+const MIDDLE_LINKS: usize = LINKS * MIDDLE_PLACES;
+
+const LARGE_LINKS: usize = LINKS * LOCK_PLACES;
+
+// The same with arrays of so many places and links.
+fn victim_sized<const PLACES: usize, const LINK_WORDS: usize>(
+    words: &[u32],
+    free: &mut [bool; LOCK_PLACES],
+) -> Option<u32>
+    requires free { Free PLACES words.now free.old }
+    requires rows { LINK_WORDS ≡ link_width * PLACES }
+    requires few { PLACES ≤ lock_places }
+    ensures { result ≡ numbered (victim (seen words.now)) }
 {
-    let mut links = [0; LINKS * SMALL_PLACES];
-    let mut firsts = [0; SMALL_PLACES];
-    let mut heads = [0; SMALL_PLACES];
+    let mut links = [0; LINK_WORDS];
+    let mut firsts = [0; PLACES];
+    let mut heads = [0; PLACES];
     victim_in(words, free, &mut links, &mut firsts, &mut heads)
 }
 
-fn victim_middle(words: &[u32], free: &mut [bool; LOCK_PLACES]) -> u16
-    requires { Free 256 words.now free.old }
-    ensures { result ≡ victim (seen words.now) }
-{
-    let mut links = [0; LINKS * MIDDLE_PLACES];
-    let mut firsts = [0; MIDDLE_PLACES];
-    let mut heads = [0; MIDDLE_PLACES];
-    victim_in(words, free, &mut links, &mut firsts, &mut heads)
-}
-
-fn victim_large(words: &[u32], free: &mut [bool; LOCK_PLACES]) -> u16
-    requires { Free most_locks words.now free.old }
-    ensures { result ≡ victim (seen words.now) }
-{
-    let mut links = [0; LINKS * LOCK_PLACES];
-    let mut firsts = [0; LOCK_PLACES];
-    let mut heads = [0; LOCK_PLACES];
-    victim_in(words, free, &mut links, &mut firsts, &mut heads)
-}
-
-// The lock that is denied to break a deadlock, or 0 if there is none. Where no owner of a blocked lock holds more than NL where
-// a lock is blocked, there is none, and nothing is searched.
-pub fn victim(words: &[u32]) -> u32
+// The lock that is denied to break a deadlock. Where no owner of a blocked lock holds more than NL where a lock is blocked,
+// there is none, and nothing is searched.
+pub fn victim(words: &[u32]) -> Option<u32>
     requires { Some Core words.now }
-    ensures { Tells Core victim words.now result }
+    ensures { Tells Core (λ t. numbered (victim t)) words.now result }
 {
     let mut free = [false; LOCK_PLACES];
     if clear_free_lines(words, &mut free) {
-        return 0;
+        return None;
     }
-    let locks = lock_count(words);
-    if locks < SMALL_PLACES as u32 {
-        return victim_small(words, &mut free) as u32;
+    let locks = lock_count(words) as usize;
+    if locks < SMALL_PLACES {
+        return victim_sized::<SMALL_PLACES, SMALL_LINKS>(words, &mut free);
     }
-    if locks < MIDDLE_PLACES as u32 {
-        return victim_middle(words, &mut free) as u32;
+    if locks < MIDDLE_PLACES {
+        return victim_sized::<MIDDLE_PLACES, MIDDLE_LINKS>(words, &mut free);
     }
-    victim_large(words, &mut free) as u32
+    victim_sized::<LOCK_PLACES, LARGE_LINKS>(words, &mut free)
 }

@@ -1,10 +1,12 @@
 -- Who holds EX: the walk along a queue, the queues of a resource, and the resource of a name.
-use mathlib.Core.Path.{◌≡◌, refl, sym, ap, ap₂, ◌∙◌}
+use mathlib.Core.Path.{◌≡◌, refl, sym, ap, ◌∙◌}
 use mathlib.Core.Bool.{Bool, true}
 use mathlib.Core.List.{List, [], ◌∷◌, ◌++◌}
 use Prim.Native.Nat.{ℕ, zero, suc, ◌≤◌}
 use native.Mathlib.Omega.{arith}
 use borrow.Author.Rules.{rules}
+use borrow.Author.Tests.{eqb-true}
+use Rattle.std.specs.Prelude.{Option, Some, None}
 use lib.Dec.{eqb}
 use lib.ListN.{length}
 use Rattle.tables.specs.Lists.{count, first_that, from, same, within}
@@ -12,8 +14,11 @@ use Rattle.tables.specs.State.{Tables, lock, resource, Queue, grants, converts, 
 use Rattle.tables.specs.Layout.{of_resource, of_lock, queue_head, words, read, locks_in, word_in, onward, read_lock, held_in}
 use Rattle.tables.specs.Grants.{holders}
 use Rattle.tables.specs.Sound.{sound}
+use Rattle.tables.specs.Numbered.{numbered}
+use Rattle.tables.specs.declared.Lock.{Lock}
+use Rattle.tables.specs.Validity.{LockOk, as_free, as_granted, as_converting, as_waiting, as_denied}
 use Rattle.tables.proofs.Cases.{by_cases}
-use Rattle.tables.proofs.Counts.{count_same, count_step, count_append, count_from, bit_one, first_in, first_here, first_later, first_cong}
+use Rattle.tables.proofs.Counts.{count_same, count_step, count_append, count_from, bit_one, first_in, first_passes, first_here, first_later, first_cong}
 use Rattle.tables.proofs.Written.{Writes, sound_written}
 use Rattle.tables.proofs.ChainMembers.{holder_range}
 use Rattle.rules.specs.Queues.{find}
@@ -23,9 +28,11 @@ use Rattle.table_fields.proofs.StateWords.{locks_is, core_sized, word_is}
 use Rattle.table_names.specs.Names.{find_in}
 use Rattle.table_names.specs.Promises.{Named}
 use Rattle.table_names.proofs.StateNames.{sound_named, sound_find}
-use Rattle.table_chains.specs.Promises.{Some, Tells, Resourced}
+use Rattle.table_chains.specs.Promises as promise
+use Rattle.table_chains.specs.Promises.{Tells, Resourced}
+use Rattle.table_chains.proofs.NumberOrNone.{some_number, is_number, none_is, above_none}
 use Rattle.table_chains.specs.Walking.{first_with}
-use Rattle.table_chains.proofs.ChainWalks.{walk_sized, walk_low, walk_high, walk_less, seeking_starts, seeking_found, seeking_on, seeking_ends, queue_onward, here_sized, here_low, here_high, here_grants, here_converts}
+use Rattle.table_chains.proofs.ChainWalks.{walk_sized, walk_low, walk_high, walk_less, Seeking, seeking_starts, seeking_found, seeking_on, seeking_ends, queue_onward, here_sized, here_low, here_high, here_grants, here_converts}
 use Rattle.entry_holder.specs.Promises.{ex_lock}
 
 -- the first that passes a test on two lists in a row
@@ -45,7 +52,14 @@ module _ (p : ℕ → Bool) where
       (λ h. first_later p x (xs ++ ys) h ∙ first_right xs ys (omega (arith, count_step 0 x xs)) (sym (first_later p x xs h) ∙ e))
 
 -- ex_from
-pub ruleset seeking = (rules, walk_sized, walk_low, walk_high, walk_less, seeking_starts, seeking_found, seeking_on, seeking_ends)
+module _ (ws : List ℕ) (f g v start k : ℕ) (i : Seeking ws f g v start k) where
+  pub found_lock : (k ≡ 0 → ⊥) → (x : ℕ) → x ≡ word_in ws (of_lock k g) → x ≡ v → Some k ≡ numbered (first_with ws f g v start)
+  found_lock n x e h = some_number k n ∙ ap numbered (seeking_found ws f g v start k i n x e h)
+
+  pub found_none : k ≡ 0 → None ≡ numbered (first_with ws f g v start)
+  found_none e = ap numbered (seeking_ends ws f g v start k i e)
+
+pub ruleset seeking = (rules, walk_sized, walk_low, walk_high, walk_less, seeking_starts, found_lock, seeking_on, found_none)
 
 -- ex_lock: the queues of a resource of a state, by its words
 module _ (ws : List ℕ) (r : ℕ) (t : Tables) (p : Resourced r t) (is : ws ≡ words t) where
@@ -66,26 +80,42 @@ module _ (ws : List ℕ) (r : ℕ) (t : Tables) (p : Resourced r t) (is : ws ≡
   converting_ex : (x : ℕ) → x ≡ word_in ws (of_resource r 2) → first_with ws 0 6 ex x ≡ first_that (λ k. eqb (lock t k).held ex) (resource t r).convert
   converting_ex x e = queue_ex converts x e (λ j m. unfold holders in rw count_append (omega arith))
 
-  ex_there : (k : ℕ) → k ≡ ex_lock r t → (k ≡ 0 → ⊥) → (1 ≤ k) × (k ≤ length t.locks)
+  ex_there : (k : ℕ) → k ≡ ex_lock r t → 1 ≤ k → (1 ≤ k) × (k ≤ length t.locks)
   unfolding ex_lock
-  ex_there zero e n = absurd (n refl)
+  ex_there zero e n = absurd (omega arith)
   ex_there (suc k) e n = holder_range t p.core.linked r (suc k) (first_in (λ k. eqb (lock t k).held ex) (holders t r) k (sym e))
 
-module _ (ws : List ℕ) (r x : ℕ) (head : x ≡ word_in ws (of_resource r 1)) (k : ℕ) (ek : k ≡ first_with ws 0 6 ex x) where
-  pub ex_granted : (k ≡ 0 → ⊥) → Tells (Resourced r) (ex_lock r) ws k
+  -- it is held by somebody
+  ex_held : (k : ℕ) → k ≡ ex_lock r t → 1 ≤ k → (lock t k).held ≡ ex
+  unfolding ex_lock
+  ex_held zero e n = absurd (omega arith)
+  ex_held (suc k) e n = eqb-true (lock t (suc k)).held ex (first_passes (λ k. eqb (lock t k).held ex) (holders t r) k (sym e))
+
+client_set : (u : ℕ → Bool) (l : Lock) → LockOk u l → l.held ≡ ex → 1 ≤ l.client
+client_set u l (as_free e) h = let z : 0 ≡ ex = rw e at h in absurd (omega (arith, z))
+client_set u l (as_granted s o) h = o.place.client_low
+client_set u l (as_converting s o) h = o.place.client_low
+client_set u l (as_waiting s o) h = o.place.client_low
+client_set u l (as_denied s o) h = o.client_low
+
+module _ (ws : List ℕ) (r x : ℕ) (head : x ≡ word_in ws (of_resource r 1)) (o : Option ℕ) (eo : o ≡ numbered (first_with ws 0 6 ex x)) where
+  pub ex_granted : (k : ℕ) → o ≡ Some k → Tells (Resourced r) (λ t. numbered (ex_lock r t)) ws (Some k)
   unfolding ex_lock holders
-  ex_granted n = record {
+  ex_granted k q = record {
     then = λ t p is.
-        let e = ek ∙ granted_ex ws r t p is x head in
-        e ∙ sym (first_left (λ k. eqb (lock t k).held ex) (resource t r).grant (resource t r).convert (λ z. n (e ∙ z)));
+        let e = granted_ex ws r t p is x head in
+        let low = above_none k (first_with ws 0 6 ex x) (sym q ∙ eo) in
+        let same = is_number k (first_with ws 0 6 ex x) (sym q ∙ eo) in
+        sym q ∙ eo ∙ ap numbered (e ∙ sym (first_left (λ k. eqb (lock t k).held ex) (resource t r).grant (resource t r).convert (λ z. let b : k ≡ 0 = same ∙ e ∙ z in omega arith)));
   }
 
-  pub ex_converting : k ≡ 0 → (y z : ℕ) → y ≡ word_in ws (of_resource r 2) → z ≡ first_with ws 0 6 ex y → Tells (Resourced r) (ex_lock r) ws z
+  pub ex_converting : o ≡ None → (y : ℕ) (z : Option ℕ) → y ≡ word_in ws (of_resource r 2) → z ≡ numbered (first_with ws 0 6 ex y) → Tells (Resourced r) (λ t. numbered (ex_lock r t)) ws z
   unfolding ex_lock holders
   ex_converting n y z ey ez = record {
     then = λ t p is.
-        ez ∙ converting_ex ws r t p is y ey
-        ∙ sym (first_right (λ k. eqb (lock t k).held ex) (resource t r).grant (resource t r).convert (p.core.linked (queue r grants) 0) (sym (ek ∙ granted_ex ws r t p is x head) ∙ n));
+        ez
+        ∙ ap numbered (converting_ex ws r t p is y ey
+        ∙ sym (first_right (λ k. eqb (lock t k).held ex) (resource t r).grant (resource t r).convert (p.core.linked (queue r grants) 0) (sym (granted_ex ws r t p is x head) ∙ none_is (first_with ws 0 6 ex x) (sym n ∙ eo))));
   }
 
 pub ruleset ex_locking = (rules, here_sized, here_low, here_high, here_grants, here_converts, ex_granted, ex_converting)
@@ -105,47 +135,54 @@ module _ (ws ss n : List ℕ) (h : sound ws ss ≡ true) where
   pub holder_named : Named ws ss
   holder_named = sound_named ws ss h
 
-  module _ (r : ℕ) (er : r ≡ find_in ws ss n) where
-    found : r ≡ find n (read ws ss)
-    found = er ∙ sound_find n ws ss h
+  found : find_in ws ss n ≡ find n (read ws ss)
+  found = sound_find n ws ss h
 
-    pub holder_none : r ≡ 0 → 0 ≡ holder_of (find n (read ws ss)) (read ws ss)
-    unfolding holder_of holders resource first_that lock
-    holder_none e = ap (λ (q : ℕ). holder_of q (read ws ss)) (sym e ∙ found)
+  pub holder_none : (o : Option ℕ) → o ≡ numbered (find_in ws ss n) → o ≡ None → (x : Option ℕ) → x ≡ None → x ≡ numbered (holder_of (find n (read ws ss)) (read ws ss))
+  unfolding holder_of holders resource first_that lock
+  holder_none o eo q x ex = ex ∙ ap (λ (i : ℕ). numbered (holder_of i (read ws ss))) (sym (none_is (find_in ws ss n) (sym q ∙ eo)) ∙ found)
 
-    module _ (some : r ≡ 0 → ⊥) where
-      there : Resourced r (read ws ss)
-      there = record { core = w.valid.core; in_range = find_there n (read ws ss) r found some }
+  module _ (r : ℕ) (er : Some r ≡ numbered (find_in ws ss n)) where
+    there : Resourced r (read ws ss)
+    there = record {
+      core = w.valid.core;
+      in_range = find_there n (read ws ss) r (is_number r (find_in ws ss n) er ∙ found) (λ z. let q = above_none r (find_in ws ss n) er in omega arith);
+    }
 
-      pub holder_resourced : Some (Resourced r) ws
-      holder_resourced = record { state = read ws ss; good = there; is = w.is }
+    pub holder_resourced : promise.Some (Resourced r) ws
+    holder_resourced = record { state = read ws ss; good = there; is = w.is }
 
-      module _ (k : ℕ) (told : Tells (Resourced r) (ex_lock r) ws k) where
-        k_is : k ≡ ex_lock r (read ws ss)
-        k_is = told.then (read ws ss) there w.is
+    lock_is : (lock (read ws ss) (ex_lock r (read ws ss))).client ≡ holder_of (find n (read ws ss)) (read ws ss)
+    unfolding holder_of ex_lock
+    lock_is =
+        let e = is_number r (find_in ws ss n) er ∙ found in
+        ap (λ (q : ℕ). (lock (read ws ss) (ex_lock q (read ws ss))).client) e ∙ ap (λ (q : ℕ). holder_of q (read ws ss)) refl
 
-        lock_is : (lock (read ws ss) k).client ≡ holder_of (find n (read ws ss)) (read ws ss)
-        unfolding holder_of ex_lock
-        lock_is = ap₂ (λ (i q : ℕ). (lock (read ws ss) i).client) k_is found ∙ ap (λ (q : ℕ). holder_of q (read ws ss)) found
+    pub holder_nobody : (o : Option ℕ) → Tells (Resourced r) (λ t. numbered (ex_lock r t)) ws o → o ≡ None → (x : Option ℕ) → x ≡ None → x ≡ numbered (holder_of (find n (read ws ss)) (read ws ss))
+    unfolding lock
+    holder_nobody o told q x ex =
+        ex ∙ ap numbered (ap (λ (i : ℕ). (lock (read ws ss) i).client) (sym (none_is (ex_lock r (read ws ss)) (sym q ∙ told.then (read ws ss) there w.is))) ∙ lock_is)
 
-        pub holder_nobody : k ≡ 0 → 0 ≡ holder_of (find n (read ws ss)) (read ws ss)
-        unfolding lock
-        holder_nobody e = ap (λ (i : ℕ). (lock (read ws ss) i).client) (sym e) ∙ lock_is
+    module _ (k : ℕ) (told : Tells (Resourced r) (λ t. numbered (ex_lock r t)) ws (Some k)) where
+      k_is : k ≡ ex_lock r (read ws ss)
+      k_is = is_number k (ex_lock r (read ws ss)) (told.then (read ws ss) there w.is)
 
-        module _ (one : k ≡ 0 → ⊥) where
-          range : (1 ≤ k) × (k ≤ length (read ws ss).locks)
-          range = ex_there ws r (read ws ss) there w.is k k_is one
+      pub holder_low : 1 ≤ k
+      holder_low = above_none k (ex_lock r (read ws ss)) (told.then (read ws ss) there w.is)
 
-          pub holder_sized : Sized ws
-          holder_sized = core_sized (read ws ss) ws w.is w.valid.core
+      range : (1 ≤ k) × (k ≤ length (read ws ss).locks)
+      range = ex_there ws r (read ws ss) there w.is k k_is holder_low
 
-          pub holder_low : 1 ≤ k
-          holder_low = range.0
+      pub holder_sized : Sized ws
+      holder_sized = core_sized (read ws ss) ws w.is w.valid.core
 
-          pub holder_high : k ≤ locks_in ws
-          holder_high = rw (locks_is (read ws ss) ws w.is) range.1
+      pub holder_high : k ≤ locks_in ws
+      holder_high = rw (locks_is (read ws ss) ws w.is) range.1
 
-          pub holder_client : (x : ℕ) → x ≡ word_in ws (of_lock k 4) → x ≡ holder_of (find n (read ws ss)) (read ws ss)
-          holder_client x e = e ∙ word_is (read ws ss) ws w.is (of_lock k 4) (range.0, range.1, omega arith) ∙ lock_is
+      pub holder_client : (x : ℕ) → x ≡ word_in ws (of_lock k 4) → Some x ≡ numbered (holder_of (find n (read ws ss)) (read ws ss))
+      holder_client x e =
+          let is : x ≡ (lock (read ws ss) k).client = e ∙ word_is (read ws ss) ws w.is (of_lock k 4) (range.0, range.1, omega arith) in
+          let set = client_set _ (lock (read ws ss) k) (w.valid.core.lock_ok k) (ex_held ws r (read ws ss) there w.is k k_is holder_low) in
+          some_number x (λ z. omega arith) ∙ ap numbered (is ∙ ap (λ (i : ℕ). (lock (read ws ss) i).client) k_is ∙ lock_is)
 
 pub ruleset ex_holding = (rules, holder_named, holder_none, holder_resourced, holder_nobody, holder_sized, holder_low, holder_high, holder_client)

@@ -1,24 +1,24 @@
 -- What the bytes of an image say: how many words it has, which they are, and whether they are those of sound tables.
 use mathlib.Core.Path.{◌≡◌, refl, sym, ap, ap₂, ◌∙◌}
 use mathlib.Core.Bool.{Bool, true, false, ◌&&◌, not}
-use mathlib.Core.List.{List, ◌++◌}
-use Prim.Native.Nat.{ℕ, ◌+◌, ◌*◌, ◌-◌, ◌<◌, ◌≤◌, ◌^◌}
+use mathlib.Core.List.{List}
+use Rattle.std.proofs.Common.{Some, None}
+use Prim.Native.Nat.{ℕ, ◌+◌, ◌*◌, ◌-◌, ◌<◌, ◌≤◌}
 use native.Mathlib.Omega.{arith}
 use borrow.Author.Rules.{rules}
 use borrow.Author.Tests.{leb-true, le-leb, eqb-true, eq-eqb, not-false}
 use lib.Dec.{leb}
-use lib.ListN.{length, take, drop, replicate, length-drop, length-append, length-replicate, get_or}
-use lib.Seq.{take_all, take_at}
+use lib.ListN.{length, take, drop, length-drop, get_or}
+use lib.Seq.{take_all}
 use Rattle.tables.specs.State.{most_resources, most_locks}
 use Rattle.tables.specs.Layout.{slot_width, resources_in, locks_in, header_width, resource_width, lock_width}
 use Rattle.tables.specs.Sound.{sound}
 use Rattle.tables.proofs.Cases.{by_cases, clash, parts}
-use Rattle.tables.proofs.Conditions.{resources_low, resources_high, locks_low, locks_high, words_sized}
+use Rattle.tables.proofs.Conditions.{resources_low, resources_high, locks_low, locks_high}
 use Rattle.rules.specs.Images.{word_from, image_size, image_words, image_slots, image_sound}
 use Rattle.table_bytes.specs.Bytes.{decoded}
-use Rattle.table_bytes.proofs.Loops.{length_decoded, decoded_at}
+use Rattle.table_bytes.proofs.Loops.{decoded_at}
 use Rattle.entry_image.specs.Promises.{measures, Measured, Decoded}
-use Rattle.table_names.proofs.FourBytes.{front_long}
 
 module _ (bs : List ℕ) where
   pub words_decoded : image_words bs ≡ decoded bs (image_size bs)
@@ -75,7 +75,7 @@ module _ (bs : List ℕ) where
         long = eqb-true _ _ (search parts depth 20);
       }
 
-  not_sound : measures bs ≡ false → image_sound bs ≡ false
+  pub not_sound : measures bs ≡ false → image_sound bs ≡ false
   not_sound h = by_cases (image_sound bs) (λ s. clash (measures bs) (measured (sound_measure s)) h) (λ s. s)
 
   sound_is : measures bs ≡ true → image_sound bs ≡ sound (image_words bs) (image_slots bs)
@@ -90,38 +90,32 @@ module _ (bs : List ℕ) where
       take_all (length bs - 4 * n) (drop (4 * n) bs) l ∙ ap (λ (k : ℕ). drop (4 * k) bs) e
 
   -- words_in
-  no_words : measures bs ≡ false → Measured bs 0
-  no_words h = record { many = rw h; inside = omega arith; few = omega arith }
+  no_words : measures bs ≡ false → Measured bs None
+  no_words h = record { right = sym h; counted = tt }
 
-  unless_measure : (Measure → ⊥) → Measured bs 0
+  unless_measure : (Measure → ⊥) → Measured bs None
   unless_measure n = no_words (by_cases (measures bs) (λ h. absurd (n (measure h))) (λ h. h))
 
-  pub words_short : length bs < 8 → Measured bs 0
+  pub words_short : length bs < 8 → Measured bs None
   words_short h = unless_measure (λ m. omega (arith, m.long))
 
-  module _ (r l x y : ℕ) (ex : x ≡ word_from bs 0) (er : (r ≡ x) × (r < 2 ^ 32)) (ey : y ≡ word_from bs 4) (el : (l ≡ y) × (l < 2 ^ 32)) where
-    r_is : r ≡ word_from bs 0
-    r_is = er.0 ∙ ex
-
-    l_is : l ≡ word_from bs 4
-    l_is = el.0 ∙ ey
-
-    pub words_beyond : not (leb 1 r && leb r most_resources && leb 1 l && leb l most_locks) ≡ true → Measured bs 0
+  module _ (r l : ℕ) (er : r ≡ word_from bs 0) (el : l ≡ word_from bs 4) where
+    pub words_beyond : not (leb 1 r && leb r most_resources && leb 1 l && leb l most_locks) ≡ true → Measured bs None
     words_beyond h =
         unless_measure (λ m.
-        let a : 1 ≤ r = rw r_is m.resources_low in
-        let b : r ≤ most_resources = rw r_is m.resources_high in
-        let c : 1 ≤ l = rw l_is m.locks_low in
-        let d : l ≤ most_locks = rw l_is m.locks_high in
+        let a : 1 ≤ r = rw er m.resources_low in
+        let b : r ≤ most_resources = rw er m.resources_high in
+        let c : 1 ≤ l = rw el m.locks_low in
+        let d : l ≤ most_locks = rw el m.locks_high in
         clash false (rw (le-leb 1 r a, le-leb r most_resources b, le-leb 1 l c, le-leb l most_locks d) at h) refl)
 
     size_is : header_width + resource_width * r + lock_width * l ≡ image_size bs
-    size_is = rw (r_is, l_is) (omega arith)
+    size_is = rw (er, el) (omega arith)
 
-    pub words_misfit : not (leb 1 r && leb r most_resources && leb 1 l && leb l most_locks) ≡ false → (length bs ≡ 4 * (header_width + resource_width * r + lock_width * l) + slot_width * r → ⊥) → Measured bs 0
-    words_misfit h n = unless_measure (λ m. n (rw (size_is, r_is) m.long))
+    pub words_misfit : not (leb 1 r && leb r most_resources && leb 1 l && leb l most_locks) ≡ false → (length bs ≡ 4 * (header_width + resource_width * r + lock_width * l) + slot_width * r → ⊥) → Measured bs None
+    words_misfit h n = unless_measure (λ m. n (rw (size_is, er) m.long))
 
-    pub words_fit : not (leb 1 r && leb r most_resources && leb 1 l && leb l most_locks) ≡ false → length bs ≡ 4 * (header_width + resource_width * r + lock_width * l) + slot_width * r → Measured bs (header_width + resource_width * r + lock_width * l)
+    pub words_fit : not (leb 1 r && leb r most_resources && leb 1 l && leb l most_locks) ≡ false → length bs ≡ 4 * (header_width + resource_width * r + lock_width * l) + slot_width * r → Measured bs (Some (header_width + resource_width * r + lock_width * l))
     words_fit h long =
         let t = not-false (leb 1 r && leb r most_resources && leb 1 l && leb l most_locks) h in
         let a : 1 ≤ r = leb-true 1 r (search parts depth 20) in
@@ -129,74 +123,22 @@ module _ (bs : List ℕ) where
         let c : 1 ≤ l = leb-true 1 l (search parts depth 20) in
         let d : l ≤ most_locks = leb-true l most_locks (search parts depth 20) in
         let m : Measure = record {
-          resources_low = rw (← r_is) a;
-          resources_high = rw (← r_is) b;
-          locks_low = rw (← l_is) c;
-          locks_high = rw (← l_is) d;
-          long = rw (size_is, r_is) at long;
+          resources_low = rw (← er) a;
+          resources_high = rw (← er) b;
+          locks_low = rw (← el) c;
+          locks_high = rw (← el) d;
+          long = rw (size_is, er) at long;
         } in
-        record { many = size_is ∙ rw (measured m); inside = omega arith; few = omega arith }
+        record { right = sym (measured m); counted = record { measures = measured m; many = size_is; inside = omega arith; few = omega arith } }
 
 pub ruleset measuring = (rules, words_short, words_beyond, words_misfit, words_fit)
 
--- is_sound: an image that has no words is none of sound tables
+-- is_sound
 module _ (bs zs : List ℕ) (d : Decoded bs zs) where
-  module _ (h : measures bs ≡ true) where
-    size_there : length zs ≡ image_size bs
-    size_there = rw h at d.measured.many
+  pub words_there : zs ≡ image_words bs
+  words_there = d.read ∙ ap (decoded bs) d.counted.many ∙ sym (words_decoded bs)
 
-    words_there : zs ≡ image_words bs
-    words_there = d.read ∙ ap (decoded bs) size_there ∙ sym (words_decoded bs)
-
-  module _ (x : Bool) (ex : x ≡ sound zs (take (length bs - 4 * length zs) (drop (4 * length zs) bs))) where
-    unsized : measures bs ≡ false → x ≡ image_sound bs
-    unsized h =
-        let none : length zs ≡ 0 = rw h at d.measured.many in
-        by_cases x
-        (λ s. absurd (omega (arith, words_sized zs _ (sym ex ∙ s))))
-        (λ s. s ∙ sym (not_sound bs h))
-
-    sized : measures bs ≡ true → x ≡ image_sound bs
-    sized h = ex ∙ ap₂ sound (words_there h) (rest_slots bs (length zs) (size_there h)) ∙ sym (sound_is bs h)
-
-    pub sound_told : x ≡ image_sound bs
-    sound_told = by_cases (measures bs) sized unsized
-
-  -- where it is sound, these are its words, and they end where its slots start
-  module _ (s : image_sound bs ≡ true) where
-    pub decoded_words : zs ≡ image_words bs
-    decoded_words = words_there (measured bs (sound_measure bs s))
-
-    pub decoded_size : length zs ≡ image_size bs
-    decoded_size = size_there (measured bs (sound_measure bs s))
+  pub sound_told : (x : Bool) → x ≡ sound zs (take (length bs - 4 * length zs) (drop (4 * length zs) bs)) → x ≡ image_sound bs
+  sound_told x ex = ex ∙ ap₂ sound words_there (rest_slots bs (length zs) d.counted.many) ∙ sym (sound_is bs d.counted.measures)
 
 pub ruleset judging = (rules, sound_told)
-
--- load and holder: the front of a buffer has room for just the words, and then holds them
-module _ (n size : ℕ) (h : n ≤ size) where
-  pub front_room : n ≡ length (take n (replicate {A = ℕ} size 0))
-  front_room = front_long n (replicate {A = ℕ} size 0) (rw length-replicate h)
-
-  pub front_inside : (bs : List ℕ) → Measured bs n → 4 * length (take n (replicate {A = ℕ} size 0)) ≤ length bs
-  front_inside bs m = rw (← front_room) m.inside
-
-  module _ (bs zs : List ℕ) (e : zs ≡ decoded bs (length (take n (replicate {A = ℕ} size 0)))) where
-    front_is : zs ≡ decoded bs n
-    front_is = e ∙ ap (decoded bs) (sym front_room)
-
-    zs_long : length zs ≡ n
-    zs_long = ap length front_is ∙ length_decoded bs n
-
-    front_again : take n (zs ++ drop n (replicate {A = ℕ} size 0)) ≡ zs
-    front_again = take_at zs (drop n (replicate {A = ℕ} size 0)) n zs_long
-
-    pub front_there : n ≤ length (zs ++ drop n (replicate {A = ℕ} size 0))
-    front_there = rw length-append (omega (arith, zs_long))
-
-    pub front_whole : n ≡ length (take n (zs ++ drop n (replicate {A = ℕ} size 0)))
-    front_whole = sym zs_long ∙ ap length (sym front_again)
-
-    pub front_decoded : Measured bs n → Decoded bs (take n (zs ++ drop n (replicate {A = ℕ} size 0)))
-    front_decoded m = rw front_again (record { measured = rw zs_long m; read = rw zs_long front_is })
-
-pub ruleset lending = (rules, front_room, front_inside, front_there, front_whole, front_decoded)

@@ -5,25 +5,29 @@ use mathlib.Core.List.{List, [], ◌++◌, append-nil}
 use Prim.Native.Nat.{ℕ, zero, suc, ◌+◌, ◌*◌, ◌-◌, ◌≤◌}
 use native.Mathlib.Omega.{arith}
 use borrow.Author.Rules.{rules}
-use borrow.Author.Tests.{eqb-true, eq-eqb, ne_eqb, not-true, not-false}
+use borrow.Author.Tests.{eq-eqb, ne_eqb, not-true, not-false}
 use borrow.Rule.Slice.PartMut.{put_mid}
 use lib.Dec.{eqb}
 use lib.ListN.{length, take, drop, length-drop, drop_of_length-le}
 use lib.Seq.{take_at}
 use Rattle.tables.specs.Sound.{sound}
-use Rattle.tables.proofs.Cases.{by_cases, and_left, and_right}
+use Rattle.tables.proofs.Cases.{by_cases, clash}
 use Rattle.tables.proofs.Conditions.{words_sized}
 use Rattle.rules.specs.Calls.{accepted, refused, unless}
 use Rattle.rules.specs.Entries.{Lent, lent, Outcome, outcome}
 use Rattle.rules.specs.Images.{image_bytes, image_refusal, image_into, image_entry, image_size, image_words, image_slots, image_sound, load_refusal, load_into, load_entry}
-use Rattle.answers.specs.declared.Done.{Done}
-use Rattle.answers.specs.declared.Done.TheVariants.{Accepted, Refused}
+use Rattle.std.proofs.Common.{Option, Some, None, Result, Ok, Err, ok_or}
+use Rattle.std.specs.Result.{result_eq}
+use Rattle.std.specs.contracts.prelude.UnitPartialEq.TheImpl.{eq-value as unit_same}
+use Rattle.answers.specs.contracts.RefusalPartialEq.TheImpl.{eq-value as refusal_same}
+use Rattle.answers.specs.declared.Refusal.{Refusal}
+use Rattle.answers.specs.declared.Refusal.TheVariants.{Unsound, Lengths}
+use Rattle.answers.specs.Refusals.{refused_number}
 use Rattle.answers.specs.Answers.{done}
 use Rattle.table_bytes.specs.Bytes.{encoded}
 use Rattle.table_bytes.proofs.Loops.{length_encoded}
-use Rattle.entry_image.specs.Promises.{imaged, Decoded}
-use Rattle.entry_image.proofs.ImageMeasure.{sound_inside, rest_slots, decoded_words, decoded_size}
-use Rattle.table_names.proofs.FourBytes.{front_long}
+use Rattle.entry_image.specs.Promises.{imaged, Measured, Decoded, SoundWords}
+use Rattle.entry_image.proofs.ImageMeasure.{not_sound, sound_inside, rest_slots, words_there}
 
 -- image
 module _ (ws ss area : List ℕ) (x : Bool) (ex : x ≡ sound ws ss) where
@@ -58,20 +62,9 @@ module _ (ws ss area : List ℕ) (x : Bool) (ex : x ≡ sound ws ss) where
               let short : length (drop (4 * length ws) all) ≤ length all - 4 * length ws = rw (length-drop (4 * length ws) all) (omega arith) in
               ap₂ (λ (us vs : List ℕ). us ++ (ys ++ vs)) front (drop_of_length-le (drop (4 * length ws) all) short) ∙ ap (λ (vs : List ℕ). encoded ws ++ vs) (append-nil ys ∙ ey)
 
--- the bytes for the words, of an area of this length
-module _ (ws area : List ℕ) (m : ℕ) (long : length area ≡ 4 * length ws + m) where
-  pub area_front : 4 * length ws ≡ length (take (4 * length ws) area)
-  area_front = front_long (4 * length ws) area (omega arith)
-
-  pub area_words : length (take (4 * length ws) area) ≡ 4 * length ws
-  area_words = sym area_front
-
-pub ruleset imaging = (rules, image_unsound, image_misfit, image_made, area_front, area_words)
+pub ruleset imaging = (rules, image_unsound, image_misfit, image_made)
 
 -- load_from
-pub both_fit : (a b : ℕ) (y : Bool) → not (eqb a b && y) ≡ false → a ≡ b
-both_fit a b y h = eqb-true a b (and_left _ _ (not-false (eqb a b && y) h))
-
 module _ (bs ws ss : List ℕ) (x : Bool) (ex : x ≡ image_sound bs) where
   pub load_unsound : not x ≡ true → outcome (refused 1) (lent ws ss) ≡ load_entry bs (lent ws ss)
   unfolding load_entry load_refusal unless load_into
@@ -82,11 +75,11 @@ module _ (bs ws ss : List ℕ) (x : Bool) (ex : x ≡ image_sound bs) where
     sound_here = sym ex ∙ not-false x right
 
     words_long : length (image_words bs) ≡ length zs
-    words_long = sym (ap length (decoded_words bs zs d sound_here))
+    words_long = sym (ap length (words_there bs zs d))
 
     slots_long : length (image_slots bs) ≡ length bs - 4 * length zs
     unfolding image_slots
-    slots_long = length-drop (4 * image_size bs) bs ∙ ap (λ (k : ℕ). length bs - 4 * k) (sym (decoded_size bs zs d sound_here))
+    slots_long = length-drop (4 * image_size bs) bs ∙ ap (λ (k : ℕ). length bs - 4 * k) (sym (d.counted.many))
 
     pub load_misfit : not (eqb (length ws) (length zs) && eqb (length ss) (length bs - 4 * length zs)) ≡ true → outcome (refused 14) (lent ws ss) ≡ load_entry bs (lent ws ss)
     unfolding load_entry load_refusal unless load_into
@@ -96,31 +89,36 @@ module _ (bs ws ss : List ℕ) (x : Bool) (ex : x ≡ image_sound bs) where
       both : (eqb (length ws) (length zs) && eqb (length ss) (length bs - 4 * length zs)) ≡ true
       both = not-false (eqb (length ws) (length zs) && eqb (length ss) (length bs - 4 * length zs)) fit
 
-      slots_fit : length ss ≡ length bs - 4 * length zs
-      slots_fit = eqb-true (length ss) (length bs - 4 * length zs) (and_right (eqb (length ws) (length zs)) _ both)
-
       part_is : take (length bs - 4 * length zs) (drop (4 * length zs) bs) ≡ image_slots bs
-      part_is = rest_slots bs (length zs) (decoded_size bs zs d sound_here)
-
-      pub load_slots : length ss ≡ length (take (length bs - 4 * length zs) (drop (4 * length zs) bs))
-      load_slots = slots_fit ∙ sym slots_long ∙ ap length (sym part_is)
+      part_is = rest_slots bs (length zs) (d.counted.many)
 
       pub load_done : (vs ts : List ℕ) → vs ≡ zs → ts ≡ take (length bs - 4 * length zs) (drop (4 * length zs) bs)
           → outcome (accepted 0 0) (lent vs ts) ≡ load_entry bs (lent ws ss)
       unfolding load_entry load_refusal unless load_into
       load_done vs ts ev et =
           rw (sound_here, words_long, slots_long, both)
-          (ap₂ (λ (v z : List ℕ). outcome (accepted 0 0) (lent v z)) (ev ∙ decoded_words bs zs d sound_here) (et ∙ part_is))
+          (ap₂ (λ (v z : List ℕ). outcome (accepted 0 0) (lent v z)) (ev ∙ words_there bs zs d) (et ∙ part_is))
 
-pub ruleset loading = (rules, load_unsound, load_misfit, load_slots, load_done)
+-- load: what has no words is none of sound tables
+pub load_unmeasured : (bs ws ss : List ℕ) (x : Option ℕ) (e : Refusal) → Measured bs x → ok_or x Unsound ≡ Err e → outcome (done (Err e)) (lent ws ss) ≡ load_entry bs (lent ws ss)
+unfolding load_entry load_refusal unless load_into
+load_unmeasured bs ws ss None e m is = let s : image_sound bs ≡ false = not_sound bs (sym m.right) in rw s (ap (λ (r : Result ℕ Refusal). outcome (refused (refused_number r)) (lent ws ss)) (sym is))
+load_unmeasured bs ws ss (Some n) e m is = absurd (cc)
 
--- sound_image: a large image that is loaded into nothing is refused for the lengths where it is sound
+pub ruleset loading = (rules, load_unsound, load_misfit, load_done, load_unmeasured)
+
+-- sound_words: what is loaded into nothing is refused for the lengths where it is sound
 refusal_kept : (bs : List ℕ) (t : Lent) (n : ℕ) → (load_into n bs t).said.refusal ≡ n
 unfolding load_into
 refusal_kept bs t zero = refl
 refusal_kept bs t (suc n) = refl
 
-module _ (bs ws ss : List ℕ) (d : Done) (told : outcome (done d) (lent ws ss) ≡ load_entry bs (lent [] [])) where
+-- whether it is refused so, by the number
+lengths_number : (d : Result Unit Refusal) → result_eq unit_same.it refusal_same.it d (Err Lengths) ≡ eqb (done d).refusal 14
+lengths_number (Ok x) = refl
+lengths_number (Err e) = grind arith
+
+module _ (bs ws ss : List ℕ) (d : Result Unit Refusal) (told : outcome (done d) (lent ws ss) ≡ load_entry bs (lent [] [])) where
   refusal_told : (done d).refusal ≡ load_refusal bs [] []
   unfolding load_entry
   refusal_told = ap (λ (o : Outcome). o.said.refusal) told ∙ refusal_kept bs (lent [] []) (load_refusal bs [] [])
@@ -135,20 +133,14 @@ module _ (bs ws ss : List ℕ) (d : Done) (told : outcome (done d) (lent ws ss) 
   unfolding load_refusal unless
   nothing_sound s = rw s
 
-  pub nothing_refused : (x : ℕ) → d ≡ Refused x → eqb x 14 ≡ image_sound bs
-  nothing_refused x e =
-      by_cases (image_sound bs)
-      (λ s. eq-eqb x 14 (number x (sym (ap (λ (y : Done). (done y).refusal) e) ∙ refusal_told ∙ nothing_fits s)) ∙ sym s)
-      (λ s. ne_eqb x 14 (λ q. absurd (omega (arith, rw q at (sym (ap (λ (y : Done). (done y).refusal) e) ∙ refusal_told ∙ nothing_sound s)))) ∙ sym s)
-    where
-      number : (x : ℕ) → (done (Refused x)).refusal ≡ 14 → x ≡ 14
-      number zero h = absurd (omega (arith, h))
-      number (suc n) h = h
+  same_sound : result_eq unit_same.it refusal_same.it d (Err Lengths) ≡ image_sound bs
+  same_sound = lengths_number d ∙ by_cases (image_sound bs) (λ s. rw (refusal_told, nothing_fits s) (sym s)) (λ s. rw (refusal_told, nothing_sound s) (sym s))
 
-  pub nothing_loaded : d ≡ Accepted → false ≡ image_sound bs
-  nothing_loaded e =
-      by_cases (image_sound bs)
-      (λ s. absurd (omega (arith, sym (ap (λ (y : Done). (done y).refusal) e) ∙ refusal_told ∙ nothing_fits s)))
-      sym
+  pub nothing_loaded : true ≡ not (result_eq unit_same.it refusal_same.it d (Err Lengths)) → SoundWords bs None
+  nothing_loaded h = record { sound = sym (not-true (image_sound bs) (rw same_sound at (sym h))); many = tt }
 
-pub ruleset nothing = (rules, nothing_refused, nothing_loaded)
+  pub nothing_refused : (x : Option ℕ) → false ≡ not (result_eq unit_same.it refusal_same.it d (Err Lengths)) → Measured bs x → SoundWords bs x
+  nothing_refused None h m = clash (image_sound bs) (not-false (image_sound bs) (rw same_sound at (sym h))) (not_sound bs (sym m.right))
+  nothing_refused (Some n) h m = record { sound = sym (not-false (image_sound bs) (rw same_sound at (sym h))); many = m.counted.many }
+
+pub ruleset nothing = (rules, nothing_loaded, nothing_refused)

@@ -1,27 +1,28 @@
 -- A lent list that is filled lock by lock: what stands in it after each, and at the end.
 use mathlib.Core.Path.{◌≡◌, refl, sym, ◌∙◌, ap, ap₂, subst}
-use mathlib.Core.Bool.{true, false, cond, not, ◌&&◌}
 use mathlib.Core.List.{List, [], ◌∷◌, ◌++◌, map}
 use Prim.Native.Nat.{ℕ, zero, suc, ◌≤◌, ◌<◌, ◌+◌}
 use native.Mathlib.Omega.{arith}
 use native.Mathlib.Numerals.{add-one}
 use lib.ListN.{get_or, set, length, take}
-use lib.Dec.{eqb, ltb}
-use borrow.Author.Tests.{ltb-true, ltb-false, lt-ltb, eqb-true, eqb-false, not-true, not-false}
 use Rattle.tables.specs.declared.LockEntry.{LockEntry}
-use Rattle.tables.specs.Lists.{count, next}
-use Rattle.tables.specs.State.{Tables, lock, resource, Queue, grants, converts, waits, queue_of}
+use Rattle.tables.specs.Lists.{count}
+use Rattle.tables.specs.State.{Tables, most_locks, lock, resource, Queue, grants, converts, waits, queue_of}
 use Rattle.tables.specs.Layout.{words, read_lock}
 use Rattle.tables.specs.Grants.{holders}
-use Rattle.tables.proofs.Cases.{by_cases, and_left, and_right}
 use Rattle.tables.proofs.Counts.{count_same, count_step}
 use Rattle.tables.proofs.ReadBack.{lock_read}
 use Rattle.rules.specs.Entries.{lock_entry, listed, fill}
 use Rattle.table_chains.specs.Promises.{Some, Tells, Resourced}
 use Rattle.table_chains.proofs.ChainWalks.{queue_onward}
-use Rattle.list_walker.specs.Order.{locks_on, first_on, Queued, next_on, PlaceOn, CountedOn}
-use Rattle.list_walker.proofs.ListsInARow.{first_at, at_on, at_next, at_inside, at_end}
-use Rattle.list_walker.proofs.ResourceLocks.{resource_on, range_on, once_on, queued_at, no_lock_zero}
+use Rattle.std.specs.Prelude as option
+use Rattle.table_chains.proofs.NumberOrNone.{is_number, above_none, none_is}
+use Rattle.list_walker.specs.declared.Walker.{Walker}
+use Rattle.list_walker.specs.Order.{locks_on, Queued, PlaceOn}
+use Rattle.list_walker.specs.Walks.{Begins, Steps}
+use Rattle.list_walker.proofs.WalkerReads.{place_inside}
+use Rattle.list_walker.proofs.ListsInARow.{at_end}
+use Rattle.list_walker.proofs.ResourceLocks.{range_on, few_on, queued_at, no_lock_zero}
 use Rattle.rules.specs.Calls.{accepted}
 use Rattle.entry_list.specs.Listings.{listing, entry_of, listing_of}
 use Rattle.entry_list.proofs.ListCore.{entry_by}
@@ -40,41 +41,24 @@ fill_next (x ∷ xs) [] i d h g = absurd (omega arith)
 fill_next (x ∷ xs) (y ∷ ys) zero d h g = ap (λ (l : List LockEntry). x ∷ l) (fill_none xs ys)
 fill_next (x ∷ xs) (y ∷ ys) (suc i) d h g = ap (λ (l : List LockEntry). x ∷ l) (fill_next xs ys i d (omega arith) (omega arith))
 
--- with as many as fit
+-- past its end
+fill_past : (xs ys : List LockEntry) (i : ℕ) → length ys ≤ i → fill (take i xs) ys ≡ fill (take (suc i) xs) ys
+unfolding fill
+fill_past xs [] i h = none (take i xs) ∙ sym (none (take (suc i) xs))
+  where
+    none : (xs : List LockEntry) → fill xs [] ≡ []
+    none [] = refl
+    none (x ∷ xs) = refl
+fill_past xs (y ∷ ys) zero h = absurd (omega arith)
+fill_past [] (y ∷ ys) (suc i) h = refl
+fill_past (x ∷ xs) (y ∷ ys) (suc i) h = ap (λ (l : List LockEntry). x ∷ l) (fill_past xs ys i (omega arith))
+
+-- with all
 fill_all : (xs ys : List LockEntry) → fill (take (length xs) xs) ys ≡ fill xs ys
 unfolding fill
 fill_all [] ys = refl
 fill_all (x ∷ xs) [] = refl
 fill_all (x ∷ xs) (y ∷ ys) = ap (λ (l : List LockEntry). x ∷ l) (fill_all xs ys)
-
-fill_some : (xs ys : List LockEntry) → length ys ≤ length xs → fill (take (length ys) xs) ys ≡ fill xs ys
-unfolding fill
-fill_some [] [] h = refl
-fill_some [] (y ∷ ys) h = absurd (omega arith)
-fill_some (x ∷ xs) [] h = refl
-fill_some (x ∷ xs) (y ∷ ys) h = ap (λ (l : List LockEntry). x ∷ l) (fill_some xs ys (omega arith))
-
--- as many of n as fit into that room
-unfoldable pub fitting : ℕ → ℕ → ℕ
-fitting n room = cond (ltb n room) n room
-
-pub fill_fitting : (xs ys : List LockEntry) → fill (take (fitting (length xs) (length ys)) xs) ys ≡ fill xs ys
-unfolding fitting
-fill_fitting xs ys =
-    by_cases (ltb (length xs) (length ys))
-    (λ h. rw h (fill_all xs ys))
-    (λ h. rw h (fill_some xs ys (ltb-false (length xs) (length ys) h)))
-
--- where it ends, there is no room or none is left
-fitting_is : (n room i : ℕ) → i ≤ n → i ≤ room → (i < room → i ≡ n) → i ≡ fitting n room
-unfolding fitting
-fitting_is n room i a b last =
-    by_cases (ltb n room)
-    (λ h. let l = ltb-true n room h in rw h (last (omega arith)))
-    (λ h. let l = ltb-false n room h in let full : i ≡ room = grind arith in rw h full)
-
-none_left : (i k room : ℕ) → i < room → (ltb i room && not (eqb k 0)) ≡ false → k ≡ 0
-none_left i k room h off = eqb-true k 0 (not-false (eqb k 0) (rw (lt-ltb i room h) at off))
 
 -- THE LOCKS ON r of a state, by their places
 length_map : (f : ℕ → LockEntry) (xs : List ℕ) → length (map f xs) ≡ length xs
@@ -119,103 +103,92 @@ module _ (r : ℕ) (t u : Tables) (p : Resourced r t) (g : Resourced r u) (same 
       ∙ map_same (lock_entry t) (lock_entry u) (locks_on r t) (λ k m. ap (entry_by k) (lock_same k m))
       ∙ ap (map (lock_entry u)) locks_same ∙ sym (listed_locks r u)
 
--- LIST_INTO, lock by lock: what the walker and the core say
-module _ (r : ℕ) (t : Tables) (p : Resourced r t) (ws : List ℕ) (is : ws ≡ words t) where
-  pub fill_first : (x : ℕ) → Tells (Resourced r) (first_on r) ws x → x ≡ get_or (locks_on r t) 0 0
-  unfolding first_on
-  fill_first x told = told.then t p is ∙ first_at (locks_on r t)
-
-  -- the rest is counted from there
-  place_at : (i : ℕ) → i ≤ length (locks_on r t) → PlaceOn r i (get_or (locks_on r t) i 0) t
-  place_at i h = record { there = p; near = h; here = refl }
-
-  pub fill_count : (i n : ℕ) → i ≤ length (locks_on r t) → CountedOn i (get_or (locks_on r t) i 0) ws n → n ≡ length (locks_on r t)
-  fill_count i n h told = told.then r t (place_at i h) is
-
-  module _ (i : ℕ) (h : i < length (locks_on r t)) where
-    pub fill_queued : Some (Queued (get_or (locks_on r t) i 0)) ws
-    fill_queued = record { state = t; good = queued_at t p.core r i h; is = is }
-
-    pub fill_follows : (x : ℕ) → Tells (Queued (get_or (locks_on r t) i 0)) (next_on (get_or (locks_on r t) i 0)) ws x → x ≡ get_or (locks_on r t) (suc i) 0
-    unfolding next_on
-    fill_follows x told =
-        told.then t (queued_at t p.core r i h) is
-        ∙ ap (λ (s : ℕ). next (get_or (locks_on r t) i 0) (locks_on s t)) (resource_on t p.core r (get_or (locks_on r t) i 0) (at_on (locks_on r t) i h))
-        ∙ at_next (locks_on r t) i (once_on t p.core r) h
-
-    pub fill_entry : (e d : LockEntry) → Tells (Queued (get_or (locks_on r t) i 0)) (entry_of (get_or (locks_on r t) i 0)) ws e → e ≡ get_or (listed t r) i d
-    unfolding entry_of
-    fill_entry e d told = told.then t (queued_at t p.core r i h) is ∙ at_map (lock_entry t) (locks_on r t) i d h ∙ sym (ap (λ (l : List LockEntry). get_or l i d) (listed_locks r t))
-
-  -- and at the end
-  pub fill_ends : (ys : List LockEntry) → Tells (Resourced r) (listing_of r ys) ws (listing (accepted (length (locks_on r t)) 0) (fill (take (fitting (length (locks_on r t)) (length ys)) (listed t r)) ys))
-  unfolding listing_of
-  fill_ends ys = record {
-    then = λ u g same.
-        let e : listed t r ≡ listed u r = listed_same r t u p g (sym is ∙ same) in
-        λ j. record {
-          refusal = 0;
-          count = (sym (length_listed r t) ∙ ap length e) j;
-          entries = (ap (λ (n : ℕ). fill (take (fitting n (length ys)) (listed t r)) ys) (sym (length_listed r t)) ∙ fill_fitting (listed t r) ys ∙ ap (λ (l : List LockEntry). fill l ys) e) j;
-        };
-  }
-
--- LIST_INTO, turn by turn: i places are filled, and k is the lock at place i of those on r
-pub record Filling (r : ℕ) (ws : List ℕ) (ys : List LockEntry) (i k : ℕ) (zs : List LockEntry) : Type 0 where
+-- LIST_INTO, lock by lock: count locks are listed, as many of them as fit, and the walker w stands at the next
+pub record Filling (r : ℕ) (ws : List ℕ) (ys : List LockEntry) (w : Walker) (count : ℕ) (zs : List LockEntry) : Type 0 where
+  pub lent : w.words.now ≡ ws
+  pub given : count ≡ w.given
   pub state : Tables
-  pub there : Resourced r state
   pub is : ws ≡ words state
-  pub near : i ≤ length (locks_on r state)
-  pub fits : i ≤ length ys
-  pub here : k ≡ get_or (locks_on r state) i 0
-  pub rows : zs ≡ fill (take i (listed state r)) ys
+  pub place : PlaceOn r w.given w.lock state
+  pub rows : zs ≡ fill (take w.given (listed state r)) ys
 
-module _ (r : ℕ) (ws : List ℕ) (ys : List LockEntry) where
-  pub filling_starts : Some (Resourced r) ws → (k : ℕ) → Tells (Resourced r) (first_on r) ws k → Filling r ws ys 0 k ys
-  filling_starts s k told = record {
+module _ (r : ℕ) (ws : List ℕ) (ys : List LockEntry) (w : Walker) where
+  pub filling_starts : Some (Resourced r) ws → Begins ws r w → Filling r ws ys w 0 ys
+  filling_starts s b = record {
+    lent = b.lent;
+    given = sym b.none;
     state = s.state;
-    there = s.good;
     is = s.is;
-    near = omega arith;
-    fits = omega arith;
-    here = fill_first r s.state s.good ws s.is k told;
-    rows = fill_none (listed s.state r) ys;
+    place = b.place s.state s.good s.is;
+    rows = rw b.none (fill_none (listed s.state r) ys);
   }
 
-  module _ (i k : ℕ) (zs : List LockEntry) (f : Filling r ws ys i k zs) where
-    -- the loop goes on while there is room and a lock
-    module _ (on : (ltb i (length ys) && not (eqb k 0)) ≡ true) where
-      room_left : i < length ys
-      room_left = ltb-true i (length ys) (and_left (ltb i (length ys)) _ on)
+  module _ (count : ℕ) (zs : List LockEntry) (f : Filling r ws ys w count zs) where
+    module _ (k : ℕ) (v : Walker) (st : Steps w (option.Some k) v) where
+      here : k ≡ w.lock
+      here = is_number k w.lock st.gives
 
-      lock_left : i < length (locks_on r f.state)
-      lock_left = at_inside (locks_on r f.state) i (λ z. eqb-false k 0 (not-true (eqb k 0) (and_right (ltb i (length ys)) _ on)) (f.here ∙ z))
+      inside : w.given < length (locks_on r f.state)
+      inside = place_inside r w.given w.lock f.state f.place (λ z. let q = above_none k w.lock st.gives in omega (arith, here))
+
+      queued : Queued k f.state
+      queued = subst (λ (j : ℕ). Queued j f.state) (sym (here ∙ f.place.here)) (queued_at f.state f.place.there.core r w.given inside)
 
       pub filling_queued : Some (Queued k) ws
-      filling_queued = rw f.here (fill_queued r f.state f.there ws f.is i lock_left)
+      filling_queued = record { state = f.state; good = queued; is = f.is }
 
-      pub filling_goes : (e : LockEntry) (x : ℕ) → Tells (Queued k) (entry_of k) ws e → Tells (Queued k) (next_on k) ws x → Filling r ws ys (i + 1) x (set zs i e)
-      filling_goes e x entry follows =
-          let below : i < length (listed f.state r) = rw (length_listed r f.state) lock_left in
-          rw (add-one i)
-          (record {
+      pub filling_few : count < most_locks
+      filling_few = omega (arith, f.given, inside, few_on f.state f.place.there.core r, f.place.there.core.locks_high)
+
+      one_more : v.given ≡ suc w.given
+      one_more = st.one_more k refl ∙ add-one w.given
+
+      further : PlaceOn r v.given v.lock f.state
+      further = st.place k refl r f.state f.place (f.lent ∙ f.is)
+
+      pub filling_full : (us : List LockEntry) → us ≡ zs → length ys ≤ count → Filling r ws ys v (count + 1) us
+      filling_full us eu full = record {
+        lent = st.same ∙ f.lent;
+        given = ap (λ (n : ℕ). n + 1) f.given ∙ sym (st.one_more k refl);
+        state = f.state;
+        is = f.is;
+        place = further;
+        rows = rw one_more (eu ∙ f.rows ∙ fill_past (listed f.state r) ys w.given (omega (arith, f.given)));
+      }
+
+      pub filling_goes : (us : List LockEntry) (e : LockEntry) → us ≡ set zs count e → count < length ys → Tells (Queued k) (entry_of k) ws e → Filling r ws ys v (count + 1) us
+      unfolding entry_of
+      filling_goes us e eu room entry =
+          let below : w.given < length (listed f.state r) = rw (length_listed r f.state) inside in
+          let is : e ≡ get_or (listed f.state r) w.given e =
+          entry.then f.state queued f.is ∙ ap (lock_entry f.state) (here ∙ f.place.here) ∙ at_map (lock_entry f.state) (locks_on r f.state) w.given e inside
+          ∙ sym (ap (λ (l : List LockEntry). get_or l w.given e) (listed_locks r f.state)) in
+          record {
+            lent = st.same ∙ f.lent;
+            given = ap (λ (n : ℕ). n + 1) f.given ∙ sym (st.one_more k refl);
             state = f.state;
-            there = f.there;
             is = f.is;
-            near = lock_left;
-            fits = room_left;
-            here = fill_follows r f.state f.there ws f.is i lock_left x (rw f.here at follows);
-            rows =
-                ap₂ (λ (l : List LockEntry) (d : LockEntry). set l i d) f.rows (fill_entry r f.state f.there ws f.is i lock_left e e (rw f.here at entry))
-                ∙ fill_next (listed f.state r) ys i e below room_left;
-          })
+            place = further;
+            rows = rw one_more
+                (eu
+                ∙ ap (λ (n : ℕ). set zs n e) f.given ∙ ap₂ (λ (l : List LockEntry) (d : LockEntry). set l w.given d) f.rows is
+                ∙ fill_next (listed f.state r) ys w.given e below (omega (arith, f.given)));
+          }
 
-    -- so it ends where as many are listed as fit, and the rest is counted from there
-    pub filling_ends : (ltb i (length ys) && not (eqb k 0)) ≡ false → (n : ℕ) → CountedOn i k ws n → Tells (Resourced r) (listing_of r ys) ws (listing (accepted n 0) zs)
-    filling_ends off n told =
-        let last : i ≡ fitting (length (locks_on r f.state)) (length ys) =
-        fitting_is (length (locks_on r f.state)) (length ys) i f.near f.fits
-        (λ h. at_end (locks_on r f.state) i (no_lock_zero f.state f.there.core r) f.near (sym f.here ∙ none_left i k (length ys) h off)) in
-        let all : n ≡ length (locks_on r f.state) = fill_count r f.state f.there ws f.is i n f.near (rw f.here at told) in
-        let rows : zs ≡ fill (take (fitting (length (locks_on r f.state)) (length ys)) (listed f.state r)) ys = f.rows ∙ ap (λ (j : ℕ). fill (take j (listed f.state r)) ys) last in
-        rw (all, rows) (fill_ends r f.state f.there ws f.is ys)
+    pub filling_small : count ≤ most_locks
+    filling_small = omega (arith, f.given, f.place.near, few_on f.state f.place.there.core r, f.place.there.core.locks_high)
+
+    pub filling_ends : (v : Walker) → Steps w option.None v → Tells (Resourced r) (listing_of r ys) ws (listing (accepted count 0) zs)
+    unfolding listing_of
+    filling_ends v st = record {
+      then = λ u g same.
+          let t = f.state in
+          let e : listed t r ≡ listed u r = listed_same r t u f.place.there g (sym f.is ∙ same) in
+          let all : w.given ≡ length (listed t r) = at_end (locks_on r t) w.given (no_lock_zero t f.place.there.core r) f.place.near (sym f.place.here ∙ none_is w.lock st.gives) ∙ sym (length_listed r t) in
+          let rows : zs ≡ fill (listed t r) ys = f.rows ∙ ap (λ (n : ℕ). fill (take n (listed t r)) ys) all ∙ fill_all (listed t r) ys in
+          λ i. record {
+            refusal = 0;
+            count = (f.given ∙ all ∙ ap length e) i;
+            entries = (rows ∙ ap (λ (l : List LockEntry). fill l ys) e) i;
+          };
+    }

@@ -1,4 +1,4 @@
--- A listing by its entry's definition: refused_with, or what was listed.
+-- A listing by its entry's definition: refused, or what was listed.
 use mathlib.Core.Path.{◌≡◌, refl, sym, ◌∙◌, ap, subst}
 use mathlib.Core.Bool.{true}
 use mathlib.Core.List.{List}
@@ -13,16 +13,20 @@ use Rattle.tables.proofs.Counts.{count_append}
 use Rattle.tables.specs.Validity.{Core}
 use Rattle.tables.proofs.ChainMembers.{holder_in}
 use Rattle.tables.proofs.Written.{Writes, sound_written}
-use Rattle.rules.specs.Calls.{accepted, unless}
+use Rattle.rules.specs.Calls.{accepted, refused, unless}
 use Rattle.rules.specs.Entries.{look_refusal, list_locks, list_if, list_entry}
 use Rattle.rules.proofs.AcceptedCalls.{passed, next_test}
 use Rattle.table_chains.specs.Promises.{Some, Tells, Resourced}
 use Rattle.list_walker.specs.Order.{locks_on, Queued}
 use Rattle.list_walker.proofs.ResourceLocks.{queued_resourced}
-use Rattle.answers.specs.Answers.{refused_with}
+use Rattle.std.specs.Prelude.{Result, IsErrAnd}
+use Rattle.answers.specs.declared.Refusal.{Refusal}
+use Rattle.answers.specs.Refusals.{refusal_number}
+use Rattle.answers.specs.Answers.{list_said}
+use Rattle.call_refusals.proofs.PassedUp.{above_zero, passed_up}
 use Rattle.entry_list.specs.Listings.{listing, list_refusal, resource_of, listing_of}
 
-locks_refused : (n r : ℕ) (t : Tables) (es : List LockEntry) → (n ≡ 0 → ⊥) → listing (refused_with n) es ≡ list_locks n r t es
+locks_refused : (n r : ℕ) (t : Tables) (es : List LockEntry) → (n ≡ 0 → ⊥) → listing (refused n) es ≡ list_locks n r t es
 unfolding list_locks
 locks_refused zero r t es h = absurd (h refl)
 locks_refused (suc n) r t es h = refl
@@ -33,9 +37,9 @@ unfolding locks_on
 holder_queued k t core h = record { core = core; on = rw count_append (omega (arith, holder_in t core.linked (lock t k).resource k h refl)) }
 
 module _ (ws ss : List ℕ) (c k n : ℕ) (en : n ≡ list_refusal ws ss c k) where
-  pub answer_refused : (es : List LockEntry) → (n ≡ 0 → ⊥) → listing (refused_with n) es ≡ list_entry ws ss c k es
+  refused_listing : (es : List LockEntry) → (n ≡ 0 → ⊥) → listing (refused n) es ≡ list_entry ws ss c k es
   unfolding list_entry list_if list_refusal unless
-  answer_refused es h =
+  refused_listing es h =
       by_cases (sound ws ss)
       (λ s. let e : n ≡ look_refusal c k (read ws ss) = rw s at en in
       rw (s, list_if, sym e) (locks_refused n (lock (read ws ss) k).resource (read ws ss) es h))
@@ -77,3 +81,7 @@ module _ (ws ss : List ℕ) (c k n : ℕ) (en : n ≡ list_refusal ws ss c k) wh
       answer_listed m es zs told =
           rw (is_sound, list_if, looked)
           (told.then (read ws ss) resourced w.is ∙ ap (λ (s : ℕ). list_locks 0 s (read ws ss) es) resource_is)
+
+pub answer_refused : (ws ss : List ℕ) (c k : ℕ) (x : Result ℕ Refusal) (e : Refusal) → IsErrAnd x (λ d. d ≡ e) → refusal_number e ≡ list_refusal ws ss c k
+    → (es : List LockEntry) → listing (list_said x) es ≡ list_entry ws ss c k es
+answer_refused ws ss c k x e up en es = ap (λ (y : Result ℕ Refusal). listing (list_said y) es) (passed_up x e up) ∙ refused_listing ws ss c k (refusal_number e) en es (above_zero e)

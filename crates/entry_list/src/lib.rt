@@ -7,17 +7,19 @@ ghost use Rattle.table_chains.specs.Promises.{Some, Tells, Resourced};
 ghost use Rattle.list_walker.specs.Order.{Queued};
 ghost use Rattle.rules.specs.Calls.{accepted};
 ghost use Rattle.answers.specs.Answers.{list_said};
+ghost use Rattle.answers.specs.Refusals.{refused_number};
 ghost use Rattle.entry_list.specs.Listings.{listing, list_refusal, resource_of, entry_of, listing_of};
 
-use answers::Listed;
+use answers::Refusal;
+use list_walker::Walker;
 use tables::LockEntry;
 
-// Why a listing is turned down, or 0.
-fn list_refusal(words: &[u32], slots: &[u8], client: u32, k: u32) -> u32
-    ensures { result ≡ list_refusal words.now slots.now client k }
+// Why a listing is turned down, if it is.
+fn list_refusal(words: &[u32], slots: &[u8], client: u32, k: u32) -> Result<(), Refusal>
+    ensures { refused_number result ≡ list_refusal words.now slots.now client k }
 {
     if !check_tables::sound(words, slots) {
-        return call_refusals::UNSOUND;
+        return Err(Refusal::Unsound);
     }
     call_refusals::look_refusal(words, client, k)
 }
@@ -51,26 +53,27 @@ fn list_into(entries: &mut [LockEntry], words: &[u32], r: u32) -> u32
     requires { Some (Resourced r) words.now }
     ensures { Tells (Resourced r) (listing_of r entries.old) words.now (listing (accepted result 0) entries.new) }
 {
-    let room = entries.len();
-    let mut walker = list_walker::start(words, r);
-    let mut i = 0;
-    while (i < room) & (walker.lock != 0) {
-        entries[i] = entry_of(words, walker.lock);
-        walker = list_walker::step(walker);
-        i += 1;
+    let mut count = 0;
+    for k in Walker::new(words, r) {
+        if count < entries.len() {
+            entries[count] = entry_of(words, k);
+        }
+        count += 1;
     }
-    list_walker::count_from(words, walker.lock, i)
+    count as u32
 }
 
 // The locks of the resource on which the client's lock k stands, in grant, convert, wait order: as many as fit into the
 // lent list, and the true count. Entries past these stay as they were.
-pub fn list(words: &[u32], slots: &[u8], client: u32, k: u32, entries: &mut [LockEntry]) -> Listed
+pub fn list(
+    words: &[u32],
+    slots: &[u8],
+    client: u32,
+    k: u32,
+    entries: &mut [LockEntry],
+) -> Result<u32, Refusal>
     ensures { listing (list_said result) entries.new ≡ list_entry words.now slots.now client k entries.old }
 {
-    let refusal = list_refusal(words, slots, client, k);
-    if refusal != 0 {
-        return Listed::Refused(refusal);
-    }
-    let count = list_into(entries, words, resource_of(words, k));
-    Listed::Count(count)
+    list_refusal(words, slots, client, k)?;
+    Ok(list_into(entries, words, resource_of(words, k)))
 }

@@ -1,22 +1,21 @@
 -- The value block that a read gives.
 use mathlib.Core.Path.{◌≡◌, refl, sym, ap, ◌∙◌}
-use mathlib.Core.Bool.{Bool, true, false, not}
+use mathlib.Core.Bool.{Bool, true, false}
 use mathlib.Core.List.{List}
 use Prim.Native.Nat.{ℕ, zero, suc, ◌*◌, ◌≤◌}
 use native.Mathlib.Omega.{arith}
 use lib.ListN.{length, drop}
-use borrow.Author.Tests.{not-true}
 use borrow.Author.Rules.{rules}
 use Rattle.tables.specs.declared.Lock.{Lock}
 use Rattle.tables.specs.Lists.{within}
-use Rattle.tables.specs.State.{Tables, name_width, lock, resource, holds}
+use Rattle.tables.specs.State.{Tables, name_width, no_value, lock, resource, holds}
 use Rattle.tables.specs.Layout.{of_resource, of_lock, slot_width, resources_in, locks_in, word_in, slot_in, words, read, read_lock}
 use Rattle.tables.specs.Sound.{sound}
 use Rattle.tables.proofs.Counts.{within_le}
 use Rattle.tables.proofs.ChainMembers.{holder_within}
 use Rattle.tables.specs.Validity.{used, Core}
 use Rattle.tables.proofs.Valid.{holder_place, used_within}
-use Rattle.tables.proofs.Written.{Writes}
+use Rattle.tables.proofs.Written.{Writes, sound_written}
 use Rattle.rules.specs.Entries.{Reading, look_refusal, read_value, read_if, read_entry}
 use Rattle.rules.proofs.AcceptedCalls.{passed, next_test}
 use Rattle.table_fields.specs.Sizes.{Sized}
@@ -24,8 +23,14 @@ use Rattle.table_fields.proofs.StateWords.{resources_is, core_sized, lock_low, l
 use Rattle.table_chains.specs.Promises.{Tells}
 use Rattle.table_names.proofs.StateNames.{slot_there, value_is}
 use Rattle.queues.specs.Promises.{SomeTables}
-use Rattle.entry_read.specs.Reads.{no_reading, HoldingLock, TellsBoth, value_beside}
-use Rattle.table_chains.proofs.FoundSound.{found_sound, found_written, found_core}
+use Rattle.entry_read.specs.Reads.{reading, HoldingLock, TellsBoth, value_beside}
+use Rattle.std.specs.Prelude.{Result, Err, IsErrAnd}
+use Rattle.table_chains.specs.Promises as chains
+use Rattle.answers.specs.declared.Refusal.{Refusal}
+use Rattle.answers.specs.declared.Refusal.TheVariants as refusals
+use Rattle.answers.specs.Refusals.{refusal_number}
+use Rattle.call_refusals.proofs.PassedUp.{above_zero, passed_up}
+use Rattle.entry_read.specs.declared.ValueRead.{ValueRead}
 
 -- a lock that holds a mode is one of the locks, and its resource is one of the resources
 module _ (k : ℕ) (t : Tables) (p : HoldingLock k t) where
@@ -76,51 +81,61 @@ module _ (k : ℕ) (ws ss : List ℕ) where
         }
 
 -- THE ENTRY
-refused_reading : (n : ℕ) (r : ℕ) (t : Tables) → (n ≡ 0 → ⊥) → no_reading n ≡ read_value n r t
+refused_reading : (e : Refusal) (r : ℕ) (t : Tables) → reading (Err e) ≡ read_value (refusal_number e) r t
 unfolding read_value
-refused_reading zero r t z = absurd (z refl)
-refused_reading (suc n) r t z = refl
+refused_reading e r t = go (refusal_number e) (above_zero e)
+  where
+    go : (n : ℕ) → (n ≡ 0 → ⊥) → record { refusal = n; value = no_value; valid = 0 } ≡ read_value n r t
+    go zero z = absurd (z refl)
+    go (suc n) z = refl
 
 look_passed : (c k : ℕ) (t : Tables) → look_refusal c k t ≡ 0 → holds (lock t k) ≡ true
 unfolding look_refusal
 look_passed c k t h = passed _ 9 _ (next_test _ 7 _ (next_test _ 2 _ h))
 
 module _ (ws ss : List ℕ) (b : Bool) (checked : b ≡ sound ws ss) (c k : ℕ) where
-  pub read_unsound : not b ≡ true → (x : Reading) → x ≡ no_reading 1 → x ≡ read_entry ws ss c k
+  pub read_unsound : b ≡ false → reading (Err refusals.Unsound) ≡ read_entry ws ss c k
   unfolding read_entry read_if
-  read_unsound q x e = rw (← checked, not-true b q) e
+  read_unsound q = rw (← checked, q)
 
-  module _ (ok : not b ≡ false) where
+  module _ (ok : b ≡ true) where
     abbrev t : Tables
     t = read ws ss
 
+    good_words : sound ws ss ≡ true
+    good_words = sym checked ∙ ok
+
     w : Writes ws ss t
-    w = found_written ws ss b checked ok
+    w = sound_written ws ss good_words
+
+    pub read_core : chains.Some Core ws
+    read_core = record { state = t; good = w.valid.core; is = w.is }
 
     entry_is : read_value (look_refusal c k t) (lock t k).resource t ≡ read_entry ws ss c k
     unfolding read_entry read_if
-    entry_is = rw (found_sound ws ss b checked ok)
+    entry_is = rw good_words
 
-    module _ (n : ℕ) (en : Tells Core (look_refusal c k) ws n) where
-      n_is : n ≡ look_refusal c k t
-      n_is = en.then t w.valid.core w.is
+    pub read_refused : (x : Result ValueRead Refusal) (e : Refusal) → IsErrAnd x (λ d. d ≡ e) → Tells Core (look_refusal c k) ws (refusal_number e) → reading x ≡ read_entry ws ss c k
+    read_refused x e up en =
+        ap reading (passed_up x e up) ∙ refused_reading e (lock t k).resource t
+        ∙ ap (λ (i : ℕ). read_value i (lock t k).resource t) (en.then t w.valid.core w.is) ∙ entry_is
 
-      pub read_refused : (n ≡ 0 → ⊥) → (x : Reading) → x ≡ no_reading n → x ≡ read_entry ws ss c k
-      read_refused z x e = e ∙ refused_reading n (lock t k).resource t z ∙ ap (λ (i : ℕ). read_value i (lock t k).resource t) n_is ∙ entry_is
+    module _ (goes : Tells Core (look_refusal c k) ws 0) where
+      n_is : 0 ≡ look_refusal c k t
+      n_is = goes.then t w.valid.core w.is
 
-      module _ (none : n ≡ 0) where
-        good : HoldingLock k t
-        good = record { core = w.valid.core; is_holder = look_passed c k t (sym n_is ∙ none) }
+      good : HoldingLock k t
+      good = record { core = w.valid.core; is_holder = look_passed c k t (sym n_is) }
 
-        pub read_lent : SomeTables (HoldingLock k) ws ss
-        read_lent = record { state = t; good = good; is = w.is; slots_are = w.slots_are }
+      pub read_lent : SomeTables (HoldingLock k) ws ss
+      read_lent = record { state = t; good = good; is = w.is; slots_are = w.slots_are }
 
-        pub read_done : (x : Reading) → TellsBoth (HoldingLock k) (value_beside k) ws ss x → x ≡ read_entry ws ss c k
-        unfolding value_beside read_value
-        read_done x told =
-            told.then t good w.is w.slots_are
-            ∙ ap (λ (i : ℕ). read_value i (lock t k).resource t) (sym none ∙ n_is) ∙ entry_is
+      pub read_done : (x : Reading) → TellsBoth (HoldingLock k) (value_beside k) ws ss x → x ≡ read_entry ws ss c k
+      unfolding value_beside read_value
+      read_done x told =
+          told.then t good w.is w.slots_are
+          ∙ ap (λ (i : ℕ). read_value i (lock t k).resource t) n_is ∙ entry_is
 
 pub ruleset placing = (rules, placed_sized, placed_lock, placed_resource, placed_slot, value_told)
 
-pub ruleset reads = (rules, read_unsound, found_core, read_refused, read_lent, read_done)
+pub ruleset reads = (rules, read_unsound, read_core, read_refused, read_lent, read_done)

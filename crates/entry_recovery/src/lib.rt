@@ -5,59 +5,50 @@
 ghost use Rattle.rules.specs.Entries.{lent, to_cancel, to_purge, to_break, to_poll, Keeps};
 ghost use Rattle.answers.specs.Answers.{cancelled, purged, broken, polled};
 
-use answers::{Broken, Cancelled, Polled, Purged};
-use call_refusals::UNSOUND;
+use answers::{Cancelled, Notice, Purged, Refusal};
 use check_tables::{sound, survey};
 
 // A blocked lock waits no longer: a conversion is taken back, a waiting request is freed.
-pub fn cancel(words: &mut [u32], slots: &[u8], client: u32, lock: u32) -> Cancelled
+#[tactic(auto, using(entry_laws::proofs::EntryOutcomes::entering))]
+pub fn cancel(words: &mut [u32], slots: &[u8], client: u32, lock: u32) -> Result<Cancelled, Refusal>
     ensures { Keeps (to_cancel client lock) (lent words.old slots.now) (cancelled result) (lent words.new slots.now) }
 {
-    let seen = survey(words, slots, lock);
-    if !seen.sound {
-        return Cancelled::Refused(UNSOUND);
-    }
-    let refusal = call_refusals::cancel_refusal(words, client, lock);
-    if refusal != 0 {
-        return Cancelled::Refused(refusal);
-    }
-    call_release::cancel_change(words, lock, seen.last)
+    let hints = survey(words, slots, lock).ok_or(Refusal::Unsound)?;
+    call_refusals::cancel_refusal(words, client, lock)?;
+    Ok(call_release::cancel_change(words, lock, hints.last))
 }
 
 // All of a client's locks are freed, as when its unit died.
-pub fn purge(words: &mut [u32], slots: &mut [u8], client: u32) -> Purged
+#[tactic(auto, using(entry_laws::proofs::EntryOutcomes::entering))]
+pub fn purge(words: &mut [u32], slots: &mut [u8], client: u32) -> Result<Purged, Refusal>
     ensures { Keeps (to_purge client) (lent words.old slots.old) (purged result) (lent words.new slots.new) }
 {
     if !sound(words, slots) {
-        return Purged::Refused(UNSOUND);
+        return Err(Refusal::Unsound);
     }
-    let refusal = call_refusals::client_refusal(client);
-    if refusal != 0 {
-        return Purged::Refused(refusal);
-    }
-    call_purge::purge_change(words, slots, client)
+    call_refusals::client_refusal(client)?;
+    Ok(call_purge::purge_change(words, slots, client))
 }
 
 // The longest blocked request of a deadlock is denied. (`break` is a word of the language.)
-pub fn break_deadlock(words: &mut [u32], slots: &[u8]) -> Broken
+#[tactic(auto, using(entry_laws::proofs::EntryOutcomes::entering))]
+pub fn break_deadlock(words: &mut [u32], slots: &[u8]) -> Result<Option<u32>, Refusal>
     ensures { Keeps to_break (lent words.old slots.now) (broken result) (lent words.new slots.now) }
 {
     if !sound(words, slots) {
-        return Broken::Refused(UNSOUND);
+        return Err(Refusal::Unsound);
     }
-    call_notice::break_change(words)
+    Ok(call_notice::break_change(words))
 }
 
 // The client's first notice is taken.
-pub fn poll(words: &mut [u32], slots: &[u8], client: u32) -> Polled
+#[tactic(auto, using(entry_laws::proofs::EntryOutcomes::entering))]
+pub fn poll(words: &mut [u32], slots: &[u8], client: u32) -> Result<Option<Notice>, Refusal>
     ensures { Keeps (to_poll client) (lent words.old slots.now) (polled result) (lent words.new slots.now) }
 {
     if !sound(words, slots) {
-        return Polled::Refused(UNSOUND);
+        return Err(Refusal::Unsound);
     }
-    let refusal = call_refusals::client_refusal(client);
-    if refusal != 0 {
-        return Polled::Refused(refusal);
-    }
-    call_notice::poll_change(words, client)
+    call_refusals::client_refusal(client)?;
+    Ok(call_notice::poll_change(words, client))
 }

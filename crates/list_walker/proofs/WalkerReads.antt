@@ -21,9 +21,15 @@ use Rattle.table_fields.specs.Sizes.{Sized}
 use Rattle.table_fields.proofs.StateWords.{locks_is, lock_record}
 use Rattle.table_chains.specs.Promises.{Some, Tells, Resourced}
 use Rattle.table_chains.proofs.ChainWalks.{some_sized, queue_first, here_sized, here_low, here_high}
-use Rattle.list_walker.specs.Order.{locks_on, first_on, queues_past, first_past, Queued, next_on, PlaceOn, SomePlaceOn, CountedOn}
-use Rattle.list_walker.proofs.ListsInARow.{at_on, at_inside, at_end, at_next}
-use Rattle.list_walker.proofs.ResourceLocks.{Split, split_next, split_past, none_zero, no_lock_zero, resource_on, once_on, few_on, queued_at, queued_range, queued_resourced, split_here}
+use Rattle.std.specs.Prelude as option
+use Rattle.std.proofs.Common.{Bor}
+use Rattle.std.specs.Iterator.{MakesProgress, at_most}
+use Rattle.table_chains.proofs.NumberOrNone.{some_number}
+use Rattle.list_walker.specs.declared.Walker.{Walker}
+use Rattle.list_walker.specs.Order.{locks_on, first_on, queues_past, first_past, Queued, next_on, PlaceOn}
+use Rattle.list_walker.specs.Walks.{Stands, Begins, Steps}
+use Rattle.list_walker.proofs.ListsInARow.{first_at, at_on, at_inside, at_next}
+use Rattle.list_walker.proofs.ResourceLocks.{Split, split_next, split_past, none_zero, resource_on, once_on, few_on, queued_at, queued_range, queued_resourced, split_here}
 
 -- first_past: by the numbers of the state, and of the three heads
 module _ (x : Resource) (g c w : ℕ) (eg : g ≡ first x.grant) (ec : c ≡ first x.convert) (ew : w ≡ first x.wait) (zg : count 0 x.grant ≡ 0) (zc : count 0 x.convert ≡ 0) where
@@ -136,12 +142,28 @@ module _ (ws : List ℕ) (k : ℕ) where
 
 pub ruleset follow_laws = (rules, queued_sized, queued_low, queued_high, follows_link, follows_resourced, follows_past)
 
--- count_from
+-- WALKER. It begins at the first lock on r
+module _ (ws : List ℕ) (r x : ℕ) (told : Tells (Resourced r) (first_on r) ws x) where
+  first_place : (t : Tables) → Resourced r t → ws ≡ words t → PlaceOn r 0 x t
+  unfolding first_on
+  first_place t p is = record { there = p; near = omega arith; here = told.then t p is ∙ first_at (locks_on r t) }
+
+  pub walker_begins : (lent : Bor (List ℕ)) → lent.now ≡ ws → Some (Resourced r) ws → Begins ws r (record { words = lent; given = 0; lock = x })
+  walker_begins lent e s = record {
+    lent = e;
+    none = refl;
+    some = record { state = s.state; resource = r; good = first_place s.state s.good s.is; is = e ∙ s.is };
+    place = first_place;
+  }
+
+pub ruleset new_laws = (rules, walker_begins)
+
+-- at the place n of those on r it stands at the lock k, and goes to the next place
 module _ (r n k : ℕ) (t : Tables) (p : PlaceOn r n k t) (m : k ≡ 0 → ⊥) where
   core : Core t
   core = p.there.core
 
-  place_inside : n < length (locks_on r t)
+  pub place_inside : n < length (locks_on r t)
   place_inside = at_inside (locks_on r t) n (λ z. m (p.here ∙ z))
 
   place_queued : Queued k t
@@ -156,60 +178,44 @@ module _ (r n k : ℕ) (t : Tables) (p : PlaceOn r n k t) (m : k ≡ 0 → ⊥) 
   place_next : PlaceOn r (n + 1) (next_on k t) t
   place_next = rw (add-one n) (record { there = p.there; near = place_inside; here = place_follows })
 
--- from the lock k at the place n on, the walk came to j at the place i
-pub record Reached (ws : List ℕ) (n k i j : ℕ) : Type 0 where
-  pub some : SomePlaceOn i j ws
-  pub then : (r : ℕ) (t : Tables) → PlaceOn r n k t → ws ≡ words t → PlaceOn r i j t
-
-module _ (ws : List ℕ) (n k : ℕ) where
-  pub count_fits : SomePlaceOn n k ws → n < 2 ^ 32
-  count_fits s =
+module _ (w : Walker) (s : Stands w) (m : w.lock ≡ 0 → ⊥) where
+  inside : (w.given < locks_in w.words.now) × (w.given < most_locks)
+  inside =
       let core = s.good.there.core in
+      let h = place_inside s.resource w.given w.lock s.state s.good m in
       let few = few_on s.state core s.resource in
-      omega (arith, s.good.near, core.locks_high)
+      (omega (arith, locks_is s.state w.words.now s.is), omega (arith, core.locks_high))
 
-  pub count_starts : SomePlaceOn n k ws → Reached ws n k n k
-  count_starts s = record { some = s; then = λ r t p is. p }
+  pub stands_queued : Some (Queued w.lock) w.words.now
+  stands_queued = record { state = s.state; good = place_queued s.resource w.given w.lock s.state s.good m; is = s.is }
 
-  module _ (i j : ℕ) (g : Reached ws n k i j) where
-    pub count_ends : j ≡ 0 → CountedOn n k ws i
-    count_ends e = record {
-      then = λ r t p is.
-          let q = g.then r t p is in
-          at_end (locks_on r t) i (no_lock_zero t q.there.core r) q.near (sym q.here ∙ e);
+  pub stands_few : w.given + 1 < 2 ^ 32
+  stands_few = omega (arith, inside.1)
+
+  module _ (y : ℕ) (told : Tells (Queued w.lock) (next_on w.lock) w.words.now y) where
+    abbrev gone : Walker
+    gone = record { words = w.words; given = w.given + 1; lock = y }
+
+    next_place : (r : ℕ) (t : Tables) → PlaceOn r w.given w.lock t → w.words.now ≡ words t → PlaceOn r (w.given + 1) y t
+    next_place r t p is =
+        subst (λ (x : ℕ). PlaceOn r (w.given + 1) x t) (sym (told.then t (place_queued r w.given w.lock t p m) is)) (place_next r w.given w.lock t p m)
+
+    next_stands : Stands gone
+    next_stands = record { state = s.state; resource = s.resource; good = next_place s.resource s.state s.good s.is; is = s.is }
+
+    pub walker_steps : Steps w (option.Some w.lock) gone
+    walker_steps = record {
+      same = refl;
+      gives = some_number w.lock m;
+      one_more = λ k e. refl;
+      place = λ k e. next_place;
     }
 
-    module _ (m : j ≡ 0 → ⊥) where
-      inside : (i < locks_in ws) × (i < most_locks)
-      inside =
-          let s = g.some in
-          let core = s.good.there.core in
-          let h = place_inside s.resource i j s.state s.good m in
-          let few = few_on s.state core s.resource in
-          (omega (arith, locks_is s.state ws s.is), omega (arith, core.locks_high))
+    pub walker_goes : MakesProgress Stands (λ w. at_most (locks_in w.words.now - w.given)) w (option.Some w.lock) gone
+    walker_goes = record {
+      on = λ f. (next_stands, tt, omega (arith, inside.0));
+      keeps = next_stands;
+      rests = λ f. tt;
+    }
 
-      pub count_queued : Some (Queued j) ws
-      count_queued =
-          let s = g.some in
-          record { state = s.state; good = place_queued s.resource i j s.state s.good m; is = s.is }
-
-      pub count_small : i + 1 < 2 ^ 32
-      count_small = omega (arith, inside.1)
-
-      pub count_less : locks_in ws - (i + 1) < locks_in ws - i
-      count_less = omega (arith, inside.0)
-
-      module _ (y : ℕ) (told : Tells (Queued j) (next_on j) ws y) where
-        next_place : (r : ℕ) (t : Tables) → PlaceOn r i j t → ws ≡ words t → PlaceOn r (i + 1) y t
-        next_place r t p is =
-            subst (λ (x : ℕ). PlaceOn r (i + 1) x t) (sym (told.then t (place_queued r i j t p m) is)) (place_next r i j t p m)
-
-        pub count_next : Reached ws n k (i + 1) y
-        count_next =
-            let s = g.some in
-            record {
-              some = record { state = s.state; resource = s.resource; good = next_place s.resource s.state s.good s.is; is = s.is };
-              then = λ r t p is. next_place r t (g.then r t p is) is;
-            }
-
-pub ruleset count_laws = (rules, count_fits, count_starts, count_ends, count_queued, count_small, count_less, count_next)
+pub ruleset walker_laws = (rules, stands_queued, stands_few, walker_steps, walker_goes)

@@ -45,7 +45,3 @@ pub record SomePlaceOn (n k : ℕ) (ws : List ℕ) : Type 0 where
   pub resource : ℕ
   pub good : PlaceOn resource n k state
   pub is : ws ≡ words state
-
--- x is how many locks stand on that resource
-pub record CountedOn (n k : ℕ) (ws : List ℕ) (x : ℕ) : Type 0 where
-  pub then : (r : ℕ) (t : Tables) → PlaceOn r n k t → ws ≡ words t → x ≡ length (locks_on r t)

@@ -1,9 +1,11 @@
 #![tactic(auto)]
-// The locks on a resource in grant, convert, wait order: the first, what follows one, how many there are, and a walker
-// that goes along them.
-ghost use Rattle.std.specs.Prelude.{◌≡◌};
+// The locks on a resource in grant, convert, wait order: the first, what follows one, and a walker along them.
+ghost use Rattle.std.specs.Prelude.{◌≡◌, ◌-◌};
+ghost use Rattle.std.specs.Iterator.{at_most};
+ghost use Rattle.tables.specs.Layout.{locks_in};
 ghost use Rattle.table_chains.specs.Promises.{Some, Tells, Resourced};
-ghost use Rattle.list_walker.specs.Order.{first_on, first_past, Queued, next_on, SomePlaceOn, CountedOn};
+ghost use Rattle.list_walker.specs.Order.{first_on, first_past, Queued, next_on};
+ghost use Rattle.list_walker.specs.Walks.{Stands, Begins, Steps};
 
 use table_fields::{lock_word, resource_word};
 
@@ -48,44 +50,46 @@ fn following(words: &[u32], k: u32) -> u32
     first_past(words, lock.resource, lock.state)
 }
 
-// How many locks stand on a resource, of which `before` stand before k: k is the next one, or 0 past the last.
-pub fn count_from(words: &[u32], k: u32, before: usize) -> u32
-    requires { SomePlaceOn before k words.now }
-    ensures { CountedOn before k words.now result }
-{
-    let mut count = before as u32;
-    let mut next = k;
-    while next != 0 {
-        next = following(words, next);
-        count += 1;
-    }
-    count
-}
-
-// A walker along the locks on a resource: the lent words, and the lock where it stands, or 0 past the last.
+// A walker along the locks on a resource: the lent words, how many locks it has given, and the lock where it stands, or 0
+// past the last.
 #[derive(Drop)]
 pub struct Walker<'a> {
     pub words: &'a [u32],
+    pub given: u32,
     pub lock: u32,
 }
 
-// A walker at the first lock on r.
-pub fn start<'a>(words: &'a [u32], r: u32) -> Walker<'a>
-    requires { Some (Resourced r) words.now }
-    ensures { (result.words ≡ words.entry) × Tells (Resourced r) (first_on r) words.now result.lock }
-{
-    let first = first_on(words, r);
-    Walker { words, lock: first }
+impl<'a> Walker<'a> {
+    // A walker at the first lock on r.
+    pub fn new(words: &'a [u32], r: u32) -> Self
+        requires { Some (Resourced r) words.now }
+        ensures { Begins words.now r result }
+    {
+        let lock = first_on(words, r);
+        Walker {
+            words,
+            given: 0,
+            lock,
+        }
+    }
 }
 
-// One lock further.
-pub fn step<'a>(walker: Walker<'a>) -> Walker<'a>
-    requires { Some (Queued walker.lock) walker.words.now }
-    ensures { (result.words ≡ walker.entry.words) × Tells (Queued walker.entry.lock) (next_on walker.entry.lock) walker.entry.words.now result.lock }
-{
-    let next = following(walker.words, walker.lock);
-    Walker {
-        words: walker.words,
-        lock: next,
+impl<'a> Iterator for Walker<'a> {
+    type Item = u32;
+
+    ghost can_next = { Stands };
+
+    ghost next_gives = { Steps };
+
+    ghost remaining = { λ w. at_most (locks_in w.words.now - w.given) };
+
+    fn next(&mut self) -> Option<u32> {
+        if self.lock == 0 {
+            return None;
+        }
+        let k = self.lock;
+        self.lock = following(self.words, k);
+        self.given += 1;
+        Some(k)
     }
 }

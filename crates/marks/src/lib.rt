@@ -18,22 +18,12 @@ use table_fields::{
 };
 use tables::Lock;
 
-fn larger(a: u32, b: u32) -> u32
-    ensures { result ≡ larger a b }
-{
-    if a <= b {
-        return b;
-    }
-    a
-}
-
 // The lock l as it is when it has been told of the mode.
 fn with_mark(l: Lock, mode: u32) -> Lock
     ensures { result ≡ with_notice l.completion (larger mode l.mark) l }
 {
-    let mut m = l;
-    m.mark = larger(mode, l.mark);
-    m
+    let mark = mode.max(l.mark);
+    Lock { mark, ..l }
 }
 
 // The lock j, which holds a mode, is told that it is in the way of the mode. Where it has no notice yet it joins the
@@ -93,7 +83,7 @@ fn notices_end(words: &[u32]) -> usize
     ensures { result ≡ notices_end words.now }
 {
     let cells = table_chains::lock_cells(words, NOTICES, LOCK_NEXT_NOTICE);
-    table_chains::holding(words, cells, 0)
+    cells.holding(words, 0)
 }
 
 // Whoever is in the way of the lock k is told, those granted there first, then those converting.

@@ -8,12 +8,11 @@ use lib.Bits.{bit_or}
 use lib.Dec.{eqb, leb, ltb}
 use lib.ListN.{get_or, length, get_or-eq_default}
 use borrow.Author.Tests.{ltb-true, leb-true, eqb-true, le-leb, lt-leb}
-use Rattle.modes.specs.declared.Made.{Made}
-use Rattle.modes.specs.declared.Made.TheVariants.{Mode, Refused}
-use Rattle.modes.specs.declared.Mode as declared
+use Rattle.std.specs.Prelude.{Option, Some, None}
+use Rattle.modes.specs.declared.Mode.{Mode}
 use Rattle.modes.specs.Modes.{NL, matrix, compatible, all_modes, down}
 use Rattle.modes.specs.Sets.{in_set, fits_set, FitsRow, with_mode}
-use Rattle.modes.specs.Made.{MadeNumbers, made_numbers, made}
+use Rattle.modes.specs.Made.{MadeNumbers, mode_number, made_numbers, made}
 use Rattle.modes.proofs.Table.{parts, by_range, below, below2, agree2, agree3, entries, entry_at}
 
 -- a number above 5 goes with none, held or asked
@@ -102,19 +101,22 @@ made_high : (n : ℕ) → 6 ≤ n → made n ≡ record { refusal = 4; mode = 0 
 unfolding made
 made_high n h = let l : 5 < n = omega arith in rw (lt-leb n 5 l)
 
-module _ (n : ℕ) (r : Made) where
-  pub mode_small : (m : declared.Mode) → r ≡ Mode m → made_numbers r ≡ made n → n < 6
-  unfolding made_numbers
+pub makes : (n k : ℕ) → n ≡ k → k < 6 → record { refusal = 0; mode = k } ≡ made n
+makes n k e h = sym (ap made e ∙ made_low k h)
+
+pub refuses : (n : ℕ) → 5 < n → record { refusal = 4; mode = 0 } ≡ made n
+refuses n h = let l : 6 ≤ n = omega arith in sym (made_high n l)
+
+module _ (n : ℕ) (r : Option Mode) where
+  pub mode_small : (m : Mode) → r ≡ Some m → made_numbers r ≡ made n → n < 6
   mode_small m e h =
       by_range n 6 (λ l. l)
       (λ p. let z : 0 ≡ 4 = ap (λ (x : MadeNumbers). x.refusal) (sym (ap made_numbers e) ∙ h ∙ made_high n p) in absurd (omega arith))
 
-  pub mode_number : (m : declared.Mode) → r ≡ Mode m → made_numbers r ≡ made n → m.0 ≡ n
-  unfolding made_numbers
-  mode_number m e h = ap (λ (x : MadeNumbers). x.mode) (sym (ap made_numbers e) ∙ h ∙ made_low n (mode_small m e h))
+  pub same_number : (m : Mode) → r ≡ Some m → made_numbers r ≡ made n → mode_number m ≡ n
+  same_number m e h = ap (λ (x : MadeNumbers). x.mode) (sym (ap made_numbers e) ∙ h ∙ made_low n (mode_small m e h))
 
-  pub refused_above : r ≡ Refused → made_numbers r ≡ made n → 5 < n
-  unfolding made_numbers
+  pub refused_above : r ≡ None → made_numbers r ≡ made n → 5 < n
   refused_above e h =
       by_range n 6
       (λ l. let z : 4 ≡ 0 = ap (λ (x : MadeNumbers). x.refusal) (sym (ap made_numbers e) ∙ h ∙ made_low n l) in absurd (omega arith))

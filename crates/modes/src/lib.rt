@@ -6,48 +6,42 @@ ghost use Rattle.modes.specs.Modes.{compatible, down};
 ghost use Rattle.modes.specs.Sets.{fits_set, FitsRow, with_mode};
 ghost use Rattle.modes.specs.Made.{made_numbers, made};
 
-// A lock mode.
-#[derive(Clone, Copy)]
-pub struct Mode(pub u32);
-
-// What `from_number` answers.
-#[derive(Clone, Copy)]
-pub enum Made {
-    Mode(Mode),
-    Refused,
+// A lock mode, with its number.
+#[derive(Clone, Copy, Debug, PartialEq, Eq, PartialOrd, Ord)]
+pub enum Mode {
+    Null = 0,
+    ConcurrentRead = 1,
+    ConcurrentWrite = 2,
+    ProtectedRead = 3,
+    ProtectedWrite = 4,
+    Exclusive = 5,
 }
 
 impl Mode {
-    // Null: no access.
-    pub const NL: Mode = Mode(0);
+    pub const NL: Mode = Mode::Null;
 
-    // Concurrent read.
-    pub const CR: Mode = Mode(1);
+    pub const CR: Mode = Mode::ConcurrentRead;
 
-    // Concurrent write.
-    pub const CW: Mode = Mode(2);
+    pub const CW: Mode = Mode::ConcurrentWrite;
 
-    // Protected read.
-    pub const PR: Mode = Mode(3);
+    pub const PR: Mode = Mode::ProtectedRead;
 
-    // Protected write.
-    pub const PW: Mode = Mode(4);
+    pub const PW: Mode = Mode::ProtectedWrite;
 
-    // Exclusive.
-    pub const EX: Mode = Mode(5);
+    pub const EX: Mode = Mode::Exclusive;
 
-    // The mode with this number. A number above 5 is refused.
-    pub fn from_number(n: u32) -> Made
+    // The mode with this number. A number above 5 is none.
+    pub fn from_number(n: u32) -> Option<Mode>
         ensures { made_numbers result ≡ made n }
     {
         match n {
-            0 => Made::Mode(Mode::NL),
-            1 => Made::Mode(Mode::CR),
-            2 => Made::Mode(Mode::CW),
-            3 => Made::Mode(Mode::PR),
-            4 => Made::Mode(Mode::PW),
-            5 => Made::Mode(Mode::EX),
-            _ => Made::Refused,
+            0 => Some(Mode::NL),
+            1 => Some(Mode::CR),
+            2 => Some(Mode::CW),
+            3 => Some(Mode::PR),
+            4 => Some(Mode::PW),
+            5 => Some(Mode::EX),
+            _ => None,
         }
     }
 }
@@ -77,15 +71,10 @@ pub fn down(old: u32, new: u32) -> bool
     requires bound_2 { new < 6 }
     ensures { result ≡ down old new }
 {
-    let matrix = COMPATIBLE;
-    let was = matrix[old as usize];
-    let is = matrix[new as usize];
-    let mut mode = 0;
-    while mode < 6 {
-        if was[mode] & !is[mode] {
+    for mode in 0..6 {
+        if COMPATIBLE[old as usize][mode] & !COMPATIBLE[new as usize][mode] {
             return false;
         }
-        mode += 1;
     }
     true
 }

@@ -2,35 +2,22 @@
 use mathlib.Core.Path.{◌≡◌, ap}
 use mathlib.Core.List.{List}
 use Prim.Native.Nat.{ℕ}
-use borrow.Author.Tests.{eq-eqb, ne_eqb}
 use borrow.Author.Rules.{rules}
 use Rattle.rules.specs.declared.Said.{Said}
 use Rattle.rules.specs.Entries.{lent, Outcome, Call, Keeps}
 use Rattle.answers.specs.Promises.{Says}
 use Rattle.answers.proofs.SaidNumbers.{said_kept}
+use Rattle.play_print.specs.declared.Numbers.{Numbers}
 use Rattle.play_print.specs.declared.LineAnswer.{LineAnswer}
-use Rattle.play_print.specs.declared.LineAnswer.TheVariants.{Answer, Refusal}
 use Rattle.play_calls.specs.Plays.{answered, plays, played_with}
 
--- what is printed
-module _ (letter fields : ℕ) (x : Said) where
-  pub answered_accepted : x.refusal ≡ 0 → Answer letter fields x.answer x.number x.extra ≡ answered letter fields x
-  unfolding answered
-  answered_accepted e = rw (eq-eqb x.refusal 0 e)
-
-  pub answered_refused : (x.refusal ≡ 0 → ⊥) → Refusal letter x.refusal ≡ answered letter fields x
-  unfolding answered
-  answered_refused e = rw (ne_eqb x.refusal 0 e)
-
-pub ruleset answer_rules = (rules, answered_accepted, answered_refused)
-
 -- a line: the entry's answer says x, of which o is printed
-module _ (letter fields : ℕ) (a sa b sb : List ℕ) (call : Call) (n : Said) (entered : Keeps call (lent a sa) n (lent b sb))
+module _ (letter : ℕ) (fields : Said → Numbers) (a sa b sb : List ℕ) (call : Call) (n : Said) (entered : Keeps call (lent a sa) n (lent b sb))
     (x : Said) (says : Says n x) (o : LineAnswer) where
   kept : Keeps call (lent a sa) x (lent b sb)
   kept = said_kept call n x (lent a sa) (lent b sb) entered says
 
-  pub plays_line : o ≡ answered letter fields x → played_with o b sb ≡ plays letter fields call (lent a sa)
-  plays_line e = rw e (ap (λ (p : Outcome). record { answer = answered letter fields p.said; tables = p.lent_after }) kept)
+  pub plays_line : o ≡ answered letter x.refusal (fields x) → played_with o b sb ≡ plays letter fields call (lent a sa)
+  plays_line e = rw e (ap (λ (p : Outcome). record { answer = answered letter p.said.refusal (fields p.said); tables = p.lent_after }) kept)
 
 pub ruleset line_rules = (rules, plays_line)

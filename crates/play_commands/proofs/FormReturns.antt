@@ -1,142 +1,123 @@
--- The ways through the functions of the forms: for each way out what the command says, from the answers met on the way.
+-- The ways through the functions of the forms: for each way out what the answer means, from what was read on the way.
 use Prim.Native.Nat.{ℕ, suc}
 use mathlib.Core.Path.{◌≡◌, ◌∙◌}
 use mathlib.Core.List.{List}
 use native.Mathlib.Omega.{arith}
 use borrow.Author.Rules.{rules}
-use lib.ListN.{drop}
+use Rattle.std.proofs.Common.{Option, None, Some, Bor}
 use Rattle.play_numbers.specs.Fields.{parted}
-use Rattle.play_commands.specs.Forms.{numbers_then, Means, as_request, as_convert, as_release, as_cancel, as_purge, as_poll}
 use Rattle.play_numbers.specs.Steps.{number_in, next_field}
-use Rattle.play_commands.specs.declared.Command.TheVariants.{Request, Convert, Release, Cancel, Purge, Poll, Malformed}
-use Rattle.play_numbers.specs.declared.Number.{Number}
-use Rattle.play_numbers.specs.declared.Number.TheVariants.{Is, NoNumber}
-use Rattle.play_numbers.specs.declared.Next.{Next}
-use Rattle.play_numbers.specs.declared.Next.TheVariants.{Field, NoField}
-use Rattle.play_commands.proofs.FormLaws.{Took, took, less, missed, next_within, last_is, last_of, last_fields, last_missed, none}
+use Rattle.play_commands.specs.Forms.{request, convert, release, cancel, purge, poll, numbers_then, meaning, as_request, as_convert, as_release, as_cancel, as_purge, as_poll}
+use Rattle.play_commands.specs.declared.Command.{Command}
+use Rattle.play_commands.proofs.FormLaws.{Took, took, less, missed, last_is, last_of, last_fields, last_missed}
 
 -- `p` and `n`: one number
-module _ (l : List ℕ) {r : Number} (e : r ≡ number_in (drop 2 l)) where
-  pub purge_no : r ≡ NoNumber → Means l Malformed (as_purge (parted 3 (drop 2 l)))
+module _ (xs : List ℕ) {r : Option ℕ} (e : r ≡ number_in xs) where
+  pub purge_no : {o : Option Command} → r ≡ None → o ≡ None → meaning o ≡ as_purge (parted 3 xs)
   unfolding as_purge
-  purge_no f = rw (last_missed l 2 e f 3) (none l)
+  purge_no f n = rw (n, last_missed xs e f 3)
 
-  pub purge_yes : {v : ℕ} → r ≡ Is v → Means l (Purge v) (as_purge (parted 3 (drop 2 l)))
+  pub purge_yes : {v : ℕ} → r ≡ Some v → purge v ≡ as_purge (parted 3 xs)
   unfolding as_purge numbers_then
-  purge_yes f = record { means = rw (last_fields l 2 e f 3, last_is l 2 e f, last_of l 2 e f); within = search rules }
+  purge_yes f = rw (last_fields xs e f 3, last_is xs e f, last_of xs e f)
 
-  pub poll_no : r ≡ NoNumber → Means l Malformed (as_poll (parted 3 (drop 2 l)))
+  pub poll_no : {o : Option Command} → r ≡ None → o ≡ None → meaning o ≡ as_poll (parted 3 xs)
   unfolding as_poll
-  poll_no f = rw (last_missed l 2 e f 3) (none l)
+  poll_no f n = rw (n, last_missed xs e f 3)
 
-  pub poll_yes : {v : ℕ} → r ≡ Is v → Means l (Poll v) (as_poll (parted 3 (drop 2 l)))
+  pub poll_yes : {v : ℕ} → r ≡ Some v → poll v ≡ as_poll (parted 3 xs)
   unfolding as_poll numbers_then
-  poll_yes f = record { means = rw (last_fields l 2 e f 3, last_is l 2 e f, last_of l 2 e f); within = search rules }
+  poll_yes f = rw (last_fields xs e f 3, last_is xs e f, last_of xs e f)
 
--- the first number is missed, with k numbers and more fields to come
-module _ (l : List ℕ) {r₁ : Next} (e₁ : r₁ ≡ next_field l 2) where
-  pub request_1 : r₁ ≡ NoField → Means l Malformed (as_request (parted 3 (drop 2 l)))
-  unfolding as_request
-  request_1 f = rw (missed l 2 e₁ f 2 1 2 (omega arith)) (none l)
+module _ (xs : List ℕ) where
+  -- the first number is missed, with k numbers and more fields to come
+  module _ {o : Option Command} (n : o ≡ None) (f : next_field xs ≡ None) where
+    pub request_1 : meaning o ≡ as_request (parted 3 xs)
+    unfolding as_request
+    request_1 = rw (n, missed xs f 2 1 2 (omega arith))
 
-  pub convert_1 : r₁ ≡ NoField → Means l Malformed (as_convert (parted 3 (drop 2 l)))
-  unfolding as_convert
-  convert_1 f = rw (missed l 2 e₁ f 3 0 2 (omega arith)) (none l)
+    pub convert_1 : meaning o ≡ as_convert (parted 3 xs)
+    unfolding as_convert
+    convert_1 = rw (n, missed xs f 3 0 2 (omega arith))
 
-  pub release_1 : r₁ ≡ NoField → Means l Malformed (as_release (parted 3 (drop 2 l)))
-  unfolding as_release
-  release_1 f = rw (missed l 2 e₁ f 2 0 2 (omega arith)) (none l)
+    pub release_1 : meaning o ≡ as_release (parted 3 xs)
+    unfolding as_release
+    release_1 = rw (n, missed xs f 2 0 2 (omega arith))
 
-  pub cancel_1 : r₁ ≡ NoField → Means l Malformed (as_cancel (parted 3 (drop 2 l)))
-  unfolding as_cancel
-  cancel_1 f = rw (missed l 2 e₁ f 1 0 2 (omega arith)) (none l)
+    pub cancel_1 : meaning o ≡ as_cancel (parted 3 xs)
+    unfolding as_cancel
+    cancel_1 = rw (n, missed xs f 1 0 2 (omega arith))
 
-  module _ {v₁ a₁ : ℕ} (f₁ : r₁ ≡ Field v₁ a₁) where
-    t₁ : Took l 2 v₁ a₁
-    t₁ = took l 2 e₁ f₁
+  module _ {v₁ : ℕ} {ys : List ℕ} (f₁ : next_field xs ≡ Some (v₁, ys)) where
+    t₁ : Took xs v₁ ys
+    t₁ = took xs f₁
 
-    less₁ : (k more : ℕ) → numbers_then (suc k) more (parted 3 (drop 2 l)) ≡ numbers_then k more (parted 2 (drop a₁ l))
-    less₁ k more = less l 2 v₁ a₁ t₁ k more 2
+    less₁ : (k more : ℕ) → numbers_then (suc k) more (parted 3 xs) ≡ numbers_then k more (parted 2 ys)
+    less₁ k more = less xs v₁ ys t₁ k more 2
 
-    module _ {r : Number} (e : r ≡ number_in (drop a₁ l)) where
-      pub cancel_2 : r ≡ NoNumber → Means l Malformed (as_cancel (parted 3 (drop 2 l)))
+    module _ {r : Option ℕ} (e : r ≡ number_in ys) where
+      pub cancel_2 : {o : Option Command} → o ≡ None → r ≡ None → meaning o ≡ as_cancel (parted 3 xs)
       unfolding as_cancel
-      cancel_2 f = rw (less₁ 1 0, last_missed l a₁ e f 2) (none l)
+      cancel_2 n f = rw (n, less₁ 1 0, last_missed ys e f 2)
 
-      pub cancel_3 : {v : ℕ} → r ≡ Is v → Means l (Cancel v₁ v) (as_cancel (parted 3 (drop 2 l)))
+      pub cancel_3 : {v : ℕ} → r ≡ Some v → cancel v₁ v ≡ as_cancel (parted 3 xs)
       unfolding as_cancel numbers_then
-      cancel_3 f =
-          record {
-            means = rw (t₁.fields 2, last_fields l a₁ e f 2, t₁.is, last_is l a₁ e f, ← t₁.of, ← last_of l a₁ e f);
-            within = search rules;
-          }
+      cancel_3 f = rw (t₁.fields 2, last_fields ys e f 2, t₁.is, last_is ys e f, ← t₁.of, ← last_of ys e f)
 
-    module _ {r₂ : Next} (e₂ : r₂ ≡ next_field l a₁) where
-      pub request_2 : r₂ ≡ NoField → Means l Malformed (as_request (parted 3 (drop 2 l)))
+    module _ {o : Option Command} (n : o ≡ None) (f : next_field ys ≡ None) where
+      pub request_2 : meaning o ≡ as_request (parted 3 xs)
       unfolding as_request
-      request_2 f = rw (less₁ 2 1, missed l a₁ e₂ f 1 1 1 (omega arith)) (none l)
+      request_2 = rw (n, less₁ 2 1, missed ys f 1 1 1 (omega arith))
 
-      pub convert_2 : r₂ ≡ NoField → Means l Malformed (as_convert (parted 3 (drop 2 l)))
+      pub convert_2 : meaning o ≡ as_convert (parted 3 xs)
       unfolding as_convert
-      convert_2 f = rw (less₁ 3 0, missed l a₁ e₂ f 2 0 1 (omega arith)) (none l)
+      convert_2 = rw (n, less₁ 3 0, missed ys f 2 0 1 (omega arith))
 
-      pub release_2 : r₂ ≡ NoField → Means l Malformed (as_release (parted 3 (drop 2 l)))
+      pub release_2 : meaning o ≡ as_release (parted 3 xs)
       unfolding as_release
-      release_2 f = rw (less₁ 2 0, missed l a₁ e₂ f 1 0 1 (omega arith)) (none l)
+      release_2 = rw (n, less₁ 2 0, missed ys f 1 0 1 (omega arith))
 
-      module _ {v₂ a₂ : ℕ} (f₂ : r₂ ≡ Field v₂ a₂) where
-        t₂ : Took l a₁ v₂ a₂
-        t₂ = took l a₁ e₂ f₂
+    module _ {v₂ : ℕ} {zs : List ℕ} (f₂ : next_field ys ≡ Some (v₂, zs)) where
+      t₂ : Took ys v₂ zs
+      t₂ = took ys f₂
 
-        less₂ : (k more : ℕ) → numbers_then (suc (suc k)) more (parted 3 (drop 2 l)) ≡ numbers_then k more (parted 1 (drop a₂ l))
-        less₂ k more = less₁ (suc k) more ∙ less l a₁ v₂ a₂ t₂ k more 1
+      less₂ : (k more : ℕ) → numbers_then (suc (suc k)) more (parted 3 xs) ≡ numbers_then k more (parted 1 zs)
+      less₂ k more = less₁ (suc k) more ∙ less ys v₂ zs t₂ k more 1
 
-        module _ {r : Number} (e : r ≡ number_in (drop a₂ l)) where
-          pub release_3 : r ≡ NoNumber → Means l Malformed (as_release (parted 3 (drop 2 l)))
-          unfolding as_release
-          release_3 f = rw (less₂ 1 0, last_missed l a₂ e f 1) (none l)
+      module _ {r : Option ℕ} (e : r ≡ number_in zs) where
+        pub release_3 : {o : Option Command} → o ≡ None → r ≡ None → meaning o ≡ as_release (parted 3 xs)
+        unfolding as_release
+        release_3 n f = rw (n, less₂ 1 0, last_missed zs e f 1)
 
-          pub release_4 : {v : ℕ} → r ≡ Is v → Means l (Release v₁ v₂ v) (as_release (parted 3 (drop 2 l)))
-          unfolding as_release numbers_then
-          release_4 f =
-              record {
-                means = rw (t₁.fields 2, t₂.fields 1, last_fields l a₂ e f 1, t₁.is, t₂.is, last_is l a₂ e f, ← t₁.of, ← t₂.of, ← last_of l a₂ e f);
-                within = search rules;
-              }
+        pub release_4 : {v : ℕ} → r ≡ Some v → release v₁ v₂ v ≡ as_release (parted 3 xs)
+        unfolding as_release numbers_then
+        release_4 f = rw (t₁.fields 2, t₂.fields 1, last_fields zs e f 1, t₁.is, t₂.is, last_is zs e f, ← t₁.of, ← t₂.of, ← last_of zs e f)
 
-        module _ {r₃ : Next} (e₃ : r₃ ≡ next_field l a₂) where
-          pub request_3 : r₃ ≡ NoField → Means l Malformed (as_request (parted 3 (drop 2 l)))
-          unfolding as_request
-          request_3 f = rw (less₂ 1 1, missed l a₂ e₃ f 0 1 0 (omega arith)) (none l)
+      module _ {o : Option Command} (n : o ≡ None) (f : next_field zs ≡ None) where
+        pub request_3 : meaning o ≡ as_request (parted 3 xs)
+        unfolding as_request
+        request_3 = rw (n, less₂ 1 1, missed zs f 0 1 0 (omega arith))
 
-          pub convert_3 : r₃ ≡ NoField → Means l Malformed (as_convert (parted 3 (drop 2 l)))
+        pub convert_3 : meaning o ≡ as_convert (parted 3 xs)
+        unfolding as_convert
+        convert_3 = rw (n, less₂ 2 0, missed zs f 1 0 0 (omega arith))
+
+      module _ {v₃ : ℕ} {us : List ℕ} (f₃ : next_field zs ≡ Some (v₃, us)) where
+        t₃ : Took zs v₃ us
+        t₃ = took zs f₃
+
+        pub request_4 : request v₁ v₂ v₃ us ≡ as_request (parted 3 xs)
+        unfolding as_request numbers_then parted
+        request_4 = rw (t₁.fields 2, t₂.fields 1, t₃.fields 0, t₁.is, t₂.is, t₃.is, ← t₁.of, ← t₂.of, ← t₃.of)
+
+        module _ {r : Option ℕ} (e : r ≡ number_in us) where
+          pub convert_4 : {o : Option Command} → o ≡ None → r ≡ None → meaning o ≡ as_convert (parted 3 xs)
           unfolding as_convert
-          convert_3 f = rw (less₂ 2 0, missed l a₂ e₃ f 1 0 0 (omega arith)) (none l)
+          convert_4 n f = rw (n, less₂ 2 0, less zs v₃ us t₃ 1 0 0, last_missed us e f 0)
 
-          module _ {v₃ a₃ : ℕ} (f₃ : r₃ ≡ Field v₃ a₃) where
-            t₃ : Took l a₂ v₃ a₃
-            t₃ = took l a₂ e₃ f₃
+          pub convert_5 : {v : ℕ} → r ≡ Some v → convert v₁ v₂ v₃ v ≡ as_convert (parted 3 xs)
+          unfolding as_convert numbers_then
+          convert_5 f =
+              rw (t₁.fields 2, t₂.fields 1, t₃.fields 0, last_fields us e f 0, t₁.is, t₂.is, t₃.is, last_is us e f, ← t₁.of, ← t₂.of, ← t₃.of, ← last_of us e f)
 
-            pub request_4 : Means l (Request v₁ v₂ v₃ a₃) (as_request (parted 3 (drop 2 l)))
-            unfolding as_request numbers_then parted
-            request_4 =
-                record {
-                  means = rw (t₁.fields 2, t₂.fields 1, t₃.fields 0, t₁.is, t₂.is, t₃.is, ← t₁.of, ← t₂.of, ← t₃.of);
-                  within = t₃.within;
-                }
-
-            module _ {r : Number} (e : r ≡ number_in (drop a₃ l)) where
-              pub convert_4 : r ≡ NoNumber → Means l Malformed (as_convert (parted 3 (drop 2 l)))
-              unfolding as_convert
-              convert_4 f = rw (less₂ 2 0, less l a₂ v₃ a₃ t₃ 1 0 0, last_missed l a₃ e f 0) (none l)
-
-              pub convert_5 : {v : ℕ} → r ≡ Is v → Means l (Convert v₁ v₂ v₃ v) (as_convert (parted 3 (drop 2 l)))
-              unfolding as_convert numbers_then
-              convert_5 f =
-                  record {
-                    means =
-                        rw (t₁.fields 2, t₂.fields 1, t₃.fields 0, last_fields l a₃ e f 0, t₁.is, t₂.is, t₃.is, last_is l a₃ e f, ← t₁.of, ← t₂.of, ← t₃.of, ← last_of l a₃ e f);
-                    within = search rules;
-                  }
-
-pub ruleset form_rules = (rules, next_within, purge_no, purge_yes, poll_no, poll_yes, cancel_1, cancel_2, cancel_3, release_1, release_2, release_3, release_4, request_1, request_2, request_3, request_4, convert_1, convert_2, convert_3, convert_4, convert_5)
+pub ruleset form_rules = (rules, purge_no, purge_yes, poll_no, poll_yes, cancel_1, cancel_2, cancel_3, release_1, release_2, release_3, release_4, request_1, request_2, request_3, request_4, convert_1, convert_2, convert_3, convert_4, convert_5)

@@ -1,9 +1,9 @@
 -- What a line means. Fields are parted by one space; "the name is all after the fourth space, possibly empty".
-use Rattle.std.specs.Prelude.{◌≡◌, ℕ, zero, suc, ◌≤◌, Bool, false, ◌&&◌, cond, List, [], ◌∷◌, eqb, ltb, length, get_or, drop}
+use Rattle.std.specs.Prelude.{ℕ, zero, suc, Option, None, Some, Bool, false, ◌&&◌, cond, List, [], ◌∷◌, eqb, ltb, length, get_or, drop}
 use Rattle.play_numbers.specs.Numbers.{is_number, number}
 use Rattle.play_numbers.specs.Fields.{parted}
 use Rattle.play_commands.specs.declared.Command.{Command}
-use Rattle.play_commands.specs.declared.Command.TheVariants.{Request, Convert, Release, Cancel, Purge, Break, Poll, Malformed}
+use Rattle.play_commands.specs.declared.Command.TheVariants.{Request, Convert, Release, Cancel, Purge, Break, Poll}
 
 -- the letters of the lines, as bytes: request, convert, release, cancel, purge, break, poll
 abbrev pub letter_q : ℕ
@@ -102,29 +102,13 @@ line_width = 256
 unfoldable pub meant : List ℕ → Meaning
 meant line = cond (ltb line_width (length line)) malformed (of_fields (parted 4 line))
 
--- what a command of the code says of a line: a request's name is the line from the place start on
-abbrev pub meaning : List ℕ → Command → Meaning
-meaning line (Request client mode flags start) = request client mode flags (drop start line)
-meaning line (Convert client lock mode flags) = convert client lock mode flags
-meaning line (Release client lock flags) = release client lock flags
-meaning line (Cancel client lock) = cancel client lock
-meaning line (Purge client) = purge client
-meaning line Break = break
-meaning line (Poll client) = poll client
-meaning line Malformed = malformed
-
--- where the name starts, 0 where there is none
-abbrev pub name_start : Command → ℕ
-name_start (Request client mode flags start) = start
-name_start (Convert client lock mode flags) = 0
-name_start (Release client lock flags) = 0
-name_start (Cancel client lock) = 0
-name_start (Purge client) = 0
-name_start Break = 0
-name_start (Poll client) = 0
-name_start Malformed = 0
-
--- the command r of a line means m, and its name starts inside the line or at its end
-pub record Means (line : List ℕ) (r : Command) (m : Meaning) : Type 0 where
-  pub means : meaning line r ≡ m
-  pub within : name_start r ≤ length line
+-- what the code's answer says of a line: the command that it asks, or none
+abbrev pub meaning : Option Command → Meaning
+meaning None = malformed
+meaning (Some (Request client mode flags name)) = request client mode flags name.now
+meaning (Some (Convert client lock mode flags)) = convert client lock mode flags
+meaning (Some (Release client lock flags)) = release client lock flags
+meaning (Some (Cancel client lock)) = cancel client lock
+meaning (Some (Purge client)) = purge client
+meaning (Some Break) = break
+meaning (Some (Poll client)) = poll client

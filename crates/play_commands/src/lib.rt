@@ -1,153 +1,143 @@
-#![tactic(auto)]
+#![tactic(auto, using(crate::proofs::FormReturns::form_rules))]
 // What a line of the program lockplay asks.
-ghost use Rattle.std.specs.Prelude.{◌≤◌, length, drop};
+ghost use Rattle.std.specs.Prelude.{◌≡◌};
 ghost use Rattle.play_numbers.specs.Fields.{parted};
-ghost use Rattle.play_commands.specs.Forms.{Means, meant, of_letter, as_request, as_convert, as_release, as_cancel, as_purge, as_poll};
+ghost use Rattle.play_commands.specs.Forms.{meaning, meant, of_letter, as_request, as_convert, as_release, as_cancel, as_purge, as_poll};
 
-use play_numbers::{Next, Number, last_number, next_number};
+use play_numbers::Fields;
 
-// What a line asks. The last number of a request is the place in the line where its name starts.
+// What a line asks. The name of a request is the rest of its line.
 #[derive(Clone, Copy)]
-pub enum Command {
-    Request(u32, u32, u32, usize),
-    Convert(u32, u32, u32, u32),
-    Release(u32, u32, u32),
-    Cancel(u32, u32),
-    Purge(u32),
+pub enum Command<'a> {
+    Request {
+        client: u32,
+        mode: u32,
+        flags: u32,
+        name: &'a [u8],
+    },
+    Convert {
+        client: u32,
+        lock: u32,
+        mode: u32,
+        flags: u32,
+    },
+    Release {
+        client: u32,
+        lock: u32,
+        flags: u32,
+    },
+    Cancel {
+        client: u32,
+        lock: u32,
+    },
+    Purge {
+        client: u32,
+    },
     Break,
-    Poll(u32),
-    Malformed,
+    Poll {
+        client: u32,
+    },
 }
 
 // `q` client mode flags name: what stands after the letter and its space.
-fn request(line: &[u8]) -> Command
-    requires { 2 ≤ length line.now }
-    ensures { Means line.now result (as_request (parted 3 (drop 2 line.now))) }
+fn request(mut fields: Fields<'_>) -> Option<Command<'_>>
+    ensures { meaning result ≡ as_request (parted 3 fields.entry.rest.now) }
 {
-    let Next::Field(client, a) = next_number(line, 2) else {
-        return Command::Malformed;
-    };
-    let Next::Field(mode, b) = next_number(line, a) else {
-        return Command::Malformed;
-    };
-    let Next::Field(flags, name) = next_number(line, b) else {
-        return Command::Malformed;
-    };
-    Command::Request(client, mode, flags, name)
+    let client = fields.next_number()?;
+    let mode = fields.next_number()?;
+    let flags = fields.next_number()?;
+    Some(Command::Request {
+        client,
+        mode,
+        flags,
+        name: fields.rest,
+    })
 }
 
 // `c` client lock mode flags.
-fn convert(line: &[u8]) -> Command
-    requires { 2 ≤ length line.now }
-    ensures { Means line.now result (as_convert (parted 3 (drop 2 line.now))) }
+fn convert(mut fields: Fields<'_>) -> Option<Command<'_>>
+    ensures { meaning result ≡ as_convert (parted 3 fields.entry.rest.now) }
 {
-    let Next::Field(client, a) = next_number(line, 2) else {
-        return Command::Malformed;
-    };
-    let Next::Field(lock, b) = next_number(line, a) else {
-        return Command::Malformed;
-    };
-    let Next::Field(mode, e) = next_number(line, b) else {
-        return Command::Malformed;
-    };
-    let Number::Is(flags) = last_number(line, e) else {
-        return Command::Malformed;
-    };
-    Command::Convert(client, lock, mode, flags)
+    let client = fields.next_number()?;
+    let lock = fields.next_number()?;
+    let mode = fields.next_number()?;
+    let flags = fields.last_number()?;
+    Some(Command::Convert {
+        client,
+        lock,
+        mode,
+        flags,
+    })
 }
 
 // `r` client lock flags.
-fn release(line: &[u8]) -> Command
-    requires { 2 ≤ length line.now }
-    ensures { Means line.now result (as_release (parted 3 (drop 2 line.now))) }
+fn release(mut fields: Fields<'_>) -> Option<Command<'_>>
+    ensures { meaning result ≡ as_release (parted 3 fields.entry.rest.now) }
 {
-    let Next::Field(client, a) = next_number(line, 2) else {
-        return Command::Malformed;
-    };
-    let Next::Field(lock, b) = next_number(line, a) else {
-        return Command::Malformed;
-    };
-    let Number::Is(flags) = last_number(line, b) else {
-        return Command::Malformed;
-    };
-    Command::Release(client, lock, flags)
+    let client = fields.next_number()?;
+    let lock = fields.next_number()?;
+    let flags = fields.last_number()?;
+    Some(Command::Release {
+        client,
+        lock,
+        flags,
+    })
 }
 
 // `x` client lock.
-fn cancel(line: &[u8]) -> Command
-    requires { 2 ≤ length line.now }
-    ensures { Means line.now result (as_cancel (parted 3 (drop 2 line.now))) }
+fn cancel(mut fields: Fields<'_>) -> Option<Command<'_>>
+    ensures { meaning result ≡ as_cancel (parted 3 fields.entry.rest.now) }
 {
-    let Next::Field(client, a) = next_number(line, 2) else {
-        return Command::Malformed;
-    };
-    let Number::Is(lock) = last_number(line, a) else {
-        return Command::Malformed;
-    };
-    Command::Cancel(client, lock)
+    let client = fields.next_number()?;
+    let lock = fields.last_number()?;
+    Some(Command::Cancel { client, lock })
 }
 
 // `p` client.
-fn purge(line: &[u8]) -> Command
-    requires { 2 ≤ length line.now }
-    ensures { Means line.now result (as_purge (parted 3 (drop 2 line.now))) }
+fn purge(fields: Fields<'_>) -> Option<Command<'_>>
+    ensures { meaning result ≡ as_purge (parted 3 fields.entry.rest.now) }
 {
-    let Number::Is(client) = last_number(line, 2) else {
-        return Command::Malformed;
-    };
-    Command::Purge(client)
+    let client = fields.last_number()?;
+    Some(Command::Purge { client })
 }
 
 // `n` client.
-fn poll(line: &[u8]) -> Command
-    requires { 2 ≤ length line.now }
-    ensures { Means line.now result (as_poll (parted 3 (drop 2 line.now))) }
+fn poll(fields: Fields<'_>) -> Option<Command<'_>>
+    ensures { meaning result ≡ as_poll (parted 3 fields.entry.rest.now) }
 {
-    let Number::Is(client) = last_number(line, 2) else {
-        return Command::Malformed;
-    };
-    Command::Poll(client)
+    let client = fields.last_number()?;
+    Some(Command::Poll { client })
 }
 
-// A line that has a space after its letter.
-fn with_fields(line: &[u8], letter: u8) -> Command
-    requires { 2 ≤ length line.now }
-    ensures { Means line.now result (of_letter letter (parted 3 (drop 2 line.now))) }
+// A line that has a space after its letter: what stands after the space is of the letter's form.
+#[tactic(auto, using(crate::proofs::Letters::letter_rules))]
+fn with_fields(letter: u8, fields: Fields<'_>) -> Option<Command<'_>>
+    ensures { meaning result ≡ of_letter letter (parted 3 fields.entry.rest.now) }
 {
     match letter {
-        b'q' => request(line),
-        b'c' => convert(line),
-        b'r' => release(line),
-        b'x' => cancel(line),
-        b'p' => purge(line),
-        b'n' => poll(line),
-        _ => Command::Malformed,
+        b'q' => request(fields),
+        b'c' => convert(fields),
+        b'r' => release(fields),
+        b'x' => cancel(fields),
+        b'p' => purge(fields),
+        b'n' => poll(fields),
+        _ => None,
     }
 }
 
 // The bytes of the longest line that asks something.
 pub const LINE_BYTES: usize = 256;
 
-// What a line asks.
-pub fn parse(line: &[u8]) -> Command
-    ensures { Means line.now result (meant line.now) }
+// What a line asks, if it is of one of the forms.
+pub fn parse(line: &[u8]) -> Option<Command<'_>>
+    ensures { meaning result ≡ meant line.now }
 {
-    let n = line.len();
-    if LINE_BYTES < n {
-        return Command::Malformed;
+    if LINE_BYTES < line.len() {
+        return None;
     }
-    if n < 1 {
-        return Command::Malformed;
+    match line {
+        [b'd'] => Some(Command::Break),
+        [letter, b' ', rest @ ..] => with_fields(*letter, Fields { rest }),
+        _ => None,
     }
-    let letter = line[0];
-    if n < 2 {
-        if letter == b'd' {
-            return Command::Break;
-        }
-        return Command::Malformed;
-    }
-    if line[1] != b' ' {
-        return Command::Malformed;
-    }
-    with_fields(line, letter)
 }

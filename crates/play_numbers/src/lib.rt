@@ -1,91 +1,57 @@
 #![tactic(auto)]
-// The numbers in a line's fields: up to the next space, or to the line's end.
-ghost use Rattle.std.specs.Prelude.{◌≡◌, ◌+◌, ◌≤◌, ◌<◌, length, drop};
-ghost use Rattle.play_numbers.specs.Fields.{until};
+// The numbers in a line's fields, which one space parts.
+ghost use Rattle.std.specs.Prelude.{◌≡◌, ◌==◌, MatchOption, None, Some, position};
+ghost use Rattle.play_numbers.specs.Characters.{space};
 ghost use Rattle.play_numbers.specs.Steps.{number_in, next_field};
 
-// What a field says.
-#[derive(Clone, Copy)]
-pub enum Number {
-    Is(u32),
-    NoNumber,
-}
-
-// A number with a space after it: its value, and the place after the space.
-#[derive(Clone, Copy)]
-pub enum Next {
-    Field(u32, usize),
-    NoField,
-}
-
-// A byte as a number of 32 bits.
-fn wide(x: u8) -> u32
-    ensures { (result ≡ x) × (result < 256) }
-{
-    x as u32
-}
+// The most digits that a number may have: it fits 32 bits then.
+const MOST_DIGITS: usize = 9;
 
 // The number that a field is.
-fn read_number(field: &[u8]) -> Number
+fn read_number(field: &[u8]) -> Option<u32>
     ensures { result ≡ number_in field.now }
 {
-    let count = field.len();
-    if count < 1 {
-        return Number::NoNumber;
+    if field.is_empty() || MOST_DIGITS < field.len() {
+        return None;
     }
-    if 9 < count {
-        return Number::NoNumber;
-    }
-    let mut value: u32 = 0;
-    let mut i = 0;
-    while i < count {
-        let b = wide(field[i]);
-        if b < 48 {
-            return Number::NoNumber;
+    let mut value = 0;
+    for b in field {
+        if !b.is_ascii_digit() {
+            return None;
         }
-        if 57 < b {
-            return Number::NoNumber;
-        }
-        value = 10 * value + (b - 48);
-        i += 1;
+        value = 10 * value + u32::from(*b - b'0');
     }
-    Number::Is(value)
+    Some(value)
 }
 
-// The place of the first space from a place on, or the line's length.
-fn space(line: &[u8], at: usize) -> usize
-    requires { at ≤ length line.now }
-    ensures { result ≡ at + length (until (drop at line.now)) }
+// The place of the first space.
+fn first_space(line: &[u8]) -> Option<usize>
+    ensures { result ≡ position (λ b. b == space) line.now }
 {
-    let mut i = at;
-    while i < line.len() {
-        if line[i] == 32 {
-            return i;
-        }
-        i += 1;
-    }
-    i
+    line.iter().position(|b| *b == b' ')
 }
 
-// The number from a place up to the next space.
-pub fn next_number(line: &[u8], at: usize) -> Next
-    requires { at ≤ length line.now }
-    ensures { result ≡ next_field line.now at }
-{
-    let end = space(line, at);
-    if line.len() <= end {
-        return Next::NoField;
-    }
-    let Number::Is(n) = read_number(&line[at..end]) else {
-        return Next::NoField;
-    };
-    Next::Field(n, end + 1)
+// The fields of a line that are still to read.
+#[derive(Clone, Copy)]
+pub struct Fields<'a> {
+    pub rest: &'a [u8],
 }
 
-// The number that the rest of the line from a place on is.
-pub fn last_number(line: &[u8], at: usize) -> Number
-    requires { at ≤ length line.now }
-    ensures { result ≡ number_in (drop at line.now) }
-{
-    read_number(&line[at..])
+impl Fields<'_> {
+    // The number that the next field is. A space has to stand after it.
+    pub fn next_number(&mut self) -> Option<u32>
+        ensures { MatchOption result (next_field self.old.rest.now ≡ None) (λ n. next_field self.old.rest.now ≡ Some (n, self.new.rest.now)) }
+    {
+        let end = first_space(self.rest)?;
+        let number = read_number(&self.rest[..end])?;
+        self.rest = &self.rest[end + 1..];
+        Some(number)
+    }
+
+    // The number that all the rest of the line is.
+    pub fn last_number(self) -> Option<u32>
+        ensures { result ≡ number_in self.entry.rest.now }
+    {
+        read_number(self.rest)
+    }
 }

@@ -1,3 +1,3 @@
 pub mod Digits
-pub mod BufferWrites
+pub mod Writing
 pub mod Examples

@@ -1,2 +1,4 @@
 pub mod Decimal
+pub mod Widths
 pub mod PrintedLines
+pub mod Writes

@@ -1,6 +1,6 @@
 -- Runs of the program: its entries called one after the other from `start` on, each lent the words and slots that the one before it left. A turn
 -- is what the contract of the call's entry says, `Keeps` (rules/Entries).
-use Rattle.std.specs.Prelude.{◌≡◌, false, List, [], ◌∷◌, ℕ, ◌+◌}
+use Rattle.std.specs.Prelude.{◌≡◌, false, List, [], ◌∷◌, ℕ, ◌+◌, Option, Result}
 use Rattle.tables.specs.State.{granted}
 use Rattle.tables.specs.Layout.{read_lock}
 use Rattle.rules.specs.declared.Said.{Said}
@@ -9,30 +9,28 @@ use Rattle.rules.specs.Theorem.{QueuesHold, SumsHold}
 use Rattle.rules.specs.Marks.{MarksRight}
 use Rattle.rules.specs.NoOvertaking.{Waits, KeepsOrder}
 use Rattle.rules.specs.Heard.{HeardRight}
-use Rattle.answers.specs.declared.Done.{Done}
+use Rattle.answers.specs.declared.Refusal.{Refusal}
 use Rattle.answers.specs.declared.Requested.{Requested}
 use Rattle.answers.specs.declared.Converted.{Converted}
-use Rattle.answers.specs.declared.Released.{Released}
 use Rattle.answers.specs.declared.Cancelled.{Cancelled}
 use Rattle.answers.specs.declared.Purged.{Purged}
-use Rattle.answers.specs.declared.Broken.{Broken}
-use Rattle.answers.specs.declared.Polled.{Polled}
+use Rattle.answers.specs.declared.Notice.{Notice}
 use Rattle.answers.specs.Answers as answers
 
 -- what the entry of a call answers, and document 01's numbers for it
 abbrev pub Answer : Call → Type 0
-Answer (to_request c m f n) = Requested
-Answer (to_convert c k m f v) = Converted
-Answer (to_release c k f v) = Released
-Answer (to_cancel c k) = Cancelled
-Answer (to_purge c) = Purged
-Answer to_break = Broken
-Answer (to_poll c) = Polled
+Answer (to_request c m f n) = Result Requested Refusal
+Answer (to_convert c k m f v) = Result Converted Refusal
+Answer (to_release c k f v) = Result Unit Refusal
+Answer (to_cancel c k) = Result Cancelled Refusal
+Answer (to_purge c) = Result Purged Refusal
+Answer to_break = Result (Option ℕ) Refusal
+Answer (to_poll c) = Result (Option Notice) Refusal
 
 abbrev pub numbers_of : (call : Call) → Answer call → Said
 numbers_of (to_request c m f n) x = answers.requested x
 numbers_of (to_convert c k m f v) x = answers.converted x
-numbers_of (to_release c k f v) x = answers.released x
+numbers_of (to_release c k f v) x = answers.done x
 numbers_of (to_cancel c k) x = answers.cancelled x
 numbers_of (to_purge c) x = answers.purged x
 numbers_of to_break x = answers.broken x
@@ -73,20 +71,20 @@ pub record RunHolds (t : Lent) (us : List Turn) : Type 0 where
 -- THE QUEUE THEOREM ABOUT THE PROGRAM. `start` was lent t, of any content, accepted and left u; then any list of calls. Proved as `program_theorem`.
 abbrev pub ProgramTheorem : Type 0
 ProgramTheorem =
-    (t : Lent) (r l : ℕ) (x : Done) (u : Lent) → outcome (answers.done x) u ≡ start_entry t r l → (answers.done x).refusal ≡ 0
+    (t : Lent) (r l : ℕ) (x : Result Unit Refusal) (u : Lent) → outcome (answers.done x) u ≡ start_entry t r l → (answers.done x).refusal ≡ 0
     → (us : List Turn) → Run u us → RunHolds u us
 
 -- THE MARKS THEOREM ABOUT THE PROGRAM: after every run, every further turn does to the marks what R-1 promises. Proved as `program_marks`.
 abbrev pub ProgramMarks : Type 0
 ProgramMarks =
-    (t : Lent) (r l : ℕ) (x : Done) (u : Lent) → outcome (answers.done x) u ≡ start_entry t r l → (answers.done x).refusal ≡ 0
+    (t : Lent) (r l : ℕ) (x : Result Unit Refusal) (u : Lent) → outcome (answers.done x) u ≡ start_entry t r l → (answers.done x).refusal ≡ 0
     → (us : List Turn) → Run u us → (v : Turn) → Keeps v.call (lent_after_run u us) (said v) v.left
     → MarksRight v.call (lent_after_run u us) (outcome (said v) v.left)
 
 -- EACH LOCK IS HEARD OF ONCE BY THE PROGRAM (R-3): after every run, every further turn opens and closes locks as R-3 promises. Proved as `program_heard`.
 abbrev pub ProgramHeard : Type 0
 ProgramHeard =
-    (t : Lent) (r l : ℕ) (x : Done) (u : Lent) → outcome (answers.done x) u ≡ start_entry t r l → (answers.done x).refusal ≡ 0
+    (t : Lent) (r l : ℕ) (x : Result Unit Refusal) (u : Lent) → outcome (answers.done x) u ≡ start_entry t r l → (answers.done x).refusal ≡ 0
     → (us : List Turn) → Run u us → (v : Turn) → Keeps v.call (lent_after_run u us) (said v) v.left
     → HeardRight v.call (lent_after_run u us) (outcome (said v) v.left)
 
@@ -109,5 +107,5 @@ pub record TurnsInOrder (t : Lent) : Type 0 where
 -- after every run. Proved as `program_no_overtaking`.
 abbrev pub ProgramNoOvertaking : Type 0
 ProgramNoOvertaking =
-    (t : Lent) (r l : ℕ) (x : Done) (u : Lent) → outcome (answers.done x) u ≡ start_entry t r l → (answers.done x).refusal ≡ 0
+    (t : Lent) (r l : ℕ) (x : Result Unit Refusal) (u : Lent) → outcome (answers.done x) u ≡ start_entry t r l → (answers.done x).refusal ≡ 0
     → (us : List Turn) → Run u us → TurnsInOrder (lent_after_run u us)

@@ -1,6 +1,7 @@
 -- The set of the modes that are held beside one lock, from counts: what it says of a mode, and how code builds it.
-use mathlib.Core.Path.{◌≡◌, sym}
-use mathlib.Core.Bool.{◌&&◌, ◌||◌, not, and-true}
+use mathlib.Core.Path.{◌≡◌, refl, sym, ◌∙◌}
+use mir.Val.{bool_byte}
+use mathlib.Core.Bool.{Bool, true, false, ◌&&◌, ◌||◌, not, and-true}
 use Prim.Native.Nat.{ℕ, ◌<◌, ◌≤◌}
 use native.Mathlib.Omega.{arith}
 use lib.Dec.{eqb, ltb}
@@ -15,14 +16,18 @@ use Rattle.table_fields.specs.Records.{counts_by}
 use Rattle.queues.specs.Holders.{with_held, modes_beside, goes_beside}
 
 -- with_held
-module _ (own c h s b : ℕ) (eb : (b ≡ bit (eqb h own)) × (b ≤ 1)) where
+byte_bit : (b : Bool) → bool_byte b ≡ bit b
+byte_bit true = refl
+byte_bit false = refl
+
+module _ (own c h s b : ℕ) (eb : b ≡ bool_byte (eqb h own)) where
   pub held_not : c ≤ b → s ≡ with_held own c h s
   unfolding with_held
-  held_not l = rw (le-ltb (bit (eqb h own)) c (omega arith))
+  held_not l = let e = eb ∙ byte_bit (eqb h own) in rw (le-ltb (bit (eqb h own)) c (omega arith))
 
   pub held_so : b < c → (x : ℕ) → (x ≡ with_mode s h) × (x < 64) → x ≡ with_held own c h s
   unfolding with_held
-  held_so l x ex = rw (lt-ltb (bit (eqb h own)) c (omega arith)) ex.0
+  held_so l x ex = let e = eb ∙ byte_bit (eqb h own) in rw (lt-ltb (bit (eqb h own)) c (omega arith)) ex.0
 
 pub ruleset held_laws = (rules, held_not, held_so)
 

@@ -1,6 +1,11 @@
 -- Reading a resource's queues from the words of a state.
 use mathlib.Core.Path.{◌≡◌, refl, sym, ◌∙◌, ap}
+use mathlib.Core.Bool.{not}
 use mathlib.Core.List.{List, [], ◌∷◌}
+use Rattle.std.specs.Bool.{then_some}
+use Rattle.std.specs.Prelude.{Option, Some}
+use Rattle.tables.specs.Numbered.{numbered}
+use Rattle.table_chains.proofs.NumberOrNone.{some_number, then_number}
 use Prim.Native.Nat.{ℕ, zero, suc}
 use native.Mathlib.Omega.{arith}
 use lib.Dec.{eqb}
@@ -32,20 +37,20 @@ module _ (r : ℕ) (t : Tables) (p : Resourced r t) (ws : List ℕ) (is : ws ≡
 
 -- next_up
 module _ (ws : List ℕ) (r : ℕ) (x : ℕ) (ex : x ≡ word_in ws (of_resource r 2)) where
-  pub next_converts : (x ≡ 0 → ⊥) → Tells (Resourced r) (λ t. first (line t r)) ws x
+  pub next_converts : (x ≡ 0 → ⊥) → Tells (Resourced r) (λ t. numbered (first (line t r))) ws (Some x)
   unfolding line
   next_converts n = record {
     then = λ t p is.
         let e = ex ∙ queue_first r t p converts ws is in
-        e ∙ sym (first_of (resource t r).convert (resource t r).wait (λ z. n (e ∙ z)));
+        some_number x n ∙ ap numbered (e ∙ sym (first_of (resource t r).convert (resource t r).wait (λ z. n (e ∙ z))));
   }
 
-  pub next_waits : x ≡ 0 → (y : ℕ) → y ≡ word_in ws (of_resource r 3) → Tells (Resourced r) (λ t. first (line t r)) ws y
+  pub next_waits : x ≡ 0 → (y : ℕ) → y ≡ word_in ws (of_resource r 3) → (o : Option ℕ) → o ≡ then_some (not (eqb y 0)) y → Tells (Resourced r) (λ t. numbered (first (line t r))) ws o
   unfolding line
-  next_waits n y ey = record {
+  next_waits n y ey o eo = record {
     then = λ t p is.
-        ey ∙ queue_first r t p waits ws is
-        ∙ sym (first_after (resource t r).convert (resource t r).wait (p.core.linked (queue r converts) 0) (sym (ex ∙ queue_first r t p converts ws is) ∙ n));
+        eo ∙ then_number y ∙ ap numbered (ey ∙ queue_first r t p waits ws is
+        ∙ sym (first_after (resource t r).convert (resource t r).wait (p.core.linked (queue r converts) 0) (sym (ex ∙ queue_first r t p converts ws is) ∙ n)));
   }
 
 pub ruleset next_laws = (rules, here_sized, here_low, here_high, next_converts, next_waits)

@@ -1,6 +1,7 @@
 -- What the functions of this crate stand on, and one turn of a sweep.
-use Rattle.std.specs.Prelude.{◌≡◌, Bool, true, false, List, ℕ, ◌≤◌, length}
+use Rattle.std.specs.Prelude.{◌≡◌, Bool, true, false, cond, List, ℕ, Option, None, ◌≤◌, length}
 use Rattle.tables.specs.Lists.{within, first}
+use Rattle.tables.specs.Numbered.{numbered}
 use Rattle.tables.specs.State.{Tables, name_width, value_width, lock, resource, granted}
 use Rattle.tables.specs.Layout.{words, slots}
 use Rattle.tables.specs.Grants.{convert_grantable, grantable_head, empty}
@@ -18,9 +19,12 @@ pub record GrantedLock (k : ℕ) (t : Tables) : Type 0 where
   pub core : Core t
   pub is_granted : granted (lock t k) ≡ true
 
--- ONE TURN of a sweep. The line of r is its convert chain and then its wait chain. Its head can be granted, and is granted
+-- ONE TURN of a sweep. The line of r is its convert chain and then its wait chain. Its head can be granted; the head, if it can be; and it is granted
 unfoldable pub ready : ℕ → Tables → Bool
 ready r t = grantable_head (convert_grantable t r) (line t r)
+
+unfoldable pub next_granted : ℕ → Tables → Option ℕ
+next_granted r t = cond (ready r t) (numbered (first (line t r))) None
 
 unfoldable pub advance : ℕ → Tables → Tables
 advance r t = elim (ready r t) [ true ↦ grant_lock r (first (line t r)) t | false ↦ t ]

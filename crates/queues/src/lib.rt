@@ -3,6 +3,7 @@
 // settling.
 ghost use Rattle.std.specs.Prelude.{◌≡◌, true, false, ◌<◌};
 ghost use Rattle.tables.specs.Lists.{first};
+ghost use Rattle.tables.specs.Numbered.{numbered};
 ghost use Rattle.tables.specs.State.{no_resource, resource, move_resource};
 ghost use Rattle.tables.specs.Grants.{empty};
 ghost use Rattle.tables.specs.Validity.{line};
@@ -11,7 +12,7 @@ ghost use Rattle.rules.specs.Calls.{granted_at_once, in_place, leave_value, new_
 ghost use Rattle.table_chains.specs.Promises.{Some, Turns, Tells, Answers, Changes, Resourced};
 ghost use Rattle.queues.specs.Holders.{with_held, modes_beside, goes_beside, own_mode};
 ghost use Rattle.queues.specs.Decisions.{admits_request, admits_conversion, admits_head, read_occupancy};
-ghost use Rattle.queues.specs.Promises.{Locked, GrantedLock, ready, advance, SomeTables, Vacant, Takes, Valued};
+ghost use Rattle.queues.specs.Promises.{Locked, GrantedLock, next_granted, advance, SomeTables, Vacant, Takes, Valued};
 
 use modes::Mode;
 use table_chains::Hints;
@@ -31,12 +32,13 @@ struct Occupancy {
 const NO_MODE: u32 = 6;
 
 // The set with the mode, which `count` locks hold, if more hold it than the one that is left out, which holds `own`.
+#[tactic(auto, using(crate::proofs::HeldModes::held_laws))]
 fn with_held(set: u32, mode: u32, count: u32, own: u32) -> u32
     requires set_bound { set < 64 }
     requires mode_bound { mode < 6 }
     ensures { (result ≡ with_held own count mode set) × (result < 64) }
 {
-    if count <= table_fields::bit(mode == own) {
+    if count <= u32::from(mode == own) {
         return set;
     }
     modes::with_mode(set, mode)
@@ -46,12 +48,12 @@ fn with_held(set: u32, mode: u32, count: u32, own: u32) -> u32
 fn modes_beside(counts: ModeCounts, own: u32) -> u32
     ensures { (result ≡ modes_beside counts own) × (result < 64) }
 {
-    let nl = with_held(0, Mode::NL.0, counts.nl, own);
-    let cr = with_held(nl, Mode::CR.0, counts.cr, own);
-    let cw = with_held(cr, Mode::CW.0, counts.cw, own);
-    let pr = with_held(cw, Mode::PR.0, counts.pr, own);
-    let pw = with_held(pr, Mode::PW.0, counts.pw, own);
-    with_held(pw, Mode::EX.0, counts.ex, own)
+    let nl = with_held(0, Mode::NL as u32, counts.nl, own);
+    let cr = with_held(nl, Mode::CR as u32, counts.cr, own);
+    let cw = with_held(cr, Mode::CW as u32, counts.cw, own);
+    let pr = with_held(cw, Mode::PR as u32, counts.pr, own);
+    let pw = with_held(pr, Mode::PW as u32, counts.pw, own);
+    with_held(pw, Mode::EX as u32, counts.ex, own)
 }
 
 // The mode is compatible with each of them.
@@ -64,6 +66,7 @@ fn goes_beside(counts: ModeCounts, own: u32, mode: u32) -> bool
 
 // A new request of the mode is granted at once: no conversion waits there and, unless it is for NL, no request; and the
 // mode is compatible with every held mode.
+#[tactic(auto, using(crate::proofs::Decisions::request_laws))]
 fn admits_request(s: Occupancy, mode: u32) -> bool
     requires { mode < 6 }
     ensures { result ≡ admits_request s mode }
@@ -71,7 +74,7 @@ fn admits_request(s: Occupancy, mode: u32) -> bool
     if s.convert != 0 {
         return false;
     }
-    if (mode != Mode::NL.0) & (s.wait != 0) {
+    if (mode != Mode::NL as u32) & (s.wait != 0) {
         return false;
     }
     goes_beside(s.counts, NO_MODE, mode)
@@ -79,6 +82,7 @@ fn admits_request(s: Occupancy, mode: u32) -> bool
 
 // A granted lock that holds `own` takes the mode where it stands: the conversion is down, or no conversion waits there
 // and the mode fits the other holders.
+#[tactic(auto, using(crate::proofs::Decisions::conversion_laws))]
 fn admits_conversion(s: Occupancy, own: u32, mode: u32) -> bool
     requires own_bound { own < 6 }
     requires mode_bound { mode < 6 }
@@ -95,6 +99,7 @@ fn admits_conversion(s: Occupancy, own: u32, mode: u32) -> bool
 
 // The set of the modes that others hold where the lock l is blocked. A converting lock is not in its own way; a waiting
 // one holds nothing.
+#[tactic(auto, using(crate::proofs::Decisions::head_laws))]
 pub fn modes_of_others(counts: ModeCounts, l: Lock) -> u32
     ensures { (result ≡ modes_beside counts (own_mode l)) × (result < 64) }
 {
@@ -105,6 +110,7 @@ pub fn modes_of_others(counts: ModeCounts, l: Lock) -> u32
 }
 
 // A lock at the head of the line gets what it asks for.
+#[tactic(auto, using(crate::proofs::Decisions::head_laws))]
 fn admits_head(counts: ModeCounts, l: Lock) -> bool
     requires { l.asked < 6 }
     ensures { result ≡ admits_head counts l }
@@ -143,52 +149,43 @@ pub fn in_place(words: &[u32], k: u32, mode: u32) -> bool
     admits_conversion(occupancy_at(words, lock.resource), lock.held, mode)
 }
 
-// The lock that is next to be granted on r, or 0: the convert head, or else the wait head.
-fn next_up(words: &[u32], r: u32) -> u32
+// The lock that is next to be granted on r: the convert head, or else the wait head.
+fn next_up(words: &[u32], r: u32) -> Option<u32>
     requires { Some (Resourced r) words.now }
-    ensures { Tells (Resourced r) (λ t. first (line t r)) words.now result }
+    ensures { Tells (Resourced r) (λ t. numbered (first (line t r))) words.now result }
 {
-    let k = resource_word(words, r, table_fields::RESOURCE_CONVERT);
-    if k != 0 {
-        return k;
+    let converting = resource_word(words, r, table_fields::RESOURCE_CONVERT);
+    if converting != 0 {
+        return Some(converting);
     }
-    resource_word(words, r, table_fields::RESOURCE_WAIT)
+    let waiting = resource_word(words, r, table_fields::RESOURCE_WAIT);
+    (waiting != 0).then_some(waiting)
 }
 
 fn granted(l: Lock) -> Lock
     ensures { result ≡ granted_lock l }
 {
-    let mut m = l;
-    m.state = table_fields::STATE_GRANTED;
-    m.held = l.asked;
-    m.asked = 0;
-    m.completion = table_fields::COMPLETION_GRANTED;
-    m
+    Lock {
+        state: table_fields::STATE_GRANTED,
+        held: l.asked,
+        asked: 0,
+        completion: table_fields::COMPLETION_GRANTED,
+        ..l
+    }
 }
 
-// Grants the next lock of r if that is possible. Answers whether it did. `last` is a hint at the last lock granted there.
-fn grant_next(words: &mut [u32], r: u32, last: u32) -> bool
+// Grants the next lock of r if that is possible, and answers which it was. `last` is a hint at the last lock granted there.
+fn grant_next(words: &mut [u32], r: u32, last: u32) -> Option<u32>
     requires { Some (Resourced r) words.old }
-    ensures { Answers (Resourced r) (ready r) (advance r) words.old words.new result }
+    ensures { Answers (Resourced r) (next_granted r) (advance r) words.old words.new result }
 {
-    let k = next_up(words, r);
-    if k == 0 {
-        return false;
-    }
+    let k = next_up(words, r)?;
     let l = table_fields::lock_at(words, k);
     if !admits_head(table_fields::counts_at(words, r), l) {
-        return false;
+        return None;
     }
-    table_chains::move_lock(
-        words,
-        k,
-        granted(l),
-        Hints {
-            before: 0,
-            last: last,
-        },
-    );
-    true
+    table_chains::move_lock(words, k, granted(l), Hints { before: 0, last });
+    Some(k)
 }
 
 // Grants locks on r as long as the next one can be granted. `last` is a hint at the last lock granted there; each lock that
@@ -198,29 +195,19 @@ pub fn sweep(words: &mut [u32], r: u32, last: u32)
     ensures { Turns (Resourced r) (sweep r) words.old words.new }
 {
     let mut hint = last;
-    loop {
-        let k = next_up(words, r);
-        if !grant_next(words, r, hint) {
-            return;
-        }
+    while let Some(k) = grant_next(words, r, hint) {
         hint = k;
     }
 }
 
 // The lock k becomes free. `before` is a hint at the lock before it on its home chain.
+#[tactic(auto, using(crate::proofs::GrantTurns::free_laws))]
 pub fn free_lock(words: &mut [u32], k: u32, before: u32)
     requires { Some (Locked k) words.old }
     ensures { Turns (Locked k) (free_lock k) words.old words.new }
 {
-    table_chains::move_lock(
-        words,
-        k,
-        table_fields::NO_LOCK,
-        Hints {
-            before: before,
-            last: 0,
-        },
-    );
+    let hints = Hints { before, last: 0 };
+    table_chains::move_lock(words, k, table_fields::NO_LOCK, hints);
 }
 
 // The resource r, on which no lock stands, becomes free.
@@ -279,6 +266,7 @@ pub fn is_empty(words: &[u32], r: u32) -> bool
 }
 
 // The resource r is swept, or becomes free if no lock is left on it. `last` is a hint at the last lock granted there.
+#[tactic(auto, using(crate::proofs::ResourceRecord::settle_laws))]
 pub fn settle(words: &mut [u32], slots: &mut [u8], r: u32, last: u32)
     requires { SomeTables (Resourced r) words.old slots.old }
     ensures { Changes (Resourced r) (settle r) words.old slots.old words.new slots.new }

@@ -1,48 +1,30 @@
 -- Words that are written as bytes are read back, and bytes that are read as words are written back.
-use mathlib.Core.Path.{◌≡◌, refl, sym, ap, ap₂, ◌∙◌}
+use mathlib.Core.Path.{◌≡◌, refl, ap, ap₂, ◌∙◌}
 use mathlib.Core.List.{List, [], ◌∷◌, ◌++◌, map}
 use Prim.Native.Nat.{ℕ, zero, suc, ◌+◌, ◌*◌, ◌/◌, ◌%◌, ◌<◌, ◌≤◌, ◌^◌}
 use native.Mathlib.Omega.{arith}
-use native.Mathlib.Nat.{div-add-mod, div-div-eq-div-mul, mod-eq_of_lt}
 use lib.ListN.{length, get_or, take}
+use Rattle.std.proofs.lemmas.Nat.{le_bytes_4, from_le_bytes-to_le_bytes_4}
 use Rattle.tables.specs.Lists.{from}
 use Rattle.tables.specs.Threads.{Each}
 use Rattle.rules.specs.Images.{word_bytes, word_from}
 use Rattle.table_bytes.specs.Bytes.{encoded, decoded}
 
--- one word: what is left when byte after byte is taken off
-taken : (x : ℕ) → x ≡ 256 * (x / 256) + x % 256
-taken x = sym (div-add-mod x 256)
-
-summed : (w u v t b c d e : ℕ) → w ≡ 256 * u + b → u ≡ 256 * v + c → v ≡ 256 * t + d → t ≡ e → b + 256 * c + 65536 * d + 16777216 * e ≡ w
-summed w u v t b c d e p q r s = omega arith
-
-module _ (w : ℕ) where
-  second : w / 256 / 256 ≡ w / 65536
-  second = div-div-eq-div-mul w 256 256
-
-  third : w / 65536 / 256 ≡ w / 16777216
-  third = div-div-eq-div-mul w 65536 256
-
-  pub word_back : (bs : List ℕ) → w < 2 ^ 32 → word_from (word_bytes w ++ bs) 0 ≡ w
-  word_back bs h =
-      let top : w / 16777216 < 256 = omega arith in
-      summed w (w / 256) (w / 65536) (w / 16777216) (w % 256) (w / 256 % 256) (w / 65536 % 256) (w / 16777216 % 256)
-      (taken w) (rw second at (taken (w / 256))) (rw third at (taken (w / 65536))) (sym (mod-eq_of_lt top))
+-- one word
+pub word_back : (w : ℕ) (bs : List ℕ) → w < 2 ^ 32 → word_from (word_bytes w ++ bs) 0 ≡ w
+word_back w bs h = omega (arith, from_le_bytes-to_le_bytes_4 w h)
 
 -- four bytes
-apart : (x q r : ℕ) → x ≡ 256 * q + r → r < 256 → (x % 256 ≡ r) × (x / 256 ≡ q)
-apart x q r e h = (omega arith, omega arith)
-
 module _ (b c d e : ℕ) (p : b < 256) (q : c < 256) (r : d < 256) (s : e < 256) where
+  four_small : (i : ℕ) → get_or (b ∷ c ∷ d ∷ e ∷ []) i 0 < 256
+  four_small zero = p
+  four_small (suc zero) = q
+  four_small (suc (suc zero)) = r
+  four_small (suc (suc (suc zero))) = s
+  four_small (suc (suc (suc (suc i)))) = omega arith
+
   pub bytes_back : word_bytes (b + 256 * c + 65536 * d + 16777216 * e) ≡ b ∷ c ∷ d ∷ e ∷ []
-  bytes_back =
-      let x : ℕ = b + 256 * c + 65536 * d + 16777216 * e in
-      let i = apart x (c + 256 * (d + 256 * e)) b (omega arith) p in
-      let j = apart (x / 256) (d + 256 * e) c (i.1 ∙ omega arith) q in
-      let k = apart (x / 65536) e d (sym (second x) ∙ j.1 ∙ omega arith) r in
-      let l : x / 16777216 % 256 ≡ e = ap (λ (n : ℕ). n % 256) (sym (third x) ∙ k.1) ∙ mod-eq_of_lt s in
-      λ t. i.0 t ∷ j.0 t ∷ k.0 t ∷ l t ∷ []
+  bytes_back = le_bytes_4 (b ∷ c ∷ d ∷ e ∷ []) (b + 256 * c + 65536 * d + 16777216 * e) refl four_small (omega arith)
 
 -- what stands four places further on
 module _ (b c d e : ℕ) (bs : List ℕ) where

@@ -1,24 +1,24 @@
 -- Laws of the two loops: the words so far are bytes, the bytes so far are words, and the others are as they were.
 use mathlib.Core.Path.{◌≡◌, refl, sym, ap, ap₂, ◌∙◌}
-use mathlib.Core.List.{List, [], ◌∷◌, ◌++◌, map, append_assoc, append-nil}
-use Prim.Native.Nat.{ℕ, zero, suc, ◌+◌, ◌*◌, ◌/◌, ◌%◌, ◌<◌, ◌≤◌}
+use mathlib.Core.List.{List, [], ◌∷◌, ◌++◌, map, append_assoc}
+use Prim.Native.Nat.{ℕ, zero, suc, ◌+◌, ◌*◌, ◌-◌, ◌<◌}
 use native.Mathlib.Omega.{arith}
-use native.Mathlib.Numerals.{add-one, add-two, add-three}
+use native.Mathlib.Numerals.{add-one}
 use native.Mathlib.Nat.{add-zero, zero-add}
 use borrow.Author.Rules.{rules}
-use lib.ListN.{length, get_or, set, take, drop, length-append, drop_of_length-le}
-use lib.Seq.{drop-cons, drop-drop, drop-length, set_at, sets-eq, take-suc, take_all, take_at, drop-append-add, length-take-le}
+use borrow.Rule.Slice.PartMut.{put_mid, Post-is}
+use Rattle.std.specs.Int.{w32, to_le_bytes}
+use lib.ListN.{length, get_or, set, take, drop, length-append}
+use lib.Seq.{drop-cons, drop-drop, set_at, take-suc, take_at, drop-append-add, length-take-le}
 use Rattle.tables.specs.Lists.{from}
 use Rattle.tables.proofs.Blocks.{length_map_from, get_or_map_from}
 use Rattle.rules.specs.Images.{word_bytes, word_from}
 use Rattle.table_bytes.specs.Bytes.{encoded, decoded, with_word}
 
 -- put_word
-pub word_put : (a : List ℕ) (i x b c d e : ℕ) → i + 4 ≤ length a → b ≡ x % 256 → c ≡ x / 256 % 256 → d ≡ x / 65536 % 256 → e ≡ x / 16777216 % 256
-    → set (set (set (set a i b) (i + 1) c) (i + 2) d) (i + 3) e ≡ with_word i x a
+pub word_put : (a : List ℕ) (i x : ℕ) {zs : List ℕ} → zs ≡ to_le_bytes w32 x → put_mid i (i + 4 - i) a zs ≡ with_word i x a
 unfolding with_word
-word_put a i x b c d e h p q r s =
-    rw (p, q, r, s, add-one i, add-two i, add-three i) (sets-eq (word_bytes x) a i h ∙ append_assoc (take i a) (word_bytes x) (drop (i + 4) a))
+word_put a i x e = ap₂ (λ (bs cs : List ℕ). take i a ++ (bs ++ cs)) e (Post-is i (i + 4) a (omega arith))
 
 pub ruleset put_laws = (rules, word_put)
 
@@ -50,16 +50,11 @@ module _ (ws a d : List ℕ) {i : ℕ} (long : length d ≡ 4 * length ws) (left
       let w : encoded (get_or ws i 0 ∷ []) ≡ word_bytes (get_or ws i 0) = unfold encoded in refl in
       e ∙ rw (left, m, add-one i, take-suc ws i 0 h, encoded_append (take i ws) (get_or ws i 0 ∷ []), w) (word_after (encoded (take i ws)) d (4 * i) (get_or ws i 0) l)
 
-  pub encode_end : length ws ≤ i → a ≡ encoded ws
-  encode_end h =
-      let l : length d ≤ 4 * i = omega arith in
-      left ∙ rw (take_all i ws h, drop_of_length-le d l, append-nil)
-
 pub encode_none : (ws d : List ℕ) → d ≡ encoded (take 0 ws) ++ drop (4 * 0) d
 unfolding encoded
 encode_none ws d = refl
 
-pub ruleset encode_loop = (rules, encode_none, encode_next, encode_end)
+pub ruleset encode_loop = (rules, encode_none, encode_next)
 
 -- decode
 from_last : (f : ℕ → ℕ) (a n : ℕ) → map f (from a (suc n)) ≡ map f (from a n) ++ f (a + n) ∷ []
@@ -90,7 +85,4 @@ module _ (bs a d : List ℕ) {i : ℕ} (long : length a ≡ length d) (left : a 
       rw (left, drop-cons d i 0 k, decoded_more bs i, ← e, add-one i)
       (set_at (decoded bs i) (get_or d i 0) (drop (suc i) d) x i (length_decoded bs i) ∙ sym (append_assoc (decoded bs i) (x ∷ []) (drop (suc i) d)))
 
-  pub decode_end : i ≤ length d → length a ≤ i → a ≡ decoded bs (length d)
-  decode_end h k = let e : i ≡ length d = omega arith in left ∙ rw (e, drop-length d, append-nil)
-
-pub ruleset decode_loop = (rules, decode_none, decode_next, decode_end)
+pub ruleset decode_loop = (rules, decode_none, decode_next)

@@ -2,7 +2,7 @@
 use mathlib.Core.Path.{◌≡◌, refl, sym, ◌∙◌, ap, ap₂, subst}
 use mathlib.Core.Logic.{◌≢◌}
 use mathlib.Core.List.{List}
-use Prim.Native.Nat.{ℕ, ◌+◌, ◌*◌, ◌-◌, ◌<◌, ◌≤◌}
+use Prim.Native.Nat.{ℕ, ◌<◌, ◌≤◌}
 use native.Mathlib.Omega.{arith}
 use lib.ListN.{get_or, length}
 use Rattle.tables.specs.State.{Tables, free_locks, denied, blocked, notices, queue, Chain, free_resources, of_locks, chain_of}
@@ -20,9 +20,9 @@ use Rattle.tables.proofs.ReadBack.{resources_word_with, locks_word_with, chain_m
 use Rattle.tables.specs.Stores.{cell_place}
 use Rattle.tables.proofs.WordSteps.{cells_are}
 use Rattle.table_fields.specs.Sizes.{Sized, Kept}
+use Rattle.std.specs.Prelude.{Option, Some}
 use Rattle.table_chains.specs.declared.Cells.{Cells}
 use Rattle.table_chains.specs.Cells.{cell_of, cells_at, lock_cells, Walks, Near, Leaves, Pushes}
-use Rattle.table_chains.proofs.CellWalks.{cell_positive}
 
 pub kept_trans : (a b d : List ℕ) → Kept a b → Kept b d → Kept a d
 kept_trans a b d h k = record { sized = k.sized; same_resources = k.same_resources ∙ h.same_resources; same_locks = k.same_locks ∙ h.same_locks }
@@ -103,8 +103,8 @@ module _ (ct : Counts) (t : Tables) (ws : List ℕ) (is : ws ≡ words_with ct t
     pub chain_joins : Walks ws cs 0
     chain_joins = chain_walks 0 (λ z a. z refl)
 
-    own_inside : (k : ℕ) → Stands t c k → cs.first + cs.width * (k - 1) < length ws
-    own_inside k s = rw (← (cell_positive cs k s.0), ap (λ (f : ℕ → ℕ). f k) (cells_now c ws cs e)) (inside (cell c k) s.1.inside)
+    own_inside : (k : ℕ) → Stands t c k → cell_of cs k < length ws
+    own_inside k s = rw (ap (λ (f : ℕ → ℕ). f k) (cells_now c ws cs e)) (inside (cell c k) s.1.inside)
 
     pub chain_leaves : (k : ℕ) → (Absent k (chain_of c t) → ⊥) → Leaves ws cs k
     chain_leaves k o =
@@ -120,11 +120,12 @@ module _ (ct : Counts) (t : Tables) (ws : List ℕ) (is : ws ≡ words_with ct t
         subst (λ (x : List ℕ). get_or x (cell_of cs j) 0 ≡ k → cell_of cs j ≡ cell_holding x (cell_of cs) k cs.most cs.head) (sym is)
         (subst (λ (f : ℕ → ℕ). get_or (words_with ct t) (f j) 0 ≡ k → f j ≡ cell_holding (words_with ct t) f k cs.most (f 0)) (sym cells) (near_holds_with ct t c h k cs.most bound o j on))
 
-    pub chain_near : (k : ℕ) → (k ≢ 0 → Absent k (chain_of c t) → ⊥) → (j : ℕ) → (1 ≤ j → Absent j (chain_of c t) → ⊥) → Near ws cs k j
-    chain_near k o j on =
+    pub chain_near : (k : ℕ) → (k ≢ 0 → Absent k (chain_of c t) → ⊥) → (x : Option ℕ) → ((j : ℕ) → x ≡ Some j → (1 ≤ j) × (Absent j (chain_of c t) → ⊥)) → Near ws cs k x
+    chain_near k o x on =
         record {
-          inside = λ p. own_inside j (each_on (Stands t c) (chain_of c t) j h.members (on p));
-          found = λ p. subst (λ (i : ℕ). get_or ws i 0 ≡ k → i ≡ cell_holding ws (cell_of cs) k cs.most cs.head) (cell_positive cs j p) (near_at k o j (on p));
+          low = λ j p. (on j p).0;
+          inside = λ j p. own_inside j (each_on (Stands t c) (chain_of c t) j h.members (on j p).1);
+          found = λ j p. near_at k o j (on j p).1;
         }
 
     head_inside : cs.head < length ws

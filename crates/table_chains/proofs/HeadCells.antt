@@ -1,7 +1,7 @@
 -- The cells that code computes are those of the chain.
 use mathlib.Core.Path.{◌≡◌, refl, ◌∙◌}
 use mathlib.Core.List.{List}
-use Prim.Native.Nat.{ℕ, zero, suc, ◌+◌, ◌*◌, ◌-◌, ◌<◌, ◌≤◌, ◌^◌}
+use Prim.Native.Nat.{ℕ, zero, suc, ◌+◌, ◌*◌, ◌-◌, ◌<◌, ◌≤◌}
 use native.Mathlib.Omega.{arith}
 use borrow.Author.Rules.{rules}
 use Rattle.tables.specs.State.{free_resources, of_locks, home_at}
@@ -10,15 +10,15 @@ use Rattle.tables.proofs.Chains.{home_past}
 use Rattle.table_chains.specs.declared.Cells.{Cells}
 use Rattle.table_chains.specs.Cells.{cells_at, lock_cells, Housed}
 
-pub lock_cells_are : (ws : List ℕ) (hd f x n y : ℕ) → x ≡ header_width + resource_width * resources_in ws + lock_width * (1 - 1) → n ≡ locks_in ws → (y ≡ n) × (y < 2 ^ 32)
-    → record { head = hd; first = x + f; width = lock_width; most = y } ≡ lock_cells hd f ws
+pub lock_cells_are : (ws : List ℕ) (hd f x n : ℕ) → x ≡ header_width + resource_width * resources_in ws + lock_width * (1 - 1) → n ≡ locks_in ws
+    → record { head = hd; first = x + f; width = lock_width; most = n } ≡ lock_cells hd f ws
 unfolding lock_cells
-lock_cells_are ws hd f x n y ex en ey = rw (ex, ey.0, en)
+lock_cells_are ws hd f x n ex en = rw (ex, en)
 
-pub resource_cells_are : (ws : List ℕ) (x n y : ℕ) → x ≡ header_width + resource_width * (1 - 1) → n ≡ resources_in ws → (y ≡ n) × (y < 2 ^ 32)
-    → record { head = 2; first = x + 0; width = resource_width; most = y } ≡ cells_at free_resources ws
+pub resource_cells_are : (ws : List ℕ) (x n : ℕ) → x ≡ header_width + resource_width * (1 - 1) → n ≡ resources_in ws
+    → record { head = 2; first = x + 0; width = resource_width; most = n } ≡ cells_at free_resources ws
 unfolding cells_at
-resource_cells_are ws x n y ex en ey = rw (ex, ey.0, en)
+resource_cells_are ws x n ex en = rw (ex, en)
 
 -- the place of a home's head
 pub head_free : (s r n : ℕ) → s ≡ 0 → 3 ≡ place n (head (of_locks (home_at s r)))
@@ -27,12 +27,12 @@ head_free s r n e = rw e
 pub head_denied : (s r n : ℕ) → 4 ≤ s → 4 ≡ place n (head (of_locks (home_at s r)))
 head_denied s r n h = rw (home_past s r h)
 
-pub head_queue : (s r n x y : ℕ) → (s ≡ 0 → ⊥) → s < 4 → x ≡ header_width + resource_width * (r - 1) → (y ≡ s) × (y < 2 ^ 32) → x + y ≡ place n (head (of_locks (home_at s r)))
-head_queue zero r n x y p q e f = absurd (p refl)
-head_queue (suc zero) r n x y p q e f = rw (e, f.0)
-head_queue (suc (suc zero)) r n x y p q e f = rw (e, f.0)
-head_queue (suc (suc (suc zero))) r n x y p q e f = rw (e, f.0)
-head_queue (suc (suc (suc (suc s)))) r n x y p q e f = absurd (omega arith)
+pub head_queue : (s r n x : ℕ) → (s ≡ 0 → ⊥) → s < 4 → x ≡ header_width + resource_width * (r - 1) → x + s ≡ place n (head (of_locks (home_at s r)))
+head_queue zero r n x p q e = absurd (p refl)
+head_queue (suc zero) r n x p q e = rw e
+head_queue (suc (suc zero)) r n x p q e = rw e
+head_queue (suc (suc (suc zero))) r n x p q e = rw e
+head_queue (suc (suc (suc (suc s)))) r n x p q e = absurd (omega arith)
 
 queue_in : (s r : ℕ) (ws : List ℕ) → Housed s r ws → (s ≡ 0 → ⊥) → s < 4 → (1 ≤ r) × (r ≤ resources_in ws)
 queue_in zero r ws h p q = absurd (p refl)

@@ -7,4 +7,5 @@ pub mod LockLimits
 pub mod LockCounts
 pub mod LockMoves
 pub mod ResourceWords
+pub mod NumberOrNone
 pub mod MoveByResource

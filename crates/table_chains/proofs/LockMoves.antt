@@ -1,11 +1,11 @@
 -- What each step of a lock's move is: premises as the code's places have them.
 use mathlib.Core.Path.{◌≡◌, refl, sym, ◌∙◌, ap, ap₂, subst}
-use mathlib.Core.Bool.{Bool, true, false, not}
+use mathlib.Core.Bool.{Bool, true, false}
 use mathlib.Core.List.{List}
 use Prim.Native.Nat.{ℕ, ◌*◌, ◌≤◌}
 use native.Mathlib.Omega.{arith}
 use borrow.Author.Rules.{rules}
-use borrow.Author.Tests.{not-false}
+use borrow.Author.Tests.{ne_eqb}
 use lib.ListN.{get_or, length}
 use lib.Dec.{eqb}
 use Rattle.tables.specs.declared.Lock.{Lock}
@@ -13,7 +13,7 @@ use Rattle.tables.specs.State.{Tables, most_locks, last_mode, lock, blocked_lock
 use Rattle.tables.specs.Grants.{holds_mode, tally}
 use Rattle.tables.specs.Layout.{of_resource, head, count_field, words, resources_in, locks_in, read_lock}
 use Rattle.tables.specs.Threads.{Absent, In, Present, Sane, Seat, Whole}
-use Rattle.tables.specs.Stores.{Counts, words_with, cell_place, leave_cells, stays, shift_cells, arrive_cells, set_cells, resettle_cells, side_cells, move_cells, count_place, lower_count, raise_count}
+use Rattle.tables.specs.Stores.{Counts, words_with, cell_place, push_cells, join_cells, leave_cells, stays, shift_cells, arrive_cells, set_cells, resettle_cells, side_cells, move_cells, count_place, lower_count, raise_count}
 use Rattle.tables.proofs.Counts.{within_le}
 use Rattle.tables.proofs.Numbered.{put_lock, lock_put_other, chains_put_lock}
 use Rattle.tables.proofs.Frame.{homed}
@@ -26,28 +26,13 @@ use Rattle.tables.proofs.Tallies.{lowered, tally_after, tally_same, lock_counted
 use Rattle.tables.proofs.MovedWords.{moved_with}
 use Rattle.table_fields.specs.Sizes.{Sized, Kept}
 use Rattle.table_fields.proofs.StateWords.{resources_is, locks_is, core_sized}
+use Rattle.std.specs.Prelude.{Option, Some}
 use Rattle.table_chains.specs.declared.Cells.{Cells}
-use Rattle.table_chains.specs.Cells.{cell_of, cells_at, lock_cells, Near, Leaves, Shifts, Arrives, Housed}
+use Rattle.table_chains.specs.declared.End.TheVariants.{Back}
+use Rattle.table_chains.specs.Cells.{cell_of, cells_at, lock_cells, Walks, Near, Leaves, Pushes, Shifts, Housed}
 use Rattle.table_chains.specs.Promises.{Movable, Moving, Moved, Counting, AtHome, WithNotice, Sided, Homing}
 use Rattle.table_chains.proofs.CellWalks.{near_none}
 use Rattle.table_chains.proofs.ChainCells.{kept_trans, blocked_cells, notice_cells, by_cells, resources_with, locks_with, within_words, chain_joins, chain_leaves, chain_near, chain_pushes}
-
--- HINTS. What has been looked at
-pub home_none : (ws : List ℕ) (l : Lock) (k : ℕ) → AtHome ws l k 0
-home_none ws l k = record { high = λ p. absurd (omega arith); other = λ p. absurd (omega arith); home = λ p. absurd (omega arith) }
-
-pub home_other : (ws : List ℕ) (l : Lock) (k j : ℕ) → (j ≡ k → ⊥) → (n : ℕ) → n ≡ locks_in ws → j ≤ n → (o : Lock) → o ≡ read_lock ws j → (b : Bool) → b ≡ stays o l → not b ≡ false → AtHome ws l k j
-home_other ws l k j d n en h o eo b eb g = record { high = λ p. omega arith; other = λ p. d; home = λ p. rw (← eo, ← eb) (not-false b g) }
-
-pub ruleset at_home_laws = (rules, home_none, home_other)
-
-pub notice_none : (ws : List ℕ) → WithNotice ws 0
-notice_none ws = record { high = λ p. absurd (omega arith); notice = λ p. absurd (omega arith) }
-
-pub notice_has : (ws : List ℕ) (j n : ℕ) → n ≡ locks_in ws → j ≤ n → (o : Lock) → o ≡ read_lock ws j → (b : Bool) → b ≡ noticed o → not b ≡ false → WithNotice ws j
-notice_has ws j n en h o eo b eb g = record { high = λ p. omega arith; notice = λ p. rw (← eo, ← eb) (not-false b g) }
-
-pub ruleset with_notice_laws = (rules, notice_none, notice_has)
 
 -- SIDES. The words after the first of the two chains, at any state
 module _ (ct : Counts) (k : ℕ) (o m : Lock) (a : List ℕ) (t : Tables) (whole : Whole (length t.resources) (length t.locks) t) (low : 1 ≤ k) (high : k ≤ length t.locks)
@@ -71,13 +56,13 @@ module _ (k : ℕ) (o m : Lock) (a : List ℕ) (s : Sided k o m a) where
     seat_first : x ≡ true → Absent k s.state.blocked → ⊥
     seat_first p = subst (λ (z : Bool). Seat z k s.state.blocked) (ap blocked_lock s.here ∙ sym ex ∙ p) (s.whole.on_blocked k s.low side_high)
 
-    pub side_first : Shifts x a cs k
-    side_first =
+    pub side_first : (near : Option ℕ) → Near a cs 0 near → Shifts x (Back near) a cs k
+    side_first near n =
         let h = s.whole.sane.chains (of_locks blocked) (omega arith) in
         let e = ec ∙ blocked_cells a in
         record {
           leaves = λ p. chain_leaves s.counts s.state a s.is (of_locks blocked) h cs e s.sized k (seat_first p);
-          joins = chain_joins s.counts s.state a s.is (of_locks blocked) h cs e s.sized;
+          joins = (chain_joins s.counts s.state a s.is (of_locks blocked) h cs e s.sized, n);
         }
 
     module _ (y : Bool) (ey : y ≡ blocked_lock m) (b : List ℕ) (eb : b ≡ shift_cells x y (cell_of cs) cs.most k a) (kb : Kept a b) where
@@ -90,14 +75,16 @@ module _ (k : ℕ) (o m : Lock) (a : List ℕ) (s : Sided k o m a) where
       first_sane : Sane (length s.state.resources) (length s.state.locks) (unblock k m s.state)
       first_sane = sane_unblock (length s.state.resources) (length s.state.locks) s.state s.whole k m s.low side_high s.new
 
-      noticed_on : (j : ℕ) → WithNotice b j → 1 ≤ j → Absent j (unblock k m s.state).notices → ⊥
-      noticed_on j n p =
+      noticed_on : (x : Option ℕ) → WithNotice b x → (j : ℕ) → x ≡ Some j → (1 ≤ j) × (Absent j (unblock k m s.state).notices → ⊥)
+      noticed_on x n j p =
           let r = length s.state.resources in
           let l = length s.state.locks in
-          let high : j ≤ length (unblock k m s.state).locks = omega (arith, n.high p, locks_with s.counts (unblock k m s.state) b first_is) in
-          let is : read_lock b j ≡ lock s.state j = rw first_is (lock_read_with s.counts (unblock k m s.state) j p high) ∙ lock_unblock r l s.state s.whole k m s.low side_high s.new j in
-          subst (λ (z : Bool). Seat z j (unblock k m s.state).notices) (sym (ap noticed is) ∙ n.notice p)
-          (rw (notices_unblock r l s.state s.whole k m s.low side_high s.new) (s.whole.on_notices j p (omega (arith, first_sane.locks))))
+          let high : j ≤ length (unblock k m s.state).locks = omega (arith, n.high j p, locks_with s.counts (unblock k m s.state) b first_is) in
+          let is : read_lock b j ≡ lock s.state j = rw first_is (lock_read_with s.counts (unblock k m s.state) j (n.low j p) high) ∙ lock_unblock r l s.state s.whole k m s.low side_high s.new j in (
+            n.low j p,
+            subst (λ (z : Bool). Seat z j (unblock k m s.state).notices) (sym (ap noticed is) ∙ n.notice j p)
+                (rw (notices_unblock r l s.state s.whole k m s.low side_high s.new) (s.whole.on_notices j (n.low j p) (omega (arith, first_sane.locks)))),
+          )
 
       module _ (ns : Cells) (en : ns ≡ lock_cells 6 2 b) (u : Bool) (eu : u ≡ noticed o) where
         seat_second : u ≡ true → Absent k (unblock k m s.state).notices → ⊥
@@ -105,19 +92,17 @@ module _ (k : ℕ) (o m : Lock) (a : List ℕ) (s : Sided k o m a) where
             subst (λ (z : Bool). Seat z k (unblock k m s.state).notices) (ap noticed s.here ∙ sym eu ∙ p)
             (seat_notices (length s.state.resources) (length s.state.locks) s.state s.whole k m s.low side_high s.new)
 
-        pub side_second : Shifts u b ns k
-        side_second =
+        pub side_second : (near : Option ℕ) → WithNotice b near → Shifts u (Back near) b ns k
+        side_second near n =
             let h = first_sane.chains (of_locks notices) (omega arith) in
             let e = en ∙ notice_cells b in
             record {
               leaves = λ p. chain_leaves s.counts (unblock k m s.state) b first_is (of_locks notices) h ns e kb.sized k (seat_second p);
-              joins = chain_joins s.counts (unblock k m s.state) b first_is (of_locks notices) h ns e kb.sized;
+              joins = (
+                chain_joins s.counts (unblock k m s.state) b first_is (of_locks notices) h ns e kb.sized,
+                chain_near s.counts (unblock k m s.state) b first_is (of_locks notices) h ns e kb.sized 0 (λ z a. z refl) near (noticed_on near n),
+              );
             }
-
-        pub side_near : (j : ℕ) → WithNotice b j → Near b ns 0 j
-        side_near j n =
-            let h = first_sane.chains (of_locks notices) (omega arith) in
-            chain_near s.counts (unblock k m s.state) b first_is (of_locks notices) h ns (en ∙ notice_cells b) kb.sized 0 (λ z a. z refl) j (noticed_on j n)
 
         pub sides_shifted : (v : Bool) (d : List ℕ) → v ≡ noticed m → d ≡ shift_cells u v (cell_of ns) ns.most k b → d ≡ side_cells (resources_in a) (locks_in a) k o m a
         unfolding side_cells
@@ -125,7 +110,7 @@ module _ (k : ℕ) (o m : Lock) (a : List ℕ) (s : Sided k o m a) where
             ed ∙ by_cells (of_locks notices) b ns (en ∙ notice_cells b) (λ f n. shift_cells u v f n k b)
             ∙ rw (eu, ev, kb.same_resources, kb.same_locks) (ap (shift_cells (noticed o) (noticed m) (cell_place (resources_in a) (of_locks notices)) (locks_in a) k) first_now)
 
-pub ruleset side_laws = (rules, side_sized, near_none, side_first, side_second, side_near, sides_shifted, kept_trans)
+pub ruleset side_laws = (rules, side_sized, near_none, side_first, side_second, sides_shifted, kept_trans)
 
 -- HOME
 module _ (k : ℕ) (o m : Lock) (a : List ℕ) (s : Homing k o m a) where
@@ -144,18 +129,18 @@ module _ (k : ℕ) (o m : Lock) (a : List ℕ) (s : Homing k o m a) where
   on_home : Absent k (chain_of (of_locks (home o)) s.state) → ⊥
   on_home = subst (λ (l : Lock). Absent k (chain_of (of_locks (home l)) s.state) → ⊥) s.here (s.at_home k s.low home_high)
 
-  old_on : (j : ℕ) → AtHome a o k j → 1 ≤ j → Absent j (chain_of (of_locks (home o)) s.state) → ⊥
-  old_on j n p =
-      let high : j ≤ length s.state.locks = omega (arith, n.high p, locks_with s.counts s.state a s.is) in
-      let is : read_lock a j ≡ lock s.state j = rw s.is (lock_read_with s.counts s.state j p high) in
-      rw (stays_home (lock s.state j) o (rw (← is) (n.home p))) (s.at_home j p high)
+  old_on : (x : Option ℕ) → AtHome a o k x → (j : ℕ) → x ≡ Some j → (1 ≤ j) × (Absent j (chain_of (of_locks (home o)) s.state) → ⊥)
+  old_on x n j p =
+      let high : j ≤ length s.state.locks = omega (arith, n.high j p, locks_with s.counts s.state a s.is) in
+      let is : read_lock a j ≡ lock s.state j = rw s.is (lock_read_with s.counts s.state j (n.low j p) high) in
+      (n.low j p, rw (stays_home (lock s.state j) o (rw (← is) (n.home j p))) (s.at_home j (n.low j p) high))
 
   module _ (cs : Cells) (ec : cs ≡ cells_at (of_locks (home o)) a) where
     pub home_leaves : Leaves a cs k
     home_leaves = chain_leaves s.counts s.state a s.is (of_locks (home o)) (s.sane.chains (of_locks (home o)) s.old) cs ec s.sized k on_home
 
-    pub home_near : (j : ℕ) → AtHome a o k j → Near a cs k j
-    home_near j n = chain_near s.counts s.state a s.is (of_locks (home o)) (s.sane.chains (of_locks (home o)) s.old) cs ec s.sized k (λ z. on_home) j (old_on j n)
+    pub home_near : (x : Option ℕ) → AtHome a o k x → Near a cs k x
+    home_near x n = chain_near s.counts s.state a s.is (of_locks (home o)) (s.sane.chains (of_locks (home o)) s.old) cs ec s.sized k (λ z. on_home) x (old_on x n)
 
     module _ (b : List ℕ) (eb : b ≡ leave_cells (cell_of cs) cs.most k a) where
       left_now : b ≡ leave_cells (cell_place (resources_in a) (of_locks (home o))) (locks_in a) k a
@@ -180,15 +165,19 @@ module _ (k : ℕ) (o m : Lock) (a : List ℕ) (s : Homing k o m a) where
         set_present : Present (put_lock k m (lifted k s.state)) (of_locks (home m))
         set_present = present_set (length s.state.resources) (length s.state.locks) s.state s.sane k was_home m s.low home_high s.new
 
-        new_on : (j : ℕ) → AtHome d m k j → 1 ≤ j → Absent j (chain_of (of_locks (home m)) (put_lock k m (lifted k s.state))) → ⊥
-        new_on j n p q =
+        new_on : (x : Option ℕ) → AtHome d m k x → (j : ℕ) → x ≡ Some j → (1 ≤ j) × (Absent j (chain_of (of_locks (home m)) (put_lock k m (lifted k s.state))) → ⊥)
+        new_on x n j p =
             let r = length s.state.resources in
             let l = length s.state.locks in
-            let high : j ≤ length (put_lock k m (lifted k s.state)).locks = omega (arith, n.high p, locks_with s.counts (put_lock k m (lifted k s.state)) d set_is) in
+            let high : j ≤ length (put_lock k m (lifted k s.state)).locks = omega (arith, n.high j p, locks_with s.counts (put_lock k m (lifted k s.state)) d set_is) in
             let is : read_lock d j ≡ lock s.state j =
-            rw set_is (lock_read_with s.counts (put_lock k m (lifted k s.state)) j p high) ∙ lock_put_other (lifted k s.state) k m j (n.other p) ∙ lock_lifted r l s.state s.sane k was_home j in
-            rw (← (stays_home (lock s.state j) m (rw (← is) (n.home p)))) at (s.at_home j p (omega (arith, set_sane.locks)))
-            (lifted_keeps r l s.state s.sane k m s.low home_high was_home s.new (of_locks (home m)) j (n.other p) (rw (chains_put_lock (lifted k s.state) k m (of_locks (home m))) at q))
+            rw set_is (lock_read_with s.counts (put_lock k m (lifted k s.state)) j (n.low j p) high) ∙ lock_put_other (lifted k s.state) k m j (n.other j p)
+            ∙ lock_lifted r l s.state s.sane k was_home j in (
+              n.low j p,
+              λ q.
+                  rw (← (stays_home (lock s.state j) m (rw (← is) (n.home j p)))) at (s.at_home j (n.low j p) (omega (arith, set_sane.locks)))
+                  (lifted_keeps r l s.state s.sane k m s.low home_high was_home s.new (of_locks (home m)) j (n.other j p) (rw (chains_put_lock (lifted k s.state) k m (of_locks (home m))) at q)),
+            )
 
         pub home_new : Housed m.state m.resource d
         home_new =
@@ -199,20 +188,19 @@ module _ (k : ℕ) (o m : Lock) (a : List ℕ) (s : Homing k o m a) where
             }
 
         module _ (ns : Cells) (en : ns ≡ cells_at (of_locks (home m)) d) where
-          pub home_arrives : Arrives d ns k
-          home_arrives =
-              let h = set_sane.chains (of_locks (home m)) set_present in
-              record {
-                pushes = chain_pushes s.counts (put_lock k m (lifted k s.state)) d set_is (of_locks (home m)) h ns en kd.sized k
-                    (stands_set (length s.state.resources) (length s.state.locks) s.state s.sane k was_home m s.low home_high s.new);
-                joins = chain_joins s.counts (put_lock k m (lifted k s.state)) d set_is (of_locks (home m)) h ns en kd.sized;
-              }
+          pub home_pushes : Pushes d ns k
+          home_pushes =
+              chain_pushes s.counts (put_lock k m (lifted k s.state)) d set_is (of_locks (home m)) (set_sane.chains (of_locks (home m)) set_present) ns en kd.sized k
+              (stands_set (length s.state.resources) (length s.state.locks) s.state s.sane k was_home m s.low home_high s.new)
 
-          pub new_near : (j : ℕ) → AtHome d m k j → Near d ns 0 j
-          new_near j n =
-              chain_near s.counts (put_lock k m (lifted k s.state)) d set_is (of_locks (home m)) (set_sane.chains (of_locks (home m)) set_present) ns en kd.sized 0 (λ z a. z refl) j (new_on j n)
+          pub home_joins : Walks d ns 0
+          home_joins = chain_joins s.counts (put_lock k m (lifted k s.state)) d set_is (of_locks (home m)) (set_sane.chains (of_locks (home m)) set_present) ns en kd.sized
 
-          pub rehomed : (e : List ℕ) → e ≡ arrive_cells (eqb m.state 0) (cell_of ns) ns.most k d → e ≡ resettle_cells false (resources_in a) (locks_in a) k o m a
+          pub new_near : (x : Option ℕ) → AtHome d m k x → Near d ns 0 x
+          new_near x n =
+              chain_near s.counts (put_lock k m (lifted k s.state)) d set_is (of_locks (home m)) (set_sane.chains (of_locks (home m)) set_present) ns en kd.sized 0 (λ z a. z refl) x (new_on x n)
+
+          rehomed : (e : List ℕ) → e ≡ arrive_cells (eqb m.state 0) (cell_of ns) ns.most k d → e ≡ resettle_cells false (resources_in a) (locks_in a) k o m a
           unfolding resettle_cells
           rehomed e ee =
               ee ∙ by_cells (of_locks (home m)) d ns en (λ f n. arrive_cells (eqb m.state 0) f n k d)
@@ -220,7 +208,13 @@ module _ (k : ℕ) (o m : Lock) (a : List ℕ) (s : Homing k o m a) where
               (ap (arrive_cells (eqb m.state 0) (cell_place (resources_in a) (of_locks (home m))) (locks_in a) k)
               (ed ∙ ap₂ (λ (r : ℕ) (ws : List ℕ). set_cells r k m ws) kb.same_resources left_now))
 
-pub ruleset home_laws = (rules, home_sized, home_old, home_leaves, home_near, home_new, home_arrives, new_near, rehomed, kept_trans)
+          pub rehomed_front : m.state ≡ 0 → (e : List ℕ) → e ≡ push_cells (cell_of ns) k d → e ≡ resettle_cells false (resources_in a) (locks_in a) k o m a
+          rehomed_front z e ee = rehomed e (ee ∙ (unfold arrive_cells in rw z))
+
+          pub rehomed_end : (m.state ≡ 0 → ⊥) → (e : List ℕ) → e ≡ join_cells (cell_of ns) ns.most k d → e ≡ resettle_cells false (resources_in a) (locks_in a) k o m a
+          rehomed_end z e ee = rehomed e (ee ∙ (unfold arrive_cells in rw (ne_eqb m.state 0 z)))
+
+pub ruleset home_laws = (rules, home_sized, home_old, home_leaves, home_near, home_new, home_pushes, home_joins, new_near, rehomed_front, rehomed_end, kept_trans)
 
 -- BOTH, whatever the counts
 module _ (k : ℕ) (o m : Lock) (a : List ℕ) (s : Sided k o m a) where

@@ -25,7 +25,8 @@ use Rattle.table_fields.specs.declared.ResourceFields.{ResourceFields}
 use Rattle.table_fields.specs.Records.{read_fields, with_fields}
 use Rattle.table_fields.proofs.StateWords.{resources_is, core_sized}
 use Rattle.table_chains.specs.declared.Cells.{Cells}
-use Rattle.table_chains.specs.Cells.{cell_of, cells_at, Fronts}
+use Rattle.table_chains.specs.declared.End.TheVariants.{Front}
+use Rattle.table_chains.specs.Cells.{cell_of, cells_at, Shifts}
 use Rattle.table_chains.specs.Promises.{Some, Resourced, Refilled, ResourceMoved}
 use Rattle.table_chains.proofs.ChainCells.{kept_trans, by_cells, chain_leaves, chain_pushes}
 
@@ -64,7 +65,7 @@ module _ (r : ℕ) (a : List ℕ) (s : Some (Resourced r) a) where
   pub resource_after : (b : List ℕ) → Kept a b → r ≤ resources_in b
   resource_after b h = omega (arith, resource_last, h.same_resources)
 
-  pub resource_fronts : (old : ResourceFields) → old ≡ read_fields a r → (cs : Cells) → cs ≡ cells_at free_resources a → Fronts (eqb old.bytes 0) a cs r
+  pub resource_fronts : (old : ResourceFields) → old ≡ read_fields a r → (cs : Cells) → cs ≡ cells_at free_resources a → Shifts (eqb old.bytes 0) Front a cs r
   resource_fronts old en cs ec =
       let t = s.state in
       let low = resource_low r t s.good in
@@ -74,7 +75,7 @@ module _ (r : ℕ) (a : List ℕ) (s : Some (Resourced r) a) where
       let free : eqb old.bytes 0 ≡ null (resource t r).name = ap (λ (x : ℕ). eqb x 0) (bytes_are a r old en ∙ length_is r t s.good a s.is) ∙ null_length (resource t r).name in
       record {
         leaves = λ q. chain_leaves (tally t) t a (s.is ∙ sym (words_true t)) free_resources h cs ec resource_sized r (subst (λ (b : Bool). Seat b r t.free_resources) (sym free ∙ q) seat);
-        pushes = chain_pushes (tally t) t a (s.is ∙ sym (words_true t)) free_resources h cs ec resource_sized r (stands t free_resources r low (low, high, omega arith) refl);
+        joins = chain_pushes (tally t) t a (s.is ∙ sym (words_true t)) free_resources h cs ec resource_sized r (stands t free_resources r low (low, high, omega arith) refl);
       }
 
 module _ (r n v : ℕ) (a : List ℕ) (old : ResourceFields) (en : old ≡ read_fields a r) (cs : Cells) (ec : cs ≡ cells_at free_resources a)

@@ -1,5 +1,6 @@
 -- What a function is told, and says, of the state whose words it is lent.
-use Rattle.std.specs.Prelude.{◌≡◌, ◌≢◌, true, List, ℕ, ◌≤◌, get_or, length}
+use Rattle.std.specs.Prelude as option
+use Rattle.std.specs.Prelude.{◌≡◌, ◌≢◌, true, List, ℕ, Option, ◌≤◌, get_or, length}
 use Rattle.tables.specs.declared.Lock.{Lock}
 use Rattle.tables.specs.Lists.{within}
 use Rattle.tables.specs.State.{Resource, Tables, last_mode, lock, resource, holds, noticed, Queue, queue_of, of_locks, chain_of, home, move, move_resource}
@@ -75,15 +76,17 @@ pub record Counting (P : ℕ → Type 0) (l : Lock) (ws : List ℕ) : Type 0 whe
   pub mode : holds l ≡ true → l.held ≤ last_mode
   pub number : holds l ≡ true → P (get_or ws (count_place (resources_in ws) l) 0)
 
--- HINTS. The lock j, if there is one, is another one than k at the home of l; it belongs on the notice chain
-pub record AtHome (ws : List ℕ) (l : Lock) (k j : ℕ) : Type 0 where
-  pub high : 1 ≤ j → j ≤ locks_in ws
-  pub other : 1 ≤ j → j ≢ k
-  pub home : 1 ≤ j → stays (read_lock ws j) l ≡ true
+-- HINTS. The lock that x names, if it names one, is another one than k at the home of l; it belongs on the notice chain
+pub record AtHome (ws : List ℕ) (l : Lock) (k : ℕ) (x : Option ℕ) : Type 0 where
+  pub low : (j : ℕ) → x ≡ option.Some j → 1 ≤ j
+  pub high : (j : ℕ) → x ≡ option.Some j → j ≤ locks_in ws
+  pub other : (j : ℕ) → x ≡ option.Some j → j ≢ k
+  pub home : (j : ℕ) → x ≡ option.Some j → stays (read_lock ws j) l ≡ true
 
-pub record WithNotice (ws : List ℕ) (j : ℕ) : Type 0 where
-  pub high : 1 ≤ j → j ≤ locks_in ws
-  pub notice : 1 ≤ j → noticed (read_lock ws j) ≡ true
+pub record WithNotice (ws : List ℕ) (x : Option ℕ) : Type 0 where
+  pub low : (j : ℕ) → x ≡ option.Some j → 1 ≤ j
+  pub high : (j : ℕ) → x ≡ option.Some j → j ≤ locks_in ws
+  pub notice : (j : ℕ) → x ≡ option.Some j → noticed (read_lock ws j) ≡ true
 
 -- STEPS of a move. The lock k is o and may become m: every lock stands where its record says. The counts may be those of another state
 pub record Sided (k : ℕ) (o m : Lock) (ws : List ℕ) : Type 0 where

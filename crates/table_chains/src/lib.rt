@@ -1,16 +1,16 @@
 #![tactic(auto)]
 // Changes of the words in place: the cells of a chain, a lock that becomes another, the words of a resource.
-ghost use Rattle.std.specs.Prelude.{◌≡◌, false, ◌+◌, ◌*◌, ◌-◌, ◌<◌, ◌≤◌};
+ghost use Rattle.std.specs.Prelude.{◌≡◌, false, ◌*◌, ◌^◌, ◌<◌, ◌≤◌};
 ghost use Rattle.tables.specs.State.{most_locks, last_mode, home, home_at, blocked, notices, free_resources, of_locks};
 ghost use Rattle.tables.specs.Layout.{place, head, lock_width, resources_in, locks_in};
-ghost use Rattle.tables.specs.Stores.{cell_holding, push_cells, leave_cells, join_cells, front_cells};
-ghost use Rattle.tables.specs.Stores.{stays, shift_cells, arrive_cells, resettle_cells, side_cells, move_cells};
+ghost use Rattle.tables.specs.Stores.{cell_holding, push_cells, leave_cells, join_cells};
+ghost use Rattle.tables.specs.Stores.{stays, resettle_cells, side_cells, move_cells};
 ghost use Rattle.tables.specs.Stores.{count_place, lower_count, raise_count};
 ghost use Rattle.table_fields.specs.Sizes.{Sized, Kept};
-ghost use Rattle.table_chains.specs.Cells.{cell_of, cells_at, lock_cells, Walks, Near, Leaves, Pushes, Shifts, Fronts, Arrives, Housed};
+ghost use Rattle.table_chains.specs.Cells.{cell_of, cells_at, lock_cells, Walks, Near, Leaves, Pushes, Shifts, end_cells, Housed};
 ghost use Rattle.table_chains.specs.Promises.{Some, Moving, Moved, Resourced, ResourceMoved, Counting, AtHome, WithNotice, Sided, Homing};
 
-use table_fields::{ResourceFields, is_blocked, is_holding, is_noticed, put_lock, wide};
+use table_fields::{ResourceFields, is_blocked, is_holding, is_noticed, put_lock};
 use tables::Lock;
 
 // The cells of a chain: each names the record that follows, the last one 0. The fields are the place of the head, the
@@ -21,6 +21,106 @@ pub struct Cells {
     pub first: usize,
     pub width: usize,
     pub most: usize,
+}
+
+// Where a record joins a chain: in front, or at its end. A record that stands on the chain, if one is given, is looked at
+// first: if it is the last, no walk is needed.
+#[derive(Clone, Copy)]
+enum End {
+    Front,
+    Back(Option<u32>),
+}
+
+impl Cells {
+    // Where the cell of record k stands.
+    fn cell(self, k: u32) -> usize
+        requires low { 1 ≤ k }
+        requires fits { cell_of self k < 2 ^ 64 }
+        ensures { result ≡ cell_of self k }
+    {
+        self.first + self.width * (k as usize - 1)
+    }
+
+    // The cell that holds k (0: the last one).
+    pub fn holding(self, words: &[u32], k: u32) -> usize
+        requires { Walks words.now self k }
+        ensures { result ≡ cell_holding words.now (cell_of self) k self.most self.head }
+    {
+        let mut at = self.head;
+        for _ in 0..self.most {
+            let next = words[at];
+            if next == k {
+                return at;
+            }
+            at = self.cell(next);
+        }
+        at
+    }
+
+    // The same. If a record of the chain is given, no walk is needed where its cell is the one.
+    fn holding_near(self, words: &[u32], k: u32, near: Option<u32>) -> usize
+        requires walks { Walks words.now self k }
+        requires near { Near words.now self k near }
+        ensures { result ≡ cell_holding words.now (cell_of self) k self.most self.head }
+    {
+        if let Some(j) = near {
+            let at = self.cell(j);
+            if words[at] == k {
+                return at;
+            }
+        }
+        self.holding(words, k)
+    }
+
+    // The record k joins the chain in front.
+    #[tactic(auto, using(crate::proofs::CellWalks::push_laws))]
+    fn push(self, words: &mut [u32], k: u32)
+        requires { Pushes words.old self k }
+        ensures words_after { words.new ≡ push_cells (cell_of self) k words.old }
+        ensures kept { Kept words.old words.new }
+    {
+        let own = self.cell(k);
+        words[own] = words[self.head];
+        words[self.head] = k;
+    }
+
+    // The record k joins the chain at its end. The record `near`, if there is one, is on the chain.
+    fn join(self, words: &mut [u32], k: u32, near: Option<u32>)
+        requires walks { Walks words.old self 0 }
+        requires near { Near words.old self 0 near }
+        ensures words_after { words.new ≡ join_cells (cell_of self) self.most k words.old }
+        ensures kept { Kept words.old words.new }
+    {
+        let at = self.holding_near(words, 0, near);
+        words[at] = k;
+    }
+
+    // The record k leaves the chain. The record `near`, if there is one, is on the chain.
+    fn leave(self, words: &mut [u32], k: u32, near: Option<u32>)
+        requires leaves { Leaves words.old self k }
+        requires near { Near words.old self k near }
+        ensures words_after { words.new ≡ leave_cells (cell_of self) self.most k words.old }
+        ensures kept { Kept words.old words.new }
+    {
+        let at = self.holding_near(words, k, near);
+        let own = self.cell(k);
+        words[at] = words[own];
+        words[own] = 0;
+    }
+
+    // The record k joins the chain or leaves it: `was` says whether it was on the chain, `is` whether it is to be.
+    fn shift(self, words: &mut [u32], was: bool, is: bool, k: u32, end: End)
+        requires { Shifts was end words.old self k }
+        ensures words_after { words.new ≡ end_cells end was is (cell_of self) self.most k words.old }
+        ensures kept { Kept words.old words.new }
+    {
+        match (was, is, end) {
+            (true, false, _) => self.leave(words, k, None),
+            (false, true, End::Front) => self.push(words, k),
+            (false, true, End::Back(near)) => self.join(words, k, near),
+            _ => {}
+        }
+    }
 }
 
 // Locks that may spare a walk: one that may stand right before the lock that moves, on the home chain that it leaves, and
@@ -35,6 +135,7 @@ pub struct Hints {
 pub const NO_HINTS: Hints = Hints { before: 0, last: 0 };
 
 // The cells of a chain of locks, from the place of its head and the field that it goes by.
+#[tactic(auto, using(crate::proofs::HeadCells::head_laws))]
 pub fn lock_cells(words: &[u32], head: usize, link: usize) -> Cells
     requires sized { Sized words.now }
     requires bound { 1 ≤ locks_in words.now }
@@ -42,14 +143,15 @@ pub fn lock_cells(words: &[u32], head: usize, link: usize) -> Cells
     ensures { result ≡ lock_cells head link words.now }
 {
     Cells {
-        head: head,
+        head,
         first: table_fields::lock_start(words, 1) + link,
         width: table_fields::LOCK_WORDS,
-        most: wide(table_fields::lock_count(words)),
+        most: table_fields::lock_count(words) as usize,
     }
 }
 
 // The cells of the free resources.
+#[tactic(auto, using(crate::proofs::HeadCells::head_laws))]
 pub fn resource_cells(words: &[u32]) -> Cells
     requires sized { Sized words.now }
     requires bound { 1 ≤ resources_in words.now }
@@ -59,11 +161,12 @@ pub fn resource_cells(words: &[u32]) -> Cells
         head: table_fields::FREE_RESOURCES,
         first: table_fields::resource_start(words, 1) + table_fields::RESOURCE_NEXT,
         width: table_fields::RESOURCE_WORDS,
-        most: wide(table_fields::resource_count(words)),
+        most: table_fields::resource_count(words) as usize,
     }
 }
 
 // The place of the head of the home chain for a state and a resource. A resource's queues are numbered as the states.
+#[tactic(auto, using(crate::proofs::HeadCells::head_laws))]
 fn home_head(words: &[u32], state: u32, resource: u32) -> usize
     requires { Housed state resource words.now }
     ensures { result ≡ place (resources_in words.now) (head (of_locks (home_at state resource))) }
@@ -74,10 +177,11 @@ fn home_head(words: &[u32], state: u32, resource: u32) -> usize
     if state >= table_fields::STATE_DENIED {
         return table_fields::DENIED;
     }
-    table_fields::resource_start(words, resource) + wide(state)
+    table_fields::resource_start(words, resource) + state as usize
 }
 
 // The cells of the home of a lock.
+#[tactic(auto, using(crate::proofs::HeadCells::head_laws))]
 pub fn home_cells(words: &[u32], l: Lock) -> Cells
     requires { Housed l.state l.resource words.now }
     ensures { result ≡ cells_at (of_locks (home l)) words.now }
@@ -86,170 +190,32 @@ pub fn home_cells(words: &[u32], l: Lock) -> Cells
     lock_cells(words, head, table_fields::LOCK_NEXT)
 }
 
-// The cell that holds k (0: the last one).
-pub fn holding(words: &[u32], cells: Cells, k: u32) -> usize
-    requires { Walks words.now cells k }
-    ensures { result ≡ cell_holding words.now (cell_of cells) k cells.most cells.head }
-{
-    let first = cells.first;
-    let width = cells.width;
-    let mut at = cells.head;
-    let mut left = cells.most;
-    while left > 0 {
-        let x = words[at];
-        if x == k {
-            return at;
-        }
-        at = first + width * (wide(x) - 1);
-        left -= 1;
-    }
-    at
-}
-
-// The same, where j is 0 or a record of the chain: no walk is needed if its cell is the one.
-fn holding_near(words: &[u32], cells: Cells, k: u32, j: u32) -> usize
-    requires walks { Walks words.now cells k }
-    requires near { Near words.now cells k j }
-    ensures { result ≡ cell_holding words.now (cell_of cells) k cells.most cells.head }
-{
-    if j != 0 {
-        let at = cells.first + cells.width * (j as usize - 1);
-        if words[at] == k {
-            return at;
-        }
-    }
-    holding(words, cells, k)
-}
-
-// The record k joins a chain in front.
-pub fn push(words: &mut [u32], cells: Cells, k: u32)
-    requires { Pushes words.old cells k }
-    ensures words_after { words.new ≡ push_cells (cell_of cells) k words.old }
-    ensures kept { Kept words.old words.new }
-{
-    let head = cells.head;
-    let own = cells.first + cells.width * (k as usize - 1);
-    words[own] = words[head];
-    words[head] = k;
-}
-
-// The record k joins a chain at its end. The record `last`, if it is not 0, is on the chain.
-fn join(words: &mut [u32], cells: Cells, k: u32, last: u32)
-    requires walks { Walks words.old cells 0 }
-    requires near { Near words.old cells 0 last }
-    ensures words_after { words.new ≡ join_cells (cell_of cells) cells.most k words.old }
-    ensures kept { Kept words.old words.new }
-{
-    let at = holding_near(words, cells, 0, last);
-    words[at] = k;
-}
-
-// The record k leaves a chain. The record `before`, if it is not 0, is on the chain.
-fn leave(words: &mut [u32], cells: Cells, k: u32, before: u32)
-    requires leaves { Leaves words.old cells k }
-    requires near { Near words.old cells k before }
-    ensures words_after { words.new ≡ leave_cells (cell_of cells) cells.most k words.old }
-    ensures kept { Kept words.old words.new }
-{
-    let at = holding_near(words, cells, k, before);
-    let own = cells.first + cells.width * (k as usize - 1);
-    words[at] = words[own];
-    words[own] = 0;
-}
-
-// The record k joins a chain or leaves it: `was` says whether it was on the chain, `is` whether it is to be. It joins
-// at the end. The record `last`, if it is not 0, is on the chain.
-fn shift(words: &mut [u32], cells: Cells, was: bool, is: bool, k: u32, last: u32)
-    requires shifts { Shifts was words.old cells k }
-    requires near { Near words.old cells 0 last }
-    ensures words_after { words.new ≡ shift_cells was is (cell_of cells) cells.most k words.old }
-    ensures kept { Kept words.old words.new }
-{
-    if was {
-        if is {
-            return;
-        }
-        leave(words, cells, k, 0);
-        return;
-    }
-    if is {
-        join(words, cells, k, last);
-    }
-}
-
-// The same on a chain of free records: it joins in front.
-fn shift_front(words: &mut [u32], cells: Cells, was: bool, is: bool, k: u32)
-    requires { Fronts was words.old cells k }
-    ensures words_after { words.new ≡ front_cells was is (cell_of cells) cells.most k words.old }
-    ensures kept { Kept words.old words.new }
-{
-    if was {
-        if is {
-            return;
-        }
-        leave(words, cells, k, 0);
-        return;
-    }
-    if is {
-        push(words, cells, k);
-    }
-}
-
-// The record k joins a chain, in front or at its end. The record `last`, if it is not 0, is on the chain.
-fn arrive(words: &mut [u32], cells: Cells, front: bool, k: u32, last: u32)
-    requires arrives { Arrives words.old cells k }
-    requires near { Near words.old cells 0 last }
-    ensures words_after { words.new ≡ arrive_cells front (cell_of cells) cells.most k words.old }
-    ensures kept { Kept words.old words.new }
-{
-    if front {
-        push(words, cells, k);
-    } else {
-        join(words, cells, k, last);
-    }
-}
-
 fn keeps_home(l: Lock, m: Lock) -> bool
     ensures { result ≡ stays l m }
 {
     (l.state == m.state) & (l.resource == m.resource)
 }
 
-// The lock j, if it is another one than k at the home of l; else 0.
-fn at_home(words: &[u32], l: Lock, k: u32, j: u32) -> u32
+// The lock j, if it is another one than k at the home of l.
+fn at_home(words: &[u32], l: Lock, k: u32, j: u32) -> Option<u32>
     requires { Sized words.now }
     ensures { AtHome words.now l k result }
 {
-    if j == 0 {
-        return 0;
+    if j == 0 || j == k || table_fields::lock_count(words) < j {
+        return None;
     }
-    if j == k {
-        return 0;
-    }
-    if table_fields::lock_count(words) < j {
-        return 0;
-    }
-    if !keeps_home(table_fields::lock_at(words, j), l) {
-        return 0;
-    }
-    j
+    keeps_home(table_fields::lock_at(words, j), l).then_some(j)
 }
 
-// The lock j, if it belongs on the notice chain; else 0.
-fn with_notice(words: &[u32], j: u32) -> u32
+// The lock j, if it belongs on the notice chain.
+fn with_notice(words: &[u32], j: u32) -> Option<u32>
     requires { Sized words.now }
     ensures { WithNotice words.now result }
 {
-    if j == 0 {
-        return 0;
+    if j == 0 || table_fields::lock_count(words) < j {
+        return None;
     }
-    if table_fields::lock_count(words) < j {
-        return 0;
-    }
-    if !is_noticed(table_fields::lock_at(words, j)) {
-        return 0;
-    }
-    j
+    is_noticed(table_fields::lock_at(words, j)).then_some(j)
 }
 
 // The lock k, which is o and is to become m, joins or leaves the blocked chain and the notice chain.
@@ -263,13 +229,13 @@ fn shift_sides(words: &mut [u32], k: u32, o: Lock, m: Lock, last: u32)
         table_fields::BLOCKED,
         table_fields::LOCK_NEXT_BLOCKED,
     );
-    shift(words, blocked, is_blocked(o), is_blocked(m), k, 0);
+    blocked.shift(words, is_blocked(o), is_blocked(m), k, End::Back(None));
     let notices = lock_cells(words, table_fields::NOTICES, table_fields::LOCK_NEXT_NOTICE);
     let near = with_notice(words, last);
-    shift(words, notices, is_noticed(o), is_noticed(m), k, near);
+    notices.shift(words, is_noticed(o), is_noticed(m), k, End::Back(near));
 }
 
-// The lock k, which is o, becomes m, which has another home.
+// The lock k, which is o, becomes m, which has another home. A free lock joins its home in front, another one at the end.
 fn rehome(words: &mut [u32], k: u32, o: Lock, m: Lock, hints: Hints)
     requires { Homing k o m words.old }
     ensures words_after { words.new ≡ resettle_cells false (resources_in words.old) (locks_in words.old) k o m words.old }
@@ -277,11 +243,15 @@ fn rehome(words: &mut [u32], k: u32, o: Lock, m: Lock, hints: Hints)
 {
     let old = home_cells(words, o);
     let before = at_home(words, o, k, hints.before);
-    leave(words, old, k, before);
+    old.leave(words, k, before);
     put_lock(words, k, m);
     let new = home_cells(words, m);
+    if m.state == table_fields::STATE_FREE {
+        new.push(words, k);
+        return;
+    }
     let last = at_home(words, m, k, hints.last);
-    arrive(words, new, m.state == table_fields::STATE_FREE, k, last);
+    new.join(words, k, last);
 }
 
 // The lock k, which is o, becomes m but for the counts: it leaves each chain on which it no longer belongs, and joins
@@ -306,10 +276,11 @@ fn count_place(words: &[u32], l: Lock) -> usize
     requires held_le_last_mode { l.held ≤ last_mode }
     ensures { result ≡ count_place (resources_in words.now) l }
 {
-    table_fields::resource_start(words, l.resource) + table_fields::RESOURCE_NL + wide(l.held)
+    table_fields::resource_start(words, l.resource) + table_fields::RESOURCE_NL + l.held as usize
 }
 
 // The lock l is no longer counted among those that hold its mode, if it holds one.
+#[tactic(auto, using(crate::proofs::LockCounts::count_laws))]
 fn uncount(words: &mut [u32], l: Lock)
     requires { Counting (λ n. 1 ≤ n) l words.old }
     ensures words_after { words.new ≡ lower_count (resources_in words.old) l words.old }
@@ -322,6 +293,7 @@ fn uncount(words: &mut [u32], l: Lock)
 }
 
 // The lock l is counted among them. The grant and the convert queue have at most as many locks each as there are.
+#[tactic(auto, using(crate::proofs::LockCounts::count_laws))]
 fn count(words: &mut [u32], l: Lock)
     requires { Counting (λ n. n ≤ 2 * most_locks) l words.old }
     ensures words_after { words.new ≡ raise_count (resources_in words.old) l words.old }
@@ -355,10 +327,10 @@ pub fn move_resource_words(words: &mut [u32], r: u32, name_length: u32, valid: u
 {
     let old = table_fields::resource_at(words, r);
     let free = resource_cells(words);
-    shift_front(words, free, old.bytes == 0, name_length == 0, r);
+    free.shift(words, old.bytes == 0, name_length == 0, r, End::Front);
     let new = ResourceFields {
         bytes: name_length,
-        valid: valid,
+        valid,
     };
     table_fields::put_resource(words, r, new);
 }

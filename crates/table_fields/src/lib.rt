@@ -1,8 +1,7 @@
 #![tactic(auto)]
 // The words of the lock manager's table: a header, a row for each resource, a row for each lock. Widths and field
 // numbers stand here alone. Records are numbered from 1.
-ghost use Rattle.std.specs.Prelude.{◌≡◌, ◌+◌, ◌*◌, ◌-◌, ◌<◌, ◌≤◌, ◌^◌};
-ghost use Rattle.tables.specs.Lists.{bit};
+ghost use Rattle.std.specs.Prelude.{◌≡◌, ◌+◌, ◌*◌, ◌-◌, ◌<◌, ◌≤◌};
 ghost use Rattle.tables.specs.State.{new_lock, blocked_lock, holds, unread, noticed};
 ghost use Rattle.tables.specs.Layout.{header_width, resource_width, lock_width, of_header, of_resource, of_lock};
 ghost use Rattle.tables.specs.Layout.{resources_in, locks_in, word_in, read_lock};
@@ -151,12 +150,6 @@ pub struct ModeCounts {
     pub ex: u32,
 }
 
-pub fn wide(x: u32) -> usize
-    ensures { (result ≡ x) × (result < 2 ^ 32) }
-{
-    x as usize
-}
-
 // How many resources the table has, and how many locks.
 pub fn resource_count(words: &[u32]) -> u32
     requires { Sized words.now }
@@ -187,7 +180,7 @@ pub fn lock_start(words: &[u32], k: u32) -> usize
     requires le_k { (1 ≤ k) × (k ≤ locks_in words.now) }
     ensures { result ≡ header_width + resource_width * resources_in words.now + lock_width * (k - 1) }
 {
-    HEADER_WORDS + RESOURCE_WORDS * wide(words[RESOURCES]) + LOCK_WORDS * (k as usize - 1)
+    HEADER_WORDS + RESOURCE_WORDS * words[RESOURCES] as usize + LOCK_WORDS * (k as usize - 1)
 }
 
 pub fn header_word(words: &[u32], field: usize) -> u32
@@ -198,6 +191,7 @@ pub fn header_word(words: &[u32], field: usize) -> u32
     words[field]
 }
 
+#[tactic(auto, using(crate::proofs::Laws::field_laws))]
 pub fn resource_word(words: &[u32], r: u32, field: usize) -> u32
     requires sized { Sized words.now }
     requires le_r { (1 ≤ r) × (r ≤ resources_in words.now) }
@@ -207,6 +201,7 @@ pub fn resource_word(words: &[u32], r: u32, field: usize) -> u32
     words[resource_start(words, r) + field]
 }
 
+#[tactic(auto, using(crate::proofs::Laws::field_laws))]
 pub fn lock_word(words: &[u32], k: u32, field: usize) -> u32
     requires sized { Sized words.now }
     requires le_k { (1 ≤ k) × (k ≤ locks_in words.now) }
@@ -217,6 +212,7 @@ pub fn lock_word(words: &[u32], k: u32, field: usize) -> u32
 }
 
 // The record of lock k.
+#[tactic(auto, using(crate::proofs::Laws::field_laws))]
 pub fn lock_at(words: &[u32], k: u32) -> Lock
     requires sized { Sized words.now }
     requires le_k { (1 ≤ k) × (k ≤ locks_in words.now) }
@@ -235,6 +231,7 @@ pub fn lock_at(words: &[u32], k: u32) -> Lock
 }
 
 // The record of resource r.
+#[tactic(auto, using(crate::proofs::Laws::field_laws))]
 pub fn resource_at(words: &[u32], r: u32) -> ResourceFields
     requires sized { Sized words.now }
     requires le_r { (1 ≤ r) × (r ≤ resources_in words.now) }
@@ -248,6 +245,7 @@ pub fn resource_at(words: &[u32], r: u32) -> ResourceFields
 }
 
 // How many locks hold each mode on resource r.
+#[tactic(auto, using(crate::proofs::Laws::field_laws))]
 pub fn counts_at(words: &[u32], r: u32) -> ModeCounts
     requires sized { Sized words.now }
     requires le_r { (1 ≤ r) × (r ≤ resources_in words.now) }
@@ -265,6 +263,7 @@ pub fn counts_at(words: &[u32], r: u32) -> ModeCounts
 }
 
 // The record of lock k becomes m; its links stay.
+#[tactic(auto, using(crate::proofs::Laws::field_laws))]
 pub fn put_lock(words: &mut [u32], k: u32, m: Lock)
     requires sized { Sized words.old }
     requires le_k { (1 ≤ k) × (k ≤ locks_in words.old) }
@@ -282,6 +281,7 @@ pub fn put_lock(words: &mut [u32], k: u32, m: Lock)
 }
 
 // The record of resource r becomes x; its links stay.
+#[tactic(auto, using(crate::proofs::Laws::field_laws))]
 pub fn put_resource(words: &mut [u32], r: u32, x: ResourceFields)
     requires sized { Sized words.old }
     requires le_r { (1 ≤ r) × (r ≤ resources_in words.old) }
@@ -297,13 +297,14 @@ pub fn put_resource(words: &mut [u32], r: u32, x: ResourceFields)
 pub fn new_lock(resource: u32, client: u32, state: u32, held: u32, asked: u32) -> Lock
     ensures { result ≡ new_lock resource client state held asked }
 {
-    let mut l = NO_LOCK;
-    l.resource = resource;
-    l.client = client;
-    l.state = state;
-    l.held = held;
-    l.asked = asked;
-    l
+    Lock {
+        resource,
+        client,
+        state,
+        held,
+        asked,
+        ..NO_LOCK
+    }
 }
 
 // What a lock's record says of it.
@@ -329,14 +330,4 @@ pub fn is_noticed(l: Lock) -> bool
     ensures { result ≡ noticed l }
 {
     (l.completion != COMPLETION_NONE) | (l.mark != MARK_NONE)
-}
-
-// What a test adds to a count.
-pub fn bit(b: bool) -> u32
-    ensures { (result ≡ bit b) × (result ≤ 1) }
-{
-    if b {
-        return 1;
-    }
-    0
 }

@@ -2,11 +2,13 @@
 use mathlib.Core.Path.{◌≡◌, sym, ap, ◌∙◌}
 use mathlib.Core.Bool.{Bool, true, false}
 use mathlib.Core.List.{List, [], ◌∷◌}
-use Prim.Native.Nat.{ℕ, suc, ◌+◌, ◌-◌, ◌<◌, ◌≤◌}
+use Rattle.std.proofs.Common.{Some, None}
+use Prim.Native.Nat.{ℕ, zero, suc, ◌+◌, ◌-◌, ◌<◌, ◌≤◌}
 use native.Mathlib.Omega.{arith}
 use native.Mathlib.Numerals.{add-one}
 use borrow.Author.Rules.{rules}
 use Rattle.tables.specs.Lists.{first_that, from}
+use Rattle.tables.specs.Numbered.{numbered}
 use Rattle.tables.proofs.Counts.{first_here, first_later}
 
 -- the numbers from a up to b
@@ -39,3 +41,13 @@ unfolding first_that
 first_end p i h = sym (i ∙ rw (upto_none h))
 
 pub ruleset first_loop = (rules, first_found, first_next, first_end)
+
+-- the same where the answer is a number or none: `for r in a..b + 1 { if p(r) { return Some(r); } } None`
+pub found_some : (k : ℕ) {whole : ℕ} → 1 ≤ k → k ≡ whole → Some k ≡ numbered whole
+found_some zero p e = absurd (omega arith)
+found_some (suc k) p e = ap numbered e
+
+pub found_none : {whole : ℕ} → 0 ≡ whole → None ≡ numbered whole
+found_none e = ap numbered e
+
+pub ruleset some_loop = (first_loop, found_some, found_none)

@@ -1,7 +1,7 @@
 -- What a store into a part of a slot leaves.
 use mathlib.Core.Path.{◌≡◌, sym, ap, ap₂, ◌∙◌}
 use mathlib.Core.List.{List, ◌++◌, append_assoc, append-nil}
-use Prim.Native.Nat.{ℕ, zero, suc, ◌+◌, ◌-◌, ◌*◌, ◌≤◌}
+use Prim.Native.Nat.{ℕ, ◌+◌, ◌-◌, ◌*◌, ◌≤◌}
 use native.Mathlib.Omega.{arith}
 use borrow.Author.Rules.{rules}
 use borrow.Rule.Slice.PartMut.{put_mid}
@@ -11,7 +11,7 @@ use Rattle.tables.specs.State.{name_width, value_width, no_value, no_resource}
 use Rattle.tables.specs.Layout.{slot_width, slot, slot_in}
 use Rattle.rules.specs.Calls.{new_resource}
 use Rattle.table_names.specs.Promises.{with_slot, blank}
-use Rattle.table_names.proofs.SlotParts.{slot_part, slot_head, slot_long}
+use Rattle.table_names.proofs.SlotParts.{drop_zeros, slot_part, slot_head, slot_long}
 
 module _ (ss : List ℕ) (r : ℕ) (low : 1 ≤ r) where
   slot_split : drop (slot_width * (r - 1)) ss ≡ slot_in ss r ++ drop (slot_width * r) ss
@@ -41,10 +41,6 @@ module _ (ss : List ℕ) (r : ℕ) (low : 1 ≤ r) where
 -- a name in a slot of zeros
 abbrev zeros : ℕ → List ℕ
 zeros n = replicate n 0
-
-drop_zeros : (n m : ℕ) → drop n (zeros (n + m)) ≡ zeros m
-drop_zeros zero m = let q : 0 + m ≡ m = omega arith in rw q
-drop_zeros (suc n) m = let q : suc n + m ≡ suc (n + m) = omega arith in rw q (drop_zeros n m)
 
 pub new_slot : (nm : List ℕ) → length nm ≤ name_width → nm ++ drop (length nm) blank ≡ slot (new_resource nm)
 unfolding slot blank no_value

@@ -3,6 +3,7 @@ pub mod State
 pub mod Grants
 pub mod Layout
 pub mod Sound
+pub mod Numbered
 pub mod Validity
 pub mod Threads
 pub mod Stores

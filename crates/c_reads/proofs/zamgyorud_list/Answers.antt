@@ -1,5 +1,8 @@
-use Rattle.c_reads.proofs.PackedReads.{list_small}
+use Rattle.c_reads.proofs.PackedReads.{list_small, list_packed}
 use Rattle.c_reads.proofs.zamgyorud_list.Goals as goal
 
-pub packed_list-requires : goal.packed_list-requires
-packed_list-requires c = list_small _ _ _ _ _ _ _ c.list.ensures
+pub pack-requires : goal.pack-requires
+pack-requires c = list_small _ _ _ _ _ _ _ c.list.ensures _ c.said.ensures
+
+pub returns : goal.returns
+returns c = list_packed _ _ _ _ _ _ _ c.list.ensures _ c.said.ensures _ c.pack.ensures

@@ -1,5 +1,5 @@
 use Rattle.table_chains.proofs.ChainWalks.{seeking_on}
-use Rattle.call_notice.proofs.NoticeWalk.{look_laws}
+use Rattle.call_notice.proofs.NoticeWalk.{looks_found, looks_end, look_laws}
 use Rattle.call_notice.proofs.first_notice.Goals as goal
 
 pub header_word-k-requires : goal.header_word-k-requires
@@ -12,7 +12,8 @@ pub lock_word-requires : goal.lock_word-requires
 lock_word-requires c = search look_laws
 
 pub returns-then-lock_word-client : goal.returns-then-lock_word-client
-returns-then-lock_word-client c = search look_laws
+returns-then-lock_word-client c =
+    looks_found _ _ _ c.header_word-k.ensures _ c.loop-k.invariant c.loop-k-test.true _ c.lock_word.ensures c.if-lock_word-client.true
 
 pub lock_word-k-requires : goal.lock_word-k-requires
 lock_word-k-requires c = search look_laws
@@ -26,4 +27,4 @@ loop-k-preserved c =
     c.lock_word.ensures c.if-lock_word-client.false _ c.lock_word-k.ensures
 
 pub returns : goal.returns
-returns c = search look_laws
+returns c = looks_end _ _ _ c.header_word-k.ensures _ c.loop-k.invariant c.loop-k-test.false

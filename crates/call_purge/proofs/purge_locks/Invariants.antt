@@ -1,9 +1,5 @@
-use Prim.Native.Nat.{◌+◌, ◌-◌}
 use Rattle.call_purge.proofs.ClientLocks.{Going}
 use Rattle.call_purge.proofs.purge_locks.Given as goal
 
 abbrev pub invariant-loop-k : goal.invariant-loop-k
-invariant-loop-k l = Going l.client l.last l.k l.initial.words l.initial.slots l.initial.marks l.words l.slots l.marks l.counts
-
-abbrev pub decreases-loop-k : goal.decreases-loop-k
-decreases-loop-k l = l.last + 1 - l.k
+invariant-loop-k l = Going l.client l.k l.initial.words l.initial.slots l.initial.marks l.words l.slots l.marks l.counts

@@ -1,11 +1,11 @@
 use Rattle.call_request.proofs.NameResource.{house_laws}
 use Rattle.call_request.proofs.resource_for.Goals as goal
 
-pub returns-then-found-ne0 : goal.returns-then-found-ne0
-returns-then-found-ne0 c = search house_laws
+pub returns-in-Some : goal.returns-in-Some
+returns-in-Some c = search house_laws
 
-pub header_word-first-requires : goal.header_word-first-requires
-header_word-first-requires c = search house_laws
+pub header_word-first-requires-clause-sized : goal.header_word-first-requires-clause-sized
+header_word-first-requires-clause-sized c = search house_laws
 
 pub take_resource-requires : goal.take_resource-requires
 take_resource-requires c = search house_laws

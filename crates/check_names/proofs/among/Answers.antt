@@ -1,23 +1,14 @@
-use Rattle.check_names.proofs.NameNumbers.{among_loop}
+use mathlib.Core.Path.{◌∙◌}
+use mathlib.Core.Bool.{Bool, false, ◌||◌}
+use Prim.Native.Nat.{ℕ}
+use lib.Dec.{eqb}
+use Rattle.std.proofs.Common.{rules, tests}
+use Rattle.std.proofs.lemmas.Iterator.{YieldsList-from_slice}
+use Rattle.std.proofs.lemmas.Iterator.Consumers.{fold_from_yields_List}
+use Rattle.check_names.proofs.NameNumbers.{any_folded}
 use Rattle.check_names.proofs.among.Goals as goal
 
-pub loop-i-init : goal.loop-i-init
-loop-i-init c = search among_loop
-
-pub offset_bounds-a-i : goal.offset_bounds-a-i
-offset_bounds-a-i c = search among_loop
-
-pub bounds-a-i : goal.bounds-a-i
-bounds-a-i c = search among_loop
-
-pub overflow_add-i : goal.overflow_add-i
-overflow_add-i c = search among_loop
-
-pub loop-i-smaller : goal.loop-i-smaller
-loop-i-smaller c = search among_loop
-
-pub loop-i-preserved : goal.loop-i-preserved
-loop-i-preserved c = search among_loop
-
 pub returns : goal.returns
-returns c = search among_loop
+returns c =
+    fold_from_yields_List _ (λ (m : Bool) (y : ℕ). m || eqb y c.args.x) false c.fold.result c.fold.ensures.ran (YieldsList-from_slice c.args.a.now cc) (λ a y b q k. search (rules, tests))
+    ∙ any_folded c.args.x c.args.a.now

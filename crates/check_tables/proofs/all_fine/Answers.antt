@@ -1,36 +1,15 @@
--- each pass in turn, and what it needs from those before it
-use Rattle.check_tables.proofs.CheckPasses.{sounding}
+use mathlib.Core.Bool.{not}
+use mathlib.Core.Path.{ap}
+use Rattle.check_tables.proofs.CheckPasses.{sound_sides, all_sound, checked}
 use Rattle.check_tables.proofs.all_fine.Goals as goal
 
-pub sizes_right-requires : goal.sizes_right-requires
-sizes_right-requires c = search sounding
-
-pub unsound-requires : goal.unsound-requires
-unsound-requires c = search sounding
-
-pub returns-then-not-sizes_right : goal.returns-then-not-sizes_right
-returns-then-not-sizes_right c = search sounding
-
-pub header_fine-requires : goal.header_fine-requires
-header_fine-requires c = search sounding
-
-pub unsound-requires-then-not-header_fine : goal.unsound-requires-then-not-header_fine
-unsound-requires-then-not-header_fine c = search sounding
-
-pub returns-then-not-header_fine : goal.returns-then-not-header_fine
-returns-then-not-header_fine c = search sounding
-
-pub homes-found-requires : goal.homes-found-requires
-homes-found-requires c = search sounding
-
-pub unsound-requires-then-not-found : goal.unsound-requires-then-not-found
-unsound-requires-then-not-found c = search sounding
-
-pub returns-then-not-found : goal.returns-then-not-found
-returns-then-not-found c = search sounding
-
 pub sides-requires : goal.sides-requires
-sides-requires c = search sounding
+sides-requires c = checked _ _ c.sizes_right.ensures (ap not c.if-not-sizes_right.false) (rw c.in_ok-found.was at c.homes.ensures)
+
+pub returns-then-not-sides : goal.returns-then-not-sides
+returns-then-not-sides c =
+    sound_sides _ _ c.sizes_right.ensures (ap not c.if-not-sizes_right.false) c.header_fine.ensures (ap not c.if-not-header_fine.false) (rw c.in_ok-found.was at c.homes.ensures) c.sides.ensures (ap not c.if-not-sides.true)
 
 pub returns : goal.returns
-returns c = search sounding
+returns c =
+    all_sound _ _ c.sizes_right.ensures (ap not c.if-not-sizes_right.false) c.header_fine.ensures (ap not c.if-not-header_fine.false) (rw c.in_ok-found.was at c.homes.ensures) c.sides.ensures (ap not c.if-not-sides.false)

@@ -1,8 +1,5 @@
-use Rattle.deadlock_graph.proofs.HolderWalks.{holder_laws}
+use Rattle.deadlock_graph.proofs.HolderWalks.{asks_known}
 use Rattle.deadlock_graph.proofs.asked_of.Goals as goal
 
-pub lock_word-requires : goal.lock_word-requires
-lock_word-requires c = search holder_laws
-
 pub returns : goal.returns
-returns c = search holder_laws
+returns c = asks_known c.requires c.lock_word.ensures

@@ -1,26 +1,23 @@
-use Rattle.deadlock_lines.proofs.LinkedLines.{chain_laws}
+use Rattle.deadlock_graph.proofs.SeenChains.{walk_meets, walk_over}
+use Rattle.deadlock_lines.proofs.LinkedLines.{linking_starts, linking_faces, linking_again, linking_ends}
 use Rattle.deadlock_lines.proofs.link_chain.Goals as goal
 
 pub loop-k-init : goal.loop-k-init
-loop-k-init c = search chain_laws
+loop-k-init c =
+    let items = c.locks_from-k-items.ensures in
+    let p = c.requires in
+    rw c.into_iter-k-iterator.ensures.into_iter_gives
+    (record { same = items.same; at = rw items.starts (linking_starts _ _ p.chain_faces p.met_len p.roomy) })
 
-pub link_lock-requires : goal.link_lock-requires
-link_lock-requires c = search chain_laws
-
-pub next_on_line-k-requires : goal.next_on_line-k-requires
-next_on_line-k-requires c = search chain_laws
-
-pub loop-k-smaller : goal.loop-k-smaller
-loop-k-smaller c = search chain_laws
+pub link_lock-requires-clause-faces : goal.link_lock-requires-clause-faces
+link_lock-requires-clause-faces c =
+    let m = walk_meets c.loop-k.invariant.same c.in-Some.ensures.steps in
+    linking_faces (rw m.0 at c.loop-k.invariant.at) m.1
 
 pub loop-k-preserved : goal.loop-k-preserved
-loop-k-preserved c = search chain_laws
-
-pub shape_of-met : goal.shape_of-met
-shape_of-met c = search chain_laws
-
-pub shape_of-links : goal.shape_of-links
-shape_of-links c = search chain_laws
+loop-k-preserved c =
+    let m = walk_meets c.loop-k.invariant.same c.in-Some.ensures.steps in
+    record { same = m.3; at = linking_again (rw m.0 at c.loop-k.invariant.at) m.1 c.link_lock.ensures m.2 }
 
 pub returns : goal.returns
-returns c = search chain_laws
+returns c = linking_ends c.loop-k.invariant.at (walk_over c.in-None.ensures.steps)

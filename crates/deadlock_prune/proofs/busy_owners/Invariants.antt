@@ -1,10 +1,6 @@
+use mathlib.Core.Path.{◌≡◌}
 use Rattle.deadlock_prune.proofs.FrontPasses.{BusyBefore}
-use lib.ListN.{length}
-use Rattle.tables.specs.Layout.{onward}
 use Rattle.deadlock_prune.proofs.busy_owners.Given as goal
 
 abbrev pub invariant-loop-k : goal.invariant-loop-k
-invariant-loop-k l = BusyBefore l.words l.links l.cleared l.initial.busy l.busy l.k
-
-abbrev pub decreases-loop-k : goal.decreases-loop-k
-decreases-loop-k l = length (onward l.words 1 l.k)
+invariant-loop-k l = record { same : l.k-iterator.words.now ≡ l.words; at : BusyBefore l.words l.links l.cleared l.initial.busy l.busy l.k-iterator.next }

@@ -1,35 +1,22 @@
-use Rattle.deadlock_prune.proofs.FrontPasses.{front_laws}
+use Rattle.deadlock_graph.proofs.SeenChains.{walk_meets}
+use Rattle.deadlock_prune.proofs.BlockedWalks.{along_blocked}
+use Rattle.deadlock_prune.proofs.FrontPasses.{front_starts, front_again, front_ends}
 use Rattle.deadlock_prune.proofs.clear_front.Goals as goal
 
-pub slice_bounds-busy_owners-end : goal.slice_bounds-busy_owners-end
-slice_bounds-busy_owners-end c = search front_laws
-
-pub busy_owners-requires : goal.busy_owners-requires
-busy_owners-requires c = search front_laws
-
-pub first_blocked-k-requires : goal.first_blocked-k-requires
-first_blocked-k-requires c = search front_laws
-
 pub loop-k-init : goal.loop-k-init
-loop-k-init c = search front_laws
+loop-k-init c =
+    rw c.into_iter-k-iterator.ensures.into_iter_gives
+    (record { same = c.blocked_locks-k-items.ensures.same; at = front_starts c.requires c.busy_owners.ensures c.blocked_locks-k-items.ensures.starts })
 
-pub slice_bounds-clear_if_free-end : goal.slice_bounds-clear_if_free-end
-slice_bounds-clear_if_free-end c = search front_laws
-
-pub clear_if_free-one-requires : goal.clear_if_free-one-requires
-clear_if_free-one-requires c = search front_laws
-
-pub next_blocked-k-requires : goal.next_blocked-k-requires
-next_blocked-k-requires c = search front_laws
-
-pub loop-k-smaller : goal.loop-k-smaller
-loop-k-smaller c = search front_laws
+pub clear_if_free-more-requires-clause-blocked : goal.clear_if_free-more-requires-clause-blocked
+clear_if_free-more-requires-clause-blocked c =
+    let m = walk_meets c.loop-k.invariant.same c.in-Some.ensures.steps in
+    along_blocked (rw m.0 at c.loop-k.invariant.at).along m.1
 
 pub loop-k-preserved : goal.loop-k-preserved
-loop-k-preserved c = search front_laws
-
-pub shape_of-cleared : goal.shape_of-cleared
-shape_of-cleared c = search front_laws
+loop-k-preserved c =
+    let m = walk_meets c.loop-k.invariant.same c.in-Some.ensures.steps in
+    record { same = m.3; at = front_again (rw m.0 at c.loop-k.invariant.at) m.1 c.clear_if_free-more.ensures c.clear_if_free-more.auto.cleared m.2 }
 
 pub returns : goal.returns
-returns c = search front_laws
+returns c = front_ends c.loop-k.invariant.at

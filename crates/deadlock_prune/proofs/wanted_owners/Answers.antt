@@ -1,26 +1,22 @@
-use Rattle.deadlock_prune.proofs.WantedOwners.{wanted_laws}
+use Rattle.deadlock_graph.proofs.SeenChains.{walk_meets, walk_over}
+use Rattle.deadlock_prune.proofs.BlockedWalks.{along_blocked}
+use Rattle.deadlock_prune.proofs.WantedOwners.{wanted_starts, wanted_again, wanted_ends}
 use Rattle.deadlock_prune.proofs.wanted_owners.Goals as goal
 
-pub first_blocked-k-requires : goal.first_blocked-k-requires
-first_blocked-k-requires c = search wanted_laws
-
 pub loop-k-init : goal.loop-k-init
-loop-k-init c = search wanted_laws
+loop-k-init c =
+    rw c.into_iter-k-iterator.ensures.into_iter_gives
+    (record { same = c.blocked_locks-k-items.ensures.same; at = wanted_starts _ c.requires.linked c.requires.wanted_len c.blocked_locks-k-items.ensures.starts })
 
-pub want_owners-requires : goal.want_owners-requires
-want_owners-requires c = search wanted_laws
-
-pub next_blocked-k-requires : goal.next_blocked-k-requires
-next_blocked-k-requires c = search wanted_laws
-
-pub loop-k-smaller : goal.loop-k-smaller
-loop-k-smaller c = search wanted_laws
+pub want_owners-requires-clause-blocked : goal.want_owners-requires-clause-blocked
+want_owners-requires-clause-blocked c =
+    let m = walk_meets c.loop-k.invariant.same c.in-Some.ensures.steps in
+    along_blocked (rw m.0 at c.loop-k.invariant.at).along m.1
 
 pub loop-k-preserved : goal.loop-k-preserved
-loop-k-preserved c = search wanted_laws
-
-pub shape_of-wanted : goal.shape_of-wanted
-shape_of-wanted c = search wanted_laws
+loop-k-preserved c =
+    let m = walk_meets c.loop-k.invariant.same c.in-Some.ensures.steps in
+    record { same = m.3; at = wanted_again (rw m.0 at c.loop-k.invariant.at) m.1 c.want_owners.ensures c.want_owners.auto.wanted m.2 }
 
 pub returns : goal.returns
-returns c = search wanted_laws
+returns c = wanted_ends c.loop-k.invariant.at (walk_over c.in-None.ensures.steps)

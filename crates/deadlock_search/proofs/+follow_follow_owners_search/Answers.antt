@@ -1,5 +1,5 @@
-use Rattle.std.proofs.Common.{arith}
-use Rattle.deadlock_search.proofs.SearchSteps.{searched_later, follow_hit, follow_place, follow_seen, follow_depth, follow_searches, follow_deeper, search_deep, search_row, search_follows, search_ahead, search_enters, search_whole, owners_row, owners_look, turning_starts, turn_list, turn_follows, turn_found, turn_looks, turn_less, turn_again, turning_done}
+use Rattle.std.proofs.Common.{arith, refl}
+use Rattle.deadlock_search.proofs.SearchSteps.{follow_hit, follow_place, follow_seen, follow_depth, follow_searches, follow_deeper, search_deep, search_row, search_follows, search_ahead, search_enters, search_whole, owners_row, turning_starts, turn_list, turn_follows, turn_found, turn_stops, turn_ends, stop_some, turn_less, turn_again, turning_done}
 use Rattle.deadlock_search.proofs.+follow_follow_owners_search.Goals as goal
 
 pub follow-returns-then-b-target : goal.follow-returns-then-b-target
@@ -26,42 +26,37 @@ follow-search-requires t c = (
 pub follow-returns : goal.follow-returns
 follow-returns t c = follow_deeper c.requires c.if-b-eq0.false c.if-b-target.false c.if-marks-b.false c.search.ensures
 
-pub follow_owners-link-requires-clause-field_in_bounds :
-    goal.follow_owners-link-requires-clause-field_in_bounds
-follow_owners-link-requires-clause-field_in_bounds t c = owners_row c.requires
+pub follow_owners-link-at-requires-clause-field_in_bounds :
+    goal.follow_owners-link-at-requires-clause-field_in_bounds
+follow_owners-link-at-requires-clause-field_in_bounds t c = owners_row c.requires
 
-pub follow_owners-seek-at-requires : goal.follow_owners-seek-at-requires
-follow_owners-seek-at-requires t c = owners_look c.requires c.link.ensures
+pub follow_owners-loop-j-init : goal.follow_owners-loop-j-init
+follow_owners-loop-j-init t c = turning_starts c.requires c.link-at.ensures
 
-pub follow_owners-loop-at-init : goal.follow_owners-loop-at-init
-follow_owners-loop-at-init t c = turning_starts c.requires c.link.ensures c.seek-at.ensures
+pub follow_owners-seek-requires : goal.follow_owners-seek-requires
+follow_owners-seek-requires t c = c.loop-j.invariant.look
 
 pub follow_owners-first_of-b-requires : goal.follow_owners-first_of-b-requires
-follow_owners-first_of-b-requires t c = turn_list c.loop-at.invariant c.loop-at-test.true
+follow_owners-first_of-b-requires t c = turn_list (turn_stops c.loop-j.invariant c.in-Some.ensures) (stop_some c.in-Some.ensures)
 
 pub follow_owners-follow-requires : goal.follow_owners-follow-requires
 follow_owners-follow-requires t c =
-    (omega (arith, c.decreases), turn_follows c.loop-at.invariant c.loop-at-test.true c.first_of-b.ensures)
+    (omega (arith, c.decreases), turn_follows (turn_stops c.loop-j.invariant c.in-Some.ensures) (stop_some c.in-Some.ensures) c.first_of-b.ensures)
 
 pub follow_owners-returns-then-follow : goal.follow_owners-returns-then-follow
 follow_owners-returns-then-follow t c =
-    searched_later c.seek-at.ensures.shorter
-    (turn_found c.loop-at.invariant c.loop-at-test.true c.first_of-b.ensures c.follow.ensures c.if-follow.true)
+    turn_found (turn_stops c.loop-j.invariant c.in-Some.ensures) (stop_some c.in-Some.ensures) c.first_of-b.ensures c.follow.ensures c.if-follow.true
 
-pub follow_owners-seek-at-requires-in-loop-at : goal.follow_owners-seek-at-requires-in-loop-at
-follow_owners-seek-at-requires-in-loop-at t c =
-    turn_looks c.loop-at.invariant c.loop-at-test.true c.first_of-b.ensures c.follow.ensures c.if-follow.false
+pub follow_owners-loop-j-smaller : goal.follow_owners-loop-j-smaller
+follow_owners-loop-j-smaller t c =
+    turn_less (turn_stops c.loop-j.invariant c.in-Some.ensures) (stop_some c.in-Some.ensures) c.first_of-b.ensures c.follow.ensures c.if-follow.false
 
-pub follow_owners-loop-at-smaller : goal.follow_owners-loop-at-smaller
-follow_owners-loop-at-smaller t c =
-    turn_less c.loop-at.invariant c.loop-at-test.true c.first_of-b.ensures c.follow.ensures c.if-follow.false
-
-pub follow_owners-loop-at-preserved : goal.follow_owners-loop-at-preserved
-follow_owners-loop-at-preserved t c =
-    turn_again c.loop-at.invariant c.loop-at-test.true c.first_of-b.ensures c.follow.ensures c.if-follow.false c.seek-at-in-loop-at.ensures
+pub follow_owners-loop-j-preserved : goal.follow_owners-loop-j-preserved
+follow_owners-loop-j-preserved t c =
+    turn_again (turn_stops c.loop-j.invariant c.in-Some.ensures) (stop_some c.in-Some.ensures) c.first_of-b.ensures c.follow.ensures c.if-follow.false
 
 pub follow_owners-returns : goal.follow_owners-returns
-follow_owners-returns t c = searched_later c.seek-at.ensures.shorter (turning_done c.loop-at.invariant c.loop-at-test.false)
+follow_owners-returns t c = turning_done (turn_ends c.loop-j.invariant c.in_default.ensures) refl
 
 pub search-returns-then-depth-eq0 : goal.search-returns-then-depth-eq0
 search-returns-then-depth-eq0 t c = absurd (search_deep c.requires c.if-depth-eq0.true)

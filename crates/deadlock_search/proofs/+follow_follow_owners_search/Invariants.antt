@@ -14,8 +14,8 @@ decreases-follow_owners l = 3 * l.depth + 1
 abbrev pub decreases-search : goal.decreases-search
 decreases-search l = 3 * l.depth + 2
 
-abbrev pub invariant-follow_owners-loop-at : goal.invariant-follow_owners-loop-at
-invariant-follow_owners-loop-at l = Turning l.words l.links l.from l.target l.depth l.initial.heads l.initial.marks l.heads l.marks l.at
+abbrev pub invariant-follow_owners-loop-j : goal.invariant-follow_owners-loop-j
+invariant-follow_owners-loop-j l = Turning l.words l.links l.from l.target l.depth l.initial.heads l.initial.marks l.heads l.marks l.at
 
-abbrev pub decreases-follow_owners-loop-at : goal.decreases-follow_owners-loop-at
-decreases-follow_owners-loop-at l = unmarked (seen l.words).blocked l.marks
+abbrev pub decreases-follow_owners-loop-j : goal.decreases-follow_owners-loop-j
+decreases-follow_owners-loop-j l = unmarked (seen l.words).blocked l.marks

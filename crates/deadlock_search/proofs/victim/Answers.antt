@@ -10,14 +10,14 @@ returns-then-clear_free_lines c = search victim_laws
 pub lock_count-locks-requires : goal.lock_count-locks-requires
 lock_count-locks-requires c = search victim_laws
 
-pub returns-then-locks : goal.returns-then-locks
-returns-then-locks c = search victim_laws
+pub returns-then-locks-lt-SMALL_PLACES : goal.returns-then-locks-lt-SMALL_PLACES
+returns-then-locks-lt-SMALL_PLACES c = search victim_laws
 
-pub returns-then-locks-2 : goal.returns-then-locks-2
-returns-then-locks-2 c = search victim_laws
+pub returns-then-locks-lt-MIDDLE_PLACES : goal.returns-then-locks-lt-MIDDLE_PLACES
+returns-then-locks-lt-MIDDLE_PLACES c = search victim_laws
 
-pub victim_large-requires : goal.victim_large-requires
-victim_large-requires c = search victim_laws
+pub victim_sized-requires-2-clause-free : goal.victim_sized-requires-2-clause-free
+victim_sized-requires-2-clause-free c = search victim_laws
 
 pub returns : goal.returns
 returns c = search victim_laws

@@ -1,20 +1,10 @@
-use Rattle.entry_holder.proofs.HolderReturns.{answering}
+use mathlib.Core.Path.{◌≡◌, sym, ◌∙◌}
+use Rattle.std.specs.Prelude.{Ok, ok_or}
+use Rattle.answers.specs.declared.Refusal.TheVariants as refusals
+use Rattle.entry_holder.proofs.HolderReturns.{answer_whole}
 use Rattle.entry_holder.proofs.holder.Goals as goal
 
-pub returns-then-not-sound_image : goal.returns-then-not-sound_image
-returns-then-not-sound_image c = search answering
-
-pub returns-then-not-name_right : goal.returns-then-not-name_right
-returns-then-not-name_right c = search answering
-
-pub overflow_mul-start : goal.overflow_mul-start
-overflow_mul-start c = search answering
-
-pub slice_bounds-ex_holder-count : goal.slice_bounds-ex_holder-count
-slice_bounds-ex_holder-count c = search answering
-
-pub ex_holder-requires : goal.ex_holder-requires
-ex_holder-requires c = search answering
-
-pub returns : goal.returns
-returns c = search answering
+pub ex_holder-requires-clause-has_all_words : goal.ex_holder-requires-clause-has_all_words
+ex_holder-requires-clause-has_all_words c =
+    let is : ok_or c.sound_words.result refusals.Unsound ≡ Ok c.in_ok-n.n = sym c.ok_or.ensures.value ∙ c.in_ok-n.was in
+    answer_whole _ c.args.name.now _ c.sound_words.ensures _ is

@@ -1,6 +1,5 @@
 -- The first from r on is the first.
 use mathlib.Core.Path.{◌≡◌}
-use Prim.Native.Nat.{◌≤◌, ◌+◌, ◌-◌}
 use Rattle.tables.specs.Lists.{first_that}
 use Rattle.rules.specs.Images.{image_words}
 use Rattle.table_names.specs.Names.{find_in}
@@ -9,7 +8,4 @@ use Rattle.table_names.proofs.SlotParts.{called}
 use Rattle.entry_holder.proofs.named_resource.Given as goal
 
 abbrev pub invariant-loop-r : goal.invariant-loop-r
-invariant-loop-r l = (1 ≤ l.r) × (find_in (image_words l.image) l.slots l.name ≡ first_that (called (image_words l.image) l.slots l.name) (upto l.r l.last))
-
-abbrev pub decreases-loop-r : goal.decreases-loop-r
-decreases-loop-r l = l.last + 1 - l.r
+invariant-loop-r l = find_in (image_words l.image) l.slots l.name ≡ first_that (called (image_words l.image) l.slots l.name) (upto l.r l.n)

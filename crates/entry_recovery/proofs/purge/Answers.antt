@@ -1,14 +1,5 @@
 use Rattle.entry_laws.proofs.EntryOutcomes.{entering}
 use Rattle.entry_recovery.proofs.purge.Goals as goal
 
-pub returns-then-not-sound : goal.returns-then-not-sound
-returns-then-not-sound c = search entering
-
-pub returns-then-refusal-ne0 : goal.returns-then-refusal-ne0
-returns-then-refusal-ne0 c = search entering
-
-pub purge_change-requires : goal.purge_change-requires
-purge_change-requires c = search entering
-
-pub returns : goal.returns
-returns c = search entering
+pub returns-in_err-client_refusal : goal.returns-in_err-client_refusal
+returns-in_err-client_refusal c = search (entering, c.in_err-client_refusal.ensures)

@@ -5,9 +5,9 @@ use Rattle.modes.proofs.down.Goals as goal
 pub loop-mode-init : goal.loop-mode-init
 loop-mode-init c = search kept_none
 
-pub returns-then-was-mode : goal.returns-then-was-mode
+pub returns-then-old-mode : goal.returns-then-old-mode
 unfolding compatible matrix
-returns-then-was-mode c = search lost
+returns-then-old-mode c = search lost
 
 pub loop-mode-preserved : goal.loop-mode-preserved
 unfolding compatible matrix

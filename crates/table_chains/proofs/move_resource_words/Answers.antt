@@ -7,8 +7,8 @@ resource_at-old-requires c = search resource_laws
 pub resource_cells-free-requires : goal.resource_cells-free-requires
 resource_cells-free-requires c = search resource_laws
 
-pub shift_front-requires : goal.shift_front-requires
-shift_front-requires c = search resource_laws
+pub shift-requires : goal.shift-requires
+shift-requires c = search resource_laws
 
 pub put_resource-requires : goal.put_resource-requires
 put_resource-requires c = search resource_laws

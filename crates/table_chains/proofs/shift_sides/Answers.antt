@@ -4,12 +4,6 @@ use Rattle.table_chains.proofs.shift_sides.Goals as goal
 pub lock_cells-blocked-requires : goal.lock_cells-blocked-requires
 lock_cells-blocked-requires c = search side_laws
 
-pub is_blocked-requires : goal.is_blocked-requires
-is_blocked-requires c = search side_laws
-
-pub is_blocked-requires-2 : goal.is_blocked-requires-2
-is_blocked-requires-2 c = search side_laws
-
 pub shift-requires : goal.shift-requires
 shift-requires c = search side_laws
 
@@ -19,17 +13,8 @@ lock_cells-notices-requires c = search side_laws
 pub with_notice-near-requires : goal.with_notice-near-requires
 with_notice-near-requires c = search side_laws
 
-pub is_noticed-requires : goal.is_noticed-requires
-is_noticed-requires c = search side_laws
-
-pub is_noticed-requires-2 : goal.is_noticed-requires-2
-is_noticed-requires-2 c = search side_laws
-
 pub shift-requires-2 : goal.shift-requires-2
 shift-requires-2 c = search side_laws
-
-pub shape_of-words : goal.shape_of-words
-shape_of-words c = search side_laws
 
 pub returns : goal.returns
 returns c = search side_laws

@@ -1,20 +1,14 @@
-use Rattle.table_names.proofs.Spans.{zeros_loop}
+use mathlib.Core.Path.{◌∙◌}
+use mathlib.Core.Bool.{Bool, true, ◌&&◌}
+use Prim.Native.Nat.{ℕ}
+use lib.Dec.{eqb}
+use Rattle.std.proofs.Common.{rules, tests}
+use Rattle.std.proofs.lemmas.Iterator.{YieldsList-from_slice}
+use Rattle.std.proofs.lemmas.Iterator.Consumers.{fold_from_yields_List}
+use Rattle.table_names.proofs.Spans.{zeros_folded}
 use Rattle.table_names.proofs.all_zero.Goals as goal
 
-pub loop-i-init : goal.loop-i-init
-loop-i-init c = search zeros_loop
-
-pub bounds-a-i : goal.bounds-a-i
-bounds-a-i c = search zeros_loop
-
-pub overflow_add-i : goal.overflow_add-i
-overflow_add-i c = search zeros_loop
-
-pub loop-i-smaller : goal.loop-i-smaller
-loop-i-smaller c = search zeros_loop
-
-pub loop-i-preserved : goal.loop-i-preserved
-loop-i-preserved c = search zeros_loop
-
 pub returns : goal.returns
-returns c = search zeros_loop
+returns c =
+    fold_from_yields_List _ (λ (z : Bool) (x : ℕ). z && eqb x 0) true c.fold.result c.fold.ensures.ran (YieldsList-from_slice c.args.a.now cc) (λ a x b q k. search (rules, tests))
+    ∙ zeros_folded c.args.a.now

@@ -1,6 +1,5 @@
 -- The first from r on is the first.
 use mathlib.Core.Path.{◌≡◌}
-use Prim.Native.Nat.{◌≤◌, ◌+◌, ◌-◌}
 use Rattle.tables.specs.Lists.{first_that}
 use Rattle.table_names.specs.Names.{find_in}
 use Rattle.table_names.proofs.NumberRuns.{upto}
@@ -8,7 +7,4 @@ use Rattle.table_names.proofs.SlotParts.{called}
 use Rattle.table_names.proofs.find.Given as goal
 
 abbrev pub invariant-loop-r : goal.invariant-loop-r
-invariant-loop-r l = (1 ≤ l.r) × (find_in l.words l.slots l.name ≡ first_that (called l.words l.slots l.name) (upto l.r l.n))
-
-abbrev pub decreases-loop-r : goal.decreases-loop-r
-decreases-loop-r l = l.n + 1 - l.r
+invariant-loop-r l = find_in l.words l.slots l.name ≡ first_that (called l.words l.slots l.name) (upto l.r l.n)

@@ -1,5 +1,0 @@
-use Rattle.table_fields.proofs.Laws.{field_laws}
-use Rattle.table_fields.proofs.lock_at.Goals as goal
-
-pub returns : goal.returns
-returns c = search field_laws
