@@ -9,9 +9,6 @@ ghost use Rattle.c_answers.specs.PackedAnswers.{unpacked};
 
 use answers::said;
 
-// The takeover program gets a refusal as this plus its number, and 0 where nobody holds EX.
-const REFUSED: u32 = 256;
-
 #[unsafe(no_mangle)]
 pub extern "C" fn zamgyorud_image(words: &[u32], slots: &[u8], area: &mut [u8]) -> u64
     ensures { filled (unpacked result) area.new ≡ image_filled (image_entry words.now slots.now area.old) }
@@ -31,8 +28,5 @@ pub extern "C" fn zamgyorud_load(image: &[u8], words: &mut [u32], slots: &mut [u
 pub extern "C" fn zamgyorud_holder(image: &[u8], name: &[u8]) -> u32
     ensures { result ≡ holder_entry image.now name.now }
 {
-    match entry_holder::holder(image, name) {
-        Ok(client) => client.unwrap_or(0),
-        Err(refusal) => REFUSED + refusal.number(),
-    }
+    entry_holder::holder(image, name)
 }

@@ -25,7 +25,7 @@ use Rattle.call_refusals.proofs.RequestRoom.{finds_resource, found_number}
 
 -- the number m is no mode, or the mode q
 module _ (m : ℕ) where
-  module _ (x : Result Unit Refusal) (e : Refusal) (up : IsErrAnd x (λ d. d ≡ e)) (four : refusal_number e ≡ 4) (high : 5 < m) where
+  module _ {A : Type 0} (x : Result A Refusal) (e : Refusal) (up : IsErrAnd x (λ d. d ≡ e)) (four : refusal_number e ≡ 4) (high : 5 < m) where
     mode_refused : (rest : ℕ) → refused_number x ≡ unless (leb m 5) 4 rest
     unfolding unless
     mode_refused rest = rw (number_up x e up, lt-leb m 5 high) four
@@ -57,13 +57,13 @@ module _ (ws : List ℕ) (c k f : ℕ) (v : List ℕ) where
 
 -- convert
 module _ (ws : List ℕ) (c k m f : ℕ) (v : List ℕ) where
-  pub convert_client : (x : Result Unit Refusal) (e : Refusal) → IsErrAnd x (λ d. d ≡ e) → refusal_number e ≡ purge_refusal c
+  pub convert_client : {A : Type 0} (x : Result A Refusal) (e : Refusal) → IsErrAnd x (λ d. d ≡ e) → refusal_number e ≡ purge_refusal c
       → Tells Core (convert_refusal c k m f v) ws (refused_number x)
   unfolding convert_refusal
   convert_client x e up ee = record { then = λ t g is. client_first c x e up ee _ }
 
   module _ (right : 0 ≡ purge_refusal c) where
-    pub convert_mode : (x : Result Unit Refusal) (e : Refusal) → IsErrAnd x (λ d. d ≡ e) → refusal_number e ≡ 4 → 5 < m
+    pub convert_mode : {A : Type 0} (x : Result A Refusal) (e : Refusal) → IsErrAnd x (λ d. d ≡ e) → refusal_number e ≡ 4 → 5 < m
         → Tells Core (convert_refusal c k m f v) ws (refused_number x)
     unfolding convert_refusal unless
     convert_mode x e up four high = record { then = λ t g is. rw (client_goes c right) (mode_refused m x e up four high _) }
@@ -78,11 +78,15 @@ module _ (ws : List ℕ) (c k m f : ℕ) (v : List ℕ) where
         unfolding convert_refusal unless
         convert_valued h = record { then = λ t g is. rw (client_goes c right, mode_is m q made low, sym ea ∙ not-false a allowed, sym eb ∙ not-true b h) }
 
-        pub convert_rest : not b ≡ false → (i : ℕ) → i ≡ mode_number q → (n : ℕ) → Tells Core (conversion_refusal c k i f) ws n → Tells Core (convert_refusal c k m f v) ws n
+        pub convert_rest : not b ≡ false → (n : ℕ) → Tells Core (conversion_refusal c k (mode_number q) f) ws n → Tells Core (convert_refusal c k m f v) ws n
         unfolding convert_refusal conversion_refusal unless
-        convert_rest h i number n rest = record {
-          then = λ t g is. rw (client_goes c right, mode_is m q made low, sym ea ∙ not-false a allowed, sym eb ∙ not-false b h) (rw (number ∙ made) at (rest.then t g is));
+        convert_rest h n rest = record {
+          then = λ t g is. rw (client_goes c right, mode_is m q made low, sym ea ∙ not-false a allowed, sym eb ∙ not-false b h) (rw made at (rest.then t g is));
         }
+
+        pub convert_refused : not b ≡ false → {A : Type 0} (x : Result A Refusal) (e : Refusal) → IsErrAnd x (λ d. d ≡ e) → Tells Core (conversion_refusal c k (mode_number q) f) ws (refusal_number e)
+            → Tells Core (convert_refusal c k m f v) ws (refused_number x)
+        convert_refused h x e up rest = rw (number_up x e up) (convert_rest h (refusal_number e) rest)
 
 -- .. of a lock that is granted
 refused_before : (a b d : Bool) (rest : ℕ) → (unless a 8 (unless b 9 (unless d 10 0)) ≡ 0 → ⊥) → unless a 8 (unless b 9 (unless d 10 0)) ≡ unless a 8 (unless b 9 (unless d 10 rest))
@@ -141,13 +145,13 @@ module _ (ws : List ℕ) (c k m f : ℕ) where
 
 -- request
 module _ (ws : List ℕ) (r : Option ℕ) (c m f : ℕ) (v : List ℕ) where
-  pub request_client : (x : Result Unit Refusal) (e : Refusal) → IsErrAnd x (λ d. d ≡ e) → refusal_number e ≡ purge_refusal c
+  pub request_client : {A : Type 0} (x : Result A Refusal) (e : Refusal) → IsErrAnd x (λ d. d ≡ e) → refusal_number e ≡ purge_refusal c
       → Tells (Finds v r) (request_refusal c m f v) ws (refused_number x)
   unfolding request_refusal
   request_client x e up ee = record { then = λ t g is. client_first c x e up ee _ }
 
   module _ (right : 0 ≡ purge_refusal c) where
-    pub request_mode : (x : Result Unit Refusal) (e : Refusal) → IsErrAnd x (λ d. d ≡ e) → refusal_number e ≡ 4 → 5 < m
+    pub request_mode : {A : Type 0} (x : Result A Refusal) (e : Refusal) → IsErrAnd x (λ d. d ≡ e) → refusal_number e ≡ 4 → 5 < m
         → Tells (Finds v r) (request_refusal c m f v) ws (refused_number x)
     unfolding request_refusal unless
     request_mode x e up four high = record { then = λ t g is. rw (client_goes c right) (mode_refused m x e up four high _) }
@@ -162,14 +166,18 @@ module _ (ws : List ℕ) (r : Option ℕ) (c m f : ℕ) (v : List ℕ) where
         unfolding request_refusal unless
         request_named h = record { then = λ t g is. rw (client_goes c right, mode_is m q made low, sym ea ∙ not-false a allowed, sym eb ∙ not-true b h) }
 
-        pub request_rest : not b ≡ false → (i : ℕ) → i ≡ mode_number q → (n : ℕ) → Tells (ResourceIfAny r) (room_refusal (unwrap_or r 0) i f) ws n
+        pub request_rest : not b ≡ false → (n : ℕ) → Tells (ResourceIfAny r) (room_refusal (unwrap_or r 0) (mode_number q) f) ws n
             → Tells (Finds v r) (request_refusal c m f v) ws n
         unfolding request_refusal room_refusal unless
-        request_rest h i number n rest = record {
+        request_rest h n rest = record {
           then = λ t g is.
               rw (client_goes c right, mode_is m q made low, sym ea ∙ not-false a allowed, sym eb ∙ not-false b h, ← (found_number v r t g))
-              (rw (number ∙ made) at (rest.then t (finds_resource v r t g) is));
+              (rw made at (rest.then t (finds_resource v r t g) is));
         }
+
+        pub request_refused : not b ≡ false → {A : Type 0} (x : Result A Refusal) (e : Refusal) → IsErrAnd x (λ d. d ≡ e)
+            → Tells (ResourceIfAny r) (room_refusal (unwrap_or r 0) (mode_number q) f) ws (refusal_number e) → Tells (Finds v r) (request_refusal c m f v) ws (refused_number x)
+        request_refused h x e up rest = rw (number_up x e up) (request_rest h (refusal_number e) rest)
 
 -- what is left of it stands on the resource alone
 pub request_room : (ws : List ℕ) (r : Option ℕ) (v : List ℕ) → Some (Finds v r) ws → Some (ResourceIfAny r) ws

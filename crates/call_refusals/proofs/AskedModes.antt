@@ -2,11 +2,8 @@
 use mathlib.Core.Path.{◌≡◌, refl}
 use Prim.Native.Nat.{ℕ}
 use Rattle.std.specs.Prelude.{Option, Some, None, Result, ok_or}
-use denote.Enum.Declared.{tag_of}
 use Rattle.modes.specs.declared.Mode.{Mode}
-use Rattle.modes.specs.declared.Mode.TheVariants as modes
-use Rattle.modes.specs.contracts.Mode.{the_type}
-use Rattle.modes.specs.Made.{mode_number, made_numbers, made}
+use Rattle.modes.specs.Made.{made_numbers, made}
 use Rattle.modes.proofs.Laws.{mode_small, same_number, refused_above}
 use Rattle.answers.specs.declared.Refusal.{Refusal}
 use Rattle.answers.specs.declared.Refusal.TheVariants as refusals
@@ -15,12 +12,3 @@ use Rattle.call_refusals.specs.Promises.{Asked}
 pub asked_is : (n : ℕ) (o : Option Mode) (x : Result Mode Refusal) → made_numbers o ≡ made n → x ≡ ok_or o refusals.Mode → Asked n x
 asked_is n (Some m) x made_is h = rw h (same_number n (Some m) m refl made_is, mode_small n (Some m) m refl made_is)
 asked_is n None x made_is h = rw h (refl, refused_above n None refl made_is)
-
--- a mode as the code's number
-pub tag_is : (m : Mode) → tag_of the_type m ≡ mode_number m
-tag_is modes.Null = refl
-tag_is modes.ConcurrentRead = refl
-tag_is modes.ConcurrentWrite = refl
-tag_is modes.ProtectedRead = refl
-tag_is modes.ProtectedWrite = refl
-tag_is modes.Exclusive = refl

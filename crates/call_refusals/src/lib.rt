@@ -1,6 +1,7 @@
 #![tactic(auto)]
 // Why a call is turned down: for each call the first refusal that fits, if one does.
-ghost use Rattle.std.specs.Prelude.{◌≡◌, ◌<◌, unwrap_or};
+ghost use Rattle.std.specs.Prelude.{◌≡◌, unwrap_or, IfOk};
+ghost use Rattle.modes.specs.Made.{mode_number};
 ghost use Rattle.tables.specs.Validity.{Core};
 ghost use Rattle.rules.specs.Calls.{request_refusal, convert_refusal, release_refusal, cancel_refusal, purge_refusal};
 ghost use Rattle.rules.specs.Entries.{look_refusal};
@@ -111,12 +112,11 @@ fn conversion_refusal(
     words: &[u32],
     client: u32,
     k: u32,
-    mode: u32,
+    mode: Mode,
     flags: u32,
 ) -> Result<(), Refusal>
-    requires some { Some Core words.now }
-    requires mode_bound { mode < 6 }
-    ensures { Tells Core (conversion_refusal client k mode flags) words.now (refused_number result) }
+    requires { Some Core words.now }
+    ensures { Tells Core (conversion_refusal client k (mode_number mode) flags) words.now (refused_number result) }
 {
     granted_refusal(words, client, k)?;
     if !flags::no_queue(flags) {
@@ -128,6 +128,7 @@ fn conversion_refusal(
     Err(Refusal::Blocks)
 }
 
+// If nothing refuses the call, the answer is the mode that is asked for.
 pub fn convert_refusal(
     words: &[u32],
     client: u32,
@@ -135,9 +136,10 @@ pub fn convert_refusal(
     mode: u32,
     flags: u32,
     value: &[u8],
-) -> Result<(), Refusal>
+) -> Result<Mode, Refusal>
     requires { Some Core words.now }
-    ensures { Tells Core (convert_refusal client k mode flags value.now) words.now (refused_number result) }
+    ensures told { Tells Core (convert_refusal client k mode flags value.now) words.now (refused_number result) }
+    ensures asked { IfOk result (λ m. mode_number m ≡ mode) }
 {
     client_refusal(client)?;
     let asked = asked_mode(mode)?;
@@ -147,15 +149,15 @@ pub fn convert_refusal(
     if !call_arguments::value_right(flags, value) {
         return Err(Refusal::Value);
     }
-    conversion_refusal(words, client, k, asked as u32, flags)
+    conversion_refusal(words, client, k, asked, flags)?;
+    Ok(asked)
 }
 
 // The refusals of request that are left once its arguments are right. `found` is the resource that has the name, if one
 // has it. A new name has no lock that could be in the way.
-fn room_refusal(words: &[u32], found: Option<u32>, mode: u32, flags: u32) -> Result<(), Refusal>
-    requires some { Some (ResourceIfAny found) words.now }
-    requires mode_bound { mode < 6 }
-    ensures { Tells (ResourceIfAny found) (room_refusal (unwrap_or found 0) mode flags) words.now (refused_number result) }
+fn room_refusal(words: &[u32], found: Option<u32>, mode: Mode, flags: u32) -> Result<(), Refusal>
+    requires { Some (ResourceIfAny found) words.now }
+    ensures { Tells (ResourceIfAny found) (room_refusal (unwrap_or found 0) (mode_number mode) flags) words.now (refused_number result) }
 {
     if found.is_none() & (words[table_fields::FREE_RESOURCES] == 0) {
         return Err(Refusal::NoResource);
@@ -176,7 +178,7 @@ fn room_refusal(words: &[u32], found: Option<u32>, mode: u32, flags: u32) -> Res
 }
 
 // `found` is the resource that has the name, if one has it: the caller looks it up, since the change of a request that is
-// accepted needs it too.
+// accepted needs it too. If nothing refuses the call, the answer is the mode that is asked for.
 pub fn request_refusal(
     words: &[u32],
     found: Option<u32>,
@@ -184,9 +186,10 @@ pub fn request_refusal(
     mode: u32,
     flags: u32,
     name: &[u8],
-) -> Result<(), Refusal>
+) -> Result<Mode, Refusal>
     requires { Some (Finds name.now found) words.now }
-    ensures { Tells (Finds name.now found) (request_refusal client mode flags name.now) words.now (refused_number result) }
+    ensures told { Tells (Finds name.now found) (request_refusal client mode flags name.now) words.now (refused_number result) }
+    ensures asked { IfOk result (λ m. mode_number m ≡ mode) }
 {
     client_refusal(client)?;
     let asked = asked_mode(mode)?;
@@ -196,5 +199,6 @@ pub fn request_refusal(
     if !call_arguments::name_right(name) {
         return Err(Refusal::Name);
     }
-    room_refusal(words, found, asked as u32, flags)
+    room_refusal(words, found, asked, flags)?;
+    Ok(asked)
 }

@@ -2,6 +2,7 @@
 // A request's change, in place. It takes a lock, and if its name is new also a resource. Then it is granted, or waits
 // and those in its way are told.
 ghost use Rattle.std.specs.Prelude.{◌≡◌};
+ghost use Rattle.modes.specs.Made.{mode_number};
 ghost use Rattle.rules.specs.Calls.{granted_at_once, holding, queued, request_on, request_change};
 ghost use Rattle.tables.specs.Numbered.{numbered};
 ghost use Rattle.rules.specs.Accepted.{Requestable};
@@ -13,6 +14,7 @@ ghost use Rattle.answers.specs.Promises.{Makes, MakesWords};
 ghost use Rattle.call_request.specs.Promises.{Nameable, Houses, AsksOn, Enters};
 
 use answers::Requested;
+use modes::Mode;
 use table_chains::{Hints, NO_HINTS};
 use table_fields::{header_word, new_lock};
 use tables::Lock;
@@ -32,23 +34,23 @@ fn resource_for(words: &mut [u32], slots: &mut [u8], found: Option<u32>, name: &
 }
 
 // A lock that the client holds on r, and one that waits there.
-fn holding(r: u32, client: u32, mode: u32) -> Lock
-    ensures { result ≡ holding r client mode }
+fn holding(r: u32, client: u32, mode: Mode) -> Lock
+    ensures { result ≡ holding r client (mode_number mode) }
 {
-    new_lock(r, client, table_fields::STATE_GRANTED, mode, 0)
+    new_lock(r, client, table_fields::STATE_GRANTED, mode as u32, 0)
 }
 
-fn queued(r: u32, client: u32, mode: u32) -> Lock
-    ensures { result ≡ queued r client mode }
+fn queued(r: u32, client: u32, mode: Mode) -> Lock
+    ensures { result ≡ queued r client (mode_number mode) }
 {
-    new_lock(r, client, table_fields::STATE_WAITING, 0, mode)
+    new_lock(r, client, table_fields::STATE_WAITING, 0, mode as u32)
 }
 
 // Whether the mode is granted at once on r. With flag 4 it is: a request that would block has been refused.
 #[tactic(auto, using(crate::proofs::NewLock::asks_laws))]
-fn at_once(words: &[u32], r: u32, mode: u32, flags: u32) -> bool
-    requires { Some (AsksOn r mode flags) words.now }
-    ensures { Tells (AsksOn r mode flags) (λ t. granted_at_once t r mode) words.now result }
+fn at_once(words: &[u32], r: u32, mode: Mode, flags: u32) -> bool
+    requires { Some (AsksOn r (mode_number mode) flags) words.now }
+    ensures { Tells (AsksOn r (mode_number mode) flags) (λ t. granted_at_once t r (mode_number mode)) words.now result }
 {
     if flags::no_queue(flags) {
         return true;
@@ -63,12 +65,12 @@ fn enter(
     r: u32,
     k: u32,
     client: u32,
-    mode: u32,
+    mode: Mode,
     flags: u32,
     last: u32,
 ) -> Requested
-    requires { Some (Enters r k client mode flags) words.old }
-    ensures { MakesWords (Enters r k client mode flags) (request_on r k client mode) words.old words.new (request_answer result) }
+    requires { Some (Enters r k client (mode_number mode) flags) words.old }
+    ensures { MakesWords (Enters r k client (mode_number mode) flags) (request_on r k client (mode_number mode)) words.old words.new (request_answer result) }
 {
     if at_once(words, r, mode, flags) {
         let hints = Hints { before: 0, last };
@@ -88,13 +90,13 @@ pub fn request_change(
     found: Option<u32>,
     last: u32,
     client: u32,
-    mode: u32,
+    mode: Mode,
     flags: u32,
     name: &[u8],
 ) -> Requested
-    requires some_tables { SomeTables (Requestable client mode flags name.now) words.old slots.old }
+    requires some_tables { SomeTables (Requestable client (mode_number mode) flags name.now) words.old slots.old }
     requires found_value { found ≡ numbered (find_in words.old slots.old name.now) }
-    ensures { Makes (Requestable client mode flags name.now) (request_change client mode name.now) words.old slots.old words.new slots.new (request_answer result) }
+    ensures { Makes (Requestable client (mode_number mode) flags name.now) (request_change client (mode_number mode) name.now) words.old slots.old words.new slots.new (request_answer result) }
 {
     let k = header_word(words, table_fields::FREE_LOCKS);
     let r = resource_for(words, slots, found, name);

@@ -89,7 +89,8 @@ pub fn locks_from<'a>(words: &'a [u32], first: u16) -> Chain<'a, LOCK_NEXT>
     Chain { words, next: first }
 }
 
-// The line of resource r: the first that converts, and the first that waits.
+// The line of resource r: the first that converts, and the first that waits. Each is a name for one line, which several crates
+// call, and answers the word as it stands in the table, where 0 is none.
 pub fn first_converting(words: &[u32], r: u32) -> u16
     requires some { Some Core words.now }
     requires le_r { (1 ≤ r) × (r ≤ resources_in words.now) }

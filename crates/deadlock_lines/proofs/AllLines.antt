@@ -205,8 +205,8 @@ module _ {ws ls lasts : List ℕ} (i : SomeLined ws ls lasts) where
           }
 
 -- a mark for each lock
-pub mark_place : {ws : List ℕ} {k : ℕ} (c : List Bool) → Blocked ws k → length c ≡ lock_places → k < length c
-mark_place {ws} {k} c b e = omega (arith, (blocked_at ws k b).high, (some_sized b.some).few_locks)
+pub mark_place : {ws : List ℕ} {k : ℕ} → Blocked ws k → k < lock_places
+mark_place {ws} {k} b = omega (arith, (blocked_at ws k b).high, (some_sized b.some).few_locks)
 
 pub ruleset for_laws = (rules, mark_place, for_cleared, for_place, for_makes)
 

@@ -95,14 +95,13 @@ pub record Linking (ws : List ℕ) (h first ahead : ℕ) (met₀ met ls₀ ls : 
   pub faces : (j : ℕ) → 1 ≤ count j (onward ws 0 k) → Faces ws h j
   pub wide : length met ≡ mode_places
   pub roomy : Roomy ws ls
-  pub met_size : length met ≡ length met₀
   pub size : length ls ≡ length ls₀
   pub ends : last_or ahead (onward ws 0 first) ≡ last_or last (onward ws 0 k)
   pub counts : meet_all (seen ws) (onward ws 0 first) met₀ ≡ meet_all (seen ws) (onward ws 0 k) met
   pub whole : link_all (seen ws) ahead met₀ (onward ws 0 first) ls₀ ≡ link_all (seen ws) last met (onward ws 0 k) ls
 
 pub linking_starts : {ws : List ℕ} {h k : ℕ} (last : ℕ) (met : List ℕ) {ls : List ℕ} → ChainFaces ws h k → length met ≡ mode_places → Roomy ws ls → Linking ws h k last met met ls ls k last
-linking_starts last met w l r = record { walks = w.walks; faces = w.each; wide = l; roomy = r; met_size = refl; size = refl; ends = refl; counts = refl; whole = refl }
+linking_starts last met w l r = record { walks = w.walks; faces = w.each; wide = l; roomy = r; size = refl; ends = refl; counts = refl; whole = refl }
 
 module _ {ws : List ℕ} {h start ahead : ℕ} {met₀ met ls₀ ls : List ℕ} {k last : ℕ} (i : Linking ws h start ahead met₀ met ls₀ ls k last) where
   module _ (n : k ≢ 0) where
@@ -120,7 +119,6 @@ module _ {ws : List ℕ} {h start ahead : ℕ} {met₀ met ls₀ ls : List ℕ} 
             faces = λ j m. i.faces j (rw (walk_splits ws 0 k i.walks n) (omega (arith, rw e at m, count_step j k (onward ws 0 (word_in ws (of_lock k 0))))));
             wide = met_size ∙ i.wide;
             roomy = record { rows = rw size i.roomy.rows };
-            met_size = met_size ∙ i.met_size;
             size = size ∙ i.size;
             ends = i.ends ∙ rw (walk_splits ws 0 k i.walks n, e);
             counts = i.counts ∙ rw (walk_splits ws 0 k i.walks n, e, d.counted);

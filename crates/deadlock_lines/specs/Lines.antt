@@ -6,7 +6,6 @@ use Rattle.tables.specs.Layout.{resources_in, onward}
 use Rattle.tables.specs.Grants.{holders}
 use Rattle.tables.specs.Validity.{Core, line}
 use Rattle.rules.specs.Deadlock.{obstacles}
-use Rattle.table_fields.specs.Sizes.{lock_places}
 use Rattle.table_chains.specs.Promises.{Some}
 use Rattle.table_chains.specs.Marks.{marked}
 use Rattle.table_chains.specs.Walking.{At, Walking}
@@ -87,10 +86,9 @@ pub record LineMade (ws : List ℕ) (c : List Bool) (k : ℕ) (ls ls' lasts last
   pub owners : SameLinks 2 ls ls'
   pub mates : SameLinks 3 ls ls'
 
--- ALL LINES that are needed. Before: there is a mark and a row for each lock, in which no holder is written yet, and an empty place for each resource
+-- ALL LINES that are needed. Before: there is a row for each lock, in which no holder is written yet, and an empty place for each resource
 pub record Unlined (ws : List ℕ) (c : List Bool) (ls lasts : List ℕ) : Type 0 where
   pub some : Some Core ws
-  pub marks : length c ≡ lock_places
   pub roomy : Roomy ws ls
   pub none : NoLinks 1 ls
   pub wide : resources_in ws < length lasts

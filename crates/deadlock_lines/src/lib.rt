@@ -1,20 +1,20 @@
 #![tactic(auto)]
 // The lines of blocked locks, linked: who stands right ahead of whom, and who begins to look at which holder.
-ghost use Rattle.std.specs.Prelude.{◌≡◌, ◌≤◌, length};
+ghost use Rattle.std.specs.Prelude.{◌≡◌, ◌≤◌};
 ghost use Rattle.tables.specs.Lists.{first};
 ghost use Rattle.tables.specs.Layout.{resources_in};
 ghost use Rattle.tables.specs.Validity.{Core};
 ghost use Rattle.rules.specs.Deadlock.{obstacles};
-ghost use Rattle.table_fields.specs.Sizes.{lock_places};
 ghost use Rattle.table_chains.specs.Promises.{Some};
 ghost use Rattle.deadlock_graph.specs.Promises.{seen, Blocked};
 ghost use Rattle.deadlock_graph.specs.Links.{Roomy};
-ghost use Rattle.deadlock_lines.specs.Lines.{mode_places, Faces, ChainFaces, LockLinked, ChainLinked, LineLinked, SomeLined, LineMade, Unlined, LinesLinked};
+ghost use Rattle.deadlock_lines.specs.Lines.{Faces, ChainFaces, LockLinked, ChainLinked, LineLinked, SomeLined, LineMade, Unlined, LinesLinked};
 
 use deadlock_graph::{
     LINK_AHEAD, LINK_HOLDER, asked_of, bars, blocked_locks, first_converting, first_holder,
     first_waiting, locks_from, next_holder, put_link, resource_of,
 };
+use table_fields::LOCK_PLACES;
 
 // Modes are numbered from 0.
 const MODES: usize = 6;
@@ -23,7 +23,8 @@ const MODES: usize = 6;
 // is in the way of one of these, which stand ahead of it.
 const LOOKERS: u16 = 2;
 
-// The first holder in k's way, from `holder` on, or 0.
+// The first holder in k's way, from `holder` on, or 0. The number is stored as a link, where 0 is none: an Option would be
+// turned back into it. So it is with the last lock that `link_line` answers, which `lasts` keeps.
 fn first_bar(words: &[u32], k: u16, holder: u16) -> u16
     requires { Faces words.now holder k }
     ensures { result ≡ first (obstacles (seen words.now) k) }
@@ -40,9 +41,15 @@ fn first_bar(words: &[u32], k: u16, holder: u16) -> u16
 
 // The links of lock k; `holder` is the first on its resource. `met` has for each mode how many of those ahead of k look and
 // ask for it.
-fn link_lock(words: &[u32], k: u16, ahead: u16, holder: u16, met: &mut [u16], links: &mut [u16])
+fn link_lock(
+    words: &[u32],
+    k: u16,
+    ahead: u16,
+    holder: u16,
+    met: &mut [u16; MODES],
+    links: &mut [u16],
+)
     requires faces { Faces words.now holder k }
-    requires met_len { length met.old ≡ mode_places }
     requires roomy { Roomy words.now links.old }
     ensures { LockLinked words.now k ahead met.old met.new links.old links.new }
 {
@@ -63,11 +70,10 @@ fn link_chain(
     first: u16,
     ahead: u16,
     holder: u16,
-    met: &mut [u16],
+    met: &mut [u16; MODES],
     links: &mut [u16],
 ) -> u16
     requires chain_faces { ChainFaces words.now holder first }
-    requires met_len { length met.old ≡ mode_places }
     requires roomy { Roomy words.now links.old }
     ensures { ChainLinked words.now first ahead met.old met.new links.old links.new result }
 {
@@ -97,9 +103,14 @@ fn link_line(words: &[u32], r: u32, links: &mut [u16]) -> u16
 // The line of the blocked lock k is linked, unless k is cleared or it was linked before. `lasts` has at the number of a
 // resource the last lock of its line, once that is linked.
 #[tactic(auto, using(crate::proofs::AllLines::for_laws))]
-fn link_for(words: &[u32], cleared: &[bool], k: u16, links: &mut [u16], lasts: &mut [u16])
+fn link_for(
+    words: &[u32],
+    cleared: &[bool; LOCK_PLACES],
+    k: u16,
+    links: &mut [u16],
+    lasts: &mut [u16],
+)
     requires blocked { Blocked words.now k }
-    requires cleared_len { length cleared.now ≡ lock_places }
     requires some_lined { SomeLined words.now links.old lasts.old }
     ensures { LineMade words.now cleared.now k links.old links.new lasts.old lasts.new }
 {
@@ -114,7 +125,12 @@ fn link_for(words: &[u32], cleared: &[bool], k: u16, links: &mut [u16], lasts: &
 }
 
 // The lines of the blocked locks that are not cleared.
-pub fn link_lines(words: &[u32], cleared: &[bool], links: &mut [u16], lasts: &mut [u16])
+pub fn link_lines(
+    words: &[u32],
+    cleared: &[bool; LOCK_PLACES],
+    links: &mut [u16],
+    lasts: &mut [u16],
+)
     requires { Unlined words.now cleared.now links.old lasts.old }
     ensures { LinesLinked words.now cleared.now links.old links.new lasts.new }
 {

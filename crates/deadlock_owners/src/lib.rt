@@ -18,7 +18,9 @@ use table_fields::resource_count;
 // Owners are looked for on these lists, by their low bits. An owner is there by the first of its blocked locks.
 const OWNER_LISTS: usize = 128;
 
-// The first blocked lock of the owner of lock j, or 0 if that owner is on no list.
+// The first blocked lock of the owner of lock j, or 0 if that owner is on no list. The number is stored as a link, where 0 is
+// none: an Option would be turned back into it. So it is with the lock that `append` answers: its row is written next, and row
+// 0 is no lock's.
 fn find_owner(words: &[u32], lists: &[u16], others: &[u16], j: u16) -> u16
     requires { LookedFor words.now lists.now others.now j }
     ensures { Found words.now lists.now others.now j result }

@@ -40,7 +40,7 @@ module _ {ws ls : List ℕ} {w m : List Bool} {k : ℕ} (d : Behind ws ls w m k)
   here = record { some = d.pass.ready.linked.some; stands = d.stands n }
 
   inside : k < length m
-  inside = mark_place m (blocked_at ws k here) d.pass.ready.cleared.wide
+  inside = omega (arith, mark_place (blocked_at ws k here), d.pass.ready.cleared.wide)
 
   placed : Placed ls k
   placed = linked_placed d.pass.ready.linked (blocked_at ws k here)
@@ -60,17 +60,16 @@ module _ {ws ls : List ℕ} {w m : List Bool} {k : ℕ} (d : Behind ws ls w m k)
 -- at the lock k, from `last` on; m₀ are the marks before
 pub record Backing (ls : List ℕ) (w : List Bool) (last : ℕ) (m₀ m : List Bool) (k : ℕ) : Type 0 where
   pub now : BackLine ls w m k
-  pub size : length m ≡ length m₀
   pub each : (ws : List ℕ) → Behind ws ls w m₀ last → Backed ws ls w m₀ m last k
 
 pub backing_starts : {ls : List ℕ} {k : ℕ} {w m : List Bool} → BackLine ls w m k → Backing ls w k m m k
 backing_starts {ls} {k} d =
-    record { now = d; size = refl; each = λ ws b. record { behind = b; kept = λ x h. h; fewer = rw (eq-eqb k k refl) (omega arith) } }
+    record { now = d; each = λ ws b. record { behind = b; kept = λ x h. h; fewer = rw (eq-eqb k k refl) (omega arith) } }
 
 module _ {ls : List ℕ} {w m₀ m : List Bool} {last k : ℕ} (i : Backing ls w last m₀ m k) where
   module _ (n : k ≢ 0) where
-    pub backing_place : k < length m
-    backing_place = inside i.now.behind n
+    pub backing_place : k < lock_places
+    backing_place = mark_place (blocked_at i.now.words k (here i.now.behind n))
 
     pub backing_fits : k < 2 ^ 64
     backing_fits = omega (arith, (placed i.now.behind n).few)
@@ -79,8 +78,8 @@ module _ {ls : List ℕ} {w m₀ m : List Bool} {last k : ℕ} (i : Backing ls w
     backing_row f h = linked_row i.now.behind.pass.ready.linked f (blocked_at i.now.words k (here i.now.behind n)) h
 
     module _ {x : ℕ} (e : x ≡ link_of ls k 2) where
-      pub backing_number : x < length w
-      backing_number = omega (arith, (placed i.now.behind n).number, i.now.behind.pass.wanted.wide)
+      pub backing_number : x < lock_places
+      backing_number = omega (arith, (placed i.now.behind n).number)
 
       pub backing_number_fits : x < 2 ^ 64
       backing_number_fits = omega (arith, (placed i.now.behind n).number)
@@ -90,8 +89,8 @@ module _ {ls : List ℕ} {w m₀ m : List Bool} {last k : ℕ} (i : Backing ls w
       unfolding marked
       backing_less =
           rw (length-set m k true)
-          (unmarked_less (from 1 (length m)) m (set m k true) (mark_kept m k backing_place) k
-          (omega (arith, from_has 1 (length m) k (blocked_low (here i.now.behind n)) (omega (arith, backing_place)))) g (mark_same m k backing_place))
+          (unmarked_less (from 1 (length m)) m (set m k true) (mark_kept m k (inside i.now.behind n)) k
+          (omega (arith, from_has 1 (length m) k (blocked_low (here i.now.behind n)) (omega (arith, inside i.now.behind n)))) g (mark_same m k (inside i.now.behind n)))
 
       pub backing_again : {x y : ℕ} → x ≡ link_of ls k 2 → get_or w x false ≡ false → y ≡ link_of ls k 0 → Backing ls w last m₀ (set m k true) y
       unfolding marked
@@ -99,7 +98,6 @@ module _ {ls : List ℕ} {w m₀ m : List Bool} {last k : ℕ} (i : Backing ls w
           let h' : marked w (link_of ls k 2) ≡ false = rw e at h in
           record {
             now = record { words = i.now.words; behind = behind_next i.now.behind n g h' q };
-            size = length-set m k true ∙ i.size;
             each = λ ws b.
                 let c = i.each ws b in
                 let p = here c.behind n in
@@ -124,7 +122,6 @@ pub record BackAt (ws ls lasts₀ lasts : List ℕ) (w m₀ m : List Bool) (more
   pub few : resources_in ws ≤ most_resources
   pub stopped : Stopped ws lasts m
   pub pass : BackPass ws ls w m
-  pub size : length m ≡ length m₀
   pub width : length lasts ≡ length lasts₀
   pub fewer : unmarked (seen ws).blocked m + bit more ≤ unmarked (seen ws).blocked m₀
 
@@ -140,7 +137,7 @@ module _ {ws ls lasts : List ℕ} {m : List Bool} (p : BackReady ws ls lasts m) 
 
   pub back_starts : {w : List Bool} → Wanted ws ls m w → BackAt ws ls lasts lasts w m m false 1
   back_starts d =
-      record { low = omega arith; few = back_sized.few_resources; stopped = p.stopped; pass = record { ready = p.ready; wanted = d }; size = refl; width = refl; fewer = omega arith }
+      record { low = omega arith; few = back_sized.few_resources; stopped = p.stopped; pass = record { ready = p.ready; wanted = d }; width = refl; fewer = omega arith }
 
 module _ {ws ls lasts₀ lasts : List ℕ} {w m₀ m : List Bool} {more : Bool} {r : ℕ} (i : BackAt ws ls lasts₀ lasts w m₀ m more r) where
   module _ {n : ℕ} (e : n ≡ resources_in ws) (h : r < n + 1) where
@@ -173,7 +170,6 @@ module _ {ws ls lasts₀ lasts : List ℕ} {w m₀ m : List Bool} {more : Bool} 
                 (λ q. rw (get_or-set_other lasts r s x 0 q) (λ c o. b.kept y (i.stopped.each s l g y t c o)));
           };
           pass = b.behind.pass;
-          size = b.behind.pass.ready.cleared.wide ∙ sym i.pass.ready.cleared.wide ∙ i.size;
           width = length-set lasts r x ∙ i.width;
           fewer = omega (arith, i.fewer, b.fewer, bit_or more (not (eqb x (get_or lasts r 0))));
         }
@@ -185,23 +181,22 @@ pub ruleset back_laws = (rules, back_sized, back_linked, back_wide, back_starts,
 
 -- ---- pass after pass
 
-pub record Backs (ws ls lasts₀ lasts : List ℕ) (m₀ m : List Bool) : Type 0 where
+pub record Backs (ws ls lasts₀ lasts : List ℕ) (m : List Bool) : Type 0 where
   pub ready : BackReady ws ls lasts m
-  pub size : length m ≡ length m₀
   pub width : length lasts ≡ length lasts₀
 
-pub backs_start : {ws ls lasts : List ℕ} {m : List Bool} → BackReady ws ls lasts m → Backs ws ls lasts lasts m m
-backs_start d = record { ready = d; size = refl; width = refl }
+pub backs_start : {ws ls lasts : List ℕ} {m : List Bool} → BackReady ws ls lasts m → Backs ws ls lasts lasts m
+backs_start d = record { ready = d; width = refl }
 
 pub backs_less : {ws ls lasts : List ℕ} {m m' : List Bool} {r b : Bool} → BackPassed ws ls lasts m m' r → b ≡ true → unmarked (seen ws).blocked m' + bit r < unmarked (seen ws).blocked m + bit b
 backs_less p e = rw e (omega (arith, p.fewer))
 
-module _ {ws ls lasts₀ lasts : List ℕ} {m₀ m : List Bool} (i : Backs ws ls lasts₀ lasts m₀ m) where
+module _ {ws ls lasts₀ lasts : List ℕ} {m : List Bool} (i : Backs ws ls lasts₀ lasts m) where
   pub backs_ready : BackReady ws ls lasts m
   backs_ready = i.ready
 
-  pub backs_again : {lasts' : List ℕ} {m' : List Bool} {r : Bool} → BackPassed ws ls lasts' m m' r → length m' ≡ length m → length lasts' ≡ length lasts → Backs ws ls lasts₀ lasts' m₀ m'
-  backs_again p s t = record { ready = p.ready; size = s ∙ i.size; width = t ∙ i.width }
+  pub backs_again : {lasts' : List ℕ} {m' : List Bool} {r : Bool} → BackPassed ws ls lasts' m m' r → length lasts' ≡ length lasts → Backs ws ls lasts₀ lasts' m'
+  backs_again p t = record { ready = p.ready; width = t ∙ i.width }
 
   pub backs_end : Ready ws ls m
   backs_end = i.ready.ready

@@ -95,14 +95,11 @@ module _ {ws ls : List ℕ} {m : List Bool} {k : ℕ} (l : Linked ws ls m) where
   pub linked_lock : Blocked ws k → marked m k ≡ false → LinkedLock ws ls k
   linked_lock b f = record { roomy = l.roomy; small = l.small; blocked = b; looker = l.each k b.stands f }
 
--- the place of k, and that of its owner's number
+-- the place of its owner's number
 module _ {ls : List ℕ} {k : ℕ} (p : Placed ls k) where
-  pub placed_few : (m : List Bool) → length m ≡ lock_places → k < length m
-  placed_few m e = omega (arith, p.few)
-
   module _ {x : ℕ} (e : x ≡ link_of ls k 2) where
-    pub number_few : (m : List Bool) → length m ≡ lock_places → x < length m
-    number_few m l = omega (arith, p.number)
+    pub number_few : x < lock_places
+    number_few = omega (arith, p.number)
 
     pub number_fits : x < 2 ^ 64
     number_fits = omega (arith, p.number)

@@ -31,8 +31,8 @@ use Rattle.deadlock_prune.proofs.BlockedWalks.{linked_more}
 use Rattle.deadlock_prune.proofs.ClearedBehind.{clear_before}
 
 -- a mark for each lock
-pub mark_place : {ws : List ℕ} {k : ℕ} (m : List Bool) → At ws k → length m ≡ lock_places → k < length m
-mark_place m a e = omega (arith, a.high, (some_sized a.some).few_locks)
+pub mark_place : {ws : List ℕ} {k : ℕ} → At ws k → k < lock_places
+mark_place a = omega (arith, a.high, (some_sized a.some).few_locks)
 
 -- ---- a hop
 
@@ -70,7 +70,7 @@ same_number ws ls a j b n q m e = (n.same j b (obstacle_in (seen ws) a j m).0 q.
 
 module _ {ws : List ℕ} (m : List Bool) (k : ℕ) (p : Blocked ws k) (wide : length m ≡ lock_places) where
   inside : k < length m
-  inside = mark_place m (blocked_at ws k p) wide
+  inside = omega (arith, mark_place (blocked_at ws k p), wide)
 
   pub marks_kept : Keeping m (set m k true)
   marks_kept = mark_kept m k inside
@@ -107,7 +107,7 @@ module _ (ws ls : List ℕ) (b m : List Bool) (k : ℕ) (i : FrontPass ws ls b m
             linked = linked_more (marks_kept m k p wide) i.ready.linked;
             cleared = clear_behind m k i.ready.cleared p.stands only_cleared;
           };
-          busy = record { wide = i.busy.wide; each = λ j s f. i.busy.each j s (not_marked m k p wide j f) };
+          busy = record { each = λ j s f. i.busy.each j s (not_marked m k p wide j f) };
         }
 
 -- ---- from the back
@@ -134,5 +134,5 @@ module _ (ws ls : List ℕ) (w m : List Bool) (k : ℕ) (i : BackPass ws ls w m)
           linked = linked_more (marks_kept m k p wide) i.ready.linked;
           cleared = clear_before m k i.ready.cleared p.stands cleared_before;
         };
-        wanted = record { wide = i.wanted.wide; each = λ z j s g. i.wanted.each z j s (not_marked m k p wide z g) };
+        wanted = record { each = λ z j s g. i.wanted.each z j s (not_marked m k p wide z g) };
       }

@@ -20,7 +20,7 @@ use Rattle.tables.proofs.ChainMembers.{line_blocked}
 use Rattle.rules.specs.Deadlock.{ahead, obstacles, owner}
 use Rattle.rules.proofs.NoticesKeepSound.{obstacle_in}
 use Rattle.rules.specs.Walks.{Walk, step, through}
-use Rattle.table_fields.specs.Sizes.{Sized}
+use Rattle.table_fields.specs.Sizes.{Sized, lock_places}
 use Rattle.table_chains.specs.Promises.{Some}
 use Rattle.table_chains.specs.Marks.{marked}
 use Rattle.table_chains.specs.Walking.{At}
@@ -71,7 +71,7 @@ module _ {ws : List ℕ} {f₀ f : List Bool} {k : ℕ} (i : NotedBefore ws f₀
       }
 
   pub noting_ends : k ≡ 0 → OwnersNoted ws f
-  noting_ends e = record { wide = i.wide; each = λ j h. i.each j h (rw (e, walk_ends ws 1) (count_nil j)) }
+  noting_ends e = record { each = λ j h. i.each j h (rw (e, walk_ends ws 1) (count_nil j)) }
 
 pub ruleset noting_laws = (rules, along_at, along_less, filter_place, noting_starts, noting_again, noting_ends)
 
@@ -162,20 +162,19 @@ module _ {ws : List ℕ} {f : List Bool} (r : ℕ) (o : OwnersNoted ws f) (none 
 -- at the lock k of it, from `first` on; m₀ are the marks before
 pub record ChainAt (ws : List ℕ) (m₀ m : List Bool) (first k : ℕ) : Type 0 where
   pub chain : FreeChain ws m k
-  pub size : length m ≡ length m₀
   pub kept : (x : ℕ) → marked m₀ x ≡ true → marked m x ≡ true
   pub all : (j : ℕ) → 1 ≤ count j (onward ws 0 first) → count j (onward ws 0 k) ≡ 0 → marked m j ≡ true
 
 pub chain_starts : {ws : List ℕ} {m : List Bool} {k : ℕ} → FreeChain ws m k → ChainAt ws m m k k
-chain_starts c = record { chain = c; size = refl; kept = λ x h. h; all = λ j h z. absurd (omega arith) }
+chain_starts c = record { chain = c; kept = λ x h. h; all = λ j h z. absurd (omega arith) }
 
 module _ {ws : List ℕ} {m₀ m : List Bool} {first k : ℕ} (i : ChainAt ws m₀ m first k) where
   module _ (n : k ≢ 0) where
-    pub chain_place : k < length m
-    chain_place = mark_place m (walk_stands i.chain.walks n) i.chain.cleared.wide
+    pub chain_place : k < lock_places
+    chain_place = mark_place (walk_stands i.chain.walks n)
 
     pub chain_fits : k < 2 ^ 64
-    chain_fits = omega (arith, chain_place, i.chain.cleared.wide)
+    chain_fits = omega (arith, chain_place)
 
     module _ {x : ℕ} (e : x ≡ word_in ws (of_lock k 0)) where
       pub chain_less : length (onward ws 0 x) < length (onward ws 0 k)
@@ -184,18 +183,18 @@ module _ {ws : List ℕ} {m₀ m : List Bool} {first k : ℕ} (i : ChainAt ws m�
       pub chain_again : ChainAt ws m₀ (set m k true) first x
       chain_again =
           let split = walk_splits ws 0 k i.chain.walks n in
+          let inside : k < length m = omega (arith, chain_place, i.chain.cleared.wide) in
           record {
             chain = record {
               walks = walk_on i.chain.walks n e;
               cleared = clear_more m k i.chain.cleared (i.chain.each k (rw (split, count_same) (omega arith)));
               each = λ j c. i.chain.each j (rw split (omega (arith, rw e at c, count_step j k (onward ws 0 (word_in ws (of_lock k 0))))));
             };
-            size = length-set m k true ∙ i.size;
-            kept = λ y h. mark_kept m k chain_place y (i.kept y h);
+            kept = λ y h. mark_kept m k inside y (i.kept y h);
             all = λ j h z.
                 by_equal j k
-                (λ q. rw q (mark_same m k chain_place))
-                (λ d. mark_kept m k chain_place j (i.all j h (rw (split, count_other j k (onward ws 0 (word_in ws (of_lock k 0))) d) (rw e at z))));
+                (λ q. rw q (mark_same m k inside))
+                (λ d. mark_kept m k inside j (i.all j h (rw (split, count_other j k (onward ws 0 (word_in ws (of_lock k 0))) d) (rw e at z))));
           }
 
   pub chain_ends : k ≡ 0 → ChainCleared ws m₀ m first
@@ -273,23 +272,21 @@ pub ruleset free_line_laws = (rules, line_noted, line_empty, line_cleared, conve
 -- ---- all lines
 
 -- the lines of the resources below r are passed; all their locks are cleared if b
-pub record FreeAt (ws : List ℕ) (f m₀ m : List Bool) (b : Bool) (r : ℕ) : Type 0 where
+pub record FreeAt (ws : List ℕ) (f m : List Bool) (b : Bool) (r : ℕ) : Type 0 where
   pub low : 1 ≤ r
   pub few : resources_in ws ≤ most_resources
   pub pass : FreePass ws f m
-  pub size : length m ≡ length m₀
   pub all : b ≡ true → (j : ℕ) → 1 ≤ count j (seen ws).blocked → (lock (seen ws) j).resource < r → marked m j ≡ true
 
 pub clearable_sized : {ws : List ℕ} {m : List Bool} → Clearable ws m → Sized ws
 clearable_sized c = some_sized c.some
 
-pub lines_start : {ws : List ℕ} {f m : List Bool} → Clearable ws m → OwnersNoted ws f → FreeAt ws f m m true 1
+pub lines_start : {ws : List ℕ} {f m : List Bool} → Clearable ws m → OwnersNoted ws f → FreeAt ws f m true 1
 lines_start {ws} c o =
     record {
       low = omega arith;
       few = (some_sized c.some).few_resources;
       pass = record { some = c.some; owners = o; cleared = c.cleared };
-      size = refl;
       all = λ h j s l. absurd (omega (arith, l, (blocked_home ws j (record { some = c.some; stands = s })).0));
     }
 
@@ -298,14 +295,13 @@ on_line : (ws : List ℕ) (s : Some Core ws) (j : ℕ) → 1 ≤ count j (seen w
 on_line ws s j h =
     rw ((some_alike ws s).locks j, seen_line ws s (lock s.state j).resource) (line_has s.state s.good j (seen_node ws s j h))
 
-module _ {ws : List ℕ} {f m₀ m : List Bool} {b : Bool} {r : ℕ} (i : FreeAt ws f m₀ m b r) where
-  pub lines_again : {m' : List Bool} {x : Bool} → LineCleared ws f m m' r x → FreeAt ws f m₀ m' (b && x) (r + 1)
+module _ {ws : List ℕ} {f m : List Bool} {b : Bool} {r : ℕ} (i : FreeAt ws f m b r) where
+  pub lines_again : {m' : List Bool} {x : Bool} → LineCleared ws f m m' r x → FreeAt ws f m' (b && x) (r + 1)
   lines_again {m'} {x} p =
       record {
         low = omega arith;
         few = i.few;
         pass = p.pass;
-        size = p.pass.cleared.wide ∙ sym i.pass.cleared.wide ∙ i.size;
         all = λ h j s l.
             by_equal (lock (seen ws) j).resource r
             (λ q. p.all (and_right b x h) j (rw q at (on_line ws i.pass.some j s)))

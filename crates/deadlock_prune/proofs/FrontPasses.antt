@@ -32,7 +32,7 @@ use Rattle.deadlock_graph.proofs.Marks.{mark_same, mark_kept}
 use Rattle.deadlock_graph.proofs.NearestLocks.{nearest_blocked_seen}
 use Rattle.deadlock_graph.proofs.SeenChains.{blocked_seen}
 use Rattle.deadlock_prune.specs.BothEnds.{Placed, LinkedLock, looked, Ready, Passed, BusyNoted, Busy, hinders, Hindered, FrontPass, FrontStep}
-use Rattle.deadlock_prune.proofs.BlockedWalks.{Along, along_starts, along_blocked, along_at, along_on, along_less, rows_placed, linked_row, linked_placed, linked_lock, placed_few, number_few, number_fits, looked_in, looked_strong, looks_along, looks_meets}
+use Rattle.deadlock_prune.proofs.BlockedWalks.{Along, along_starts, along_blocked, along_at, along_on, along_less, rows_placed, linked_row, linked_placed, linked_lock, number_few, number_fits, looked_in, looked_strong, looks_along, looks_meets}
 use Rattle.deadlock_prune.proofs.ClearedLocks.{mark_place, marks_less, front_more}
 use Rattle.deadlock_prune.proofs.LocksLeft.{bit_or, ready_some, ready_linked, ready_wide}
 
@@ -45,39 +45,36 @@ module _ (ls : List ℕ) (m : List Bool) (k : ℕ) (b : List Bool) where
 
   pub busy_stores : (x : ℕ) → Placed ls k → x ≡ link_of ls k 2 → length b ≡ lock_places → BusyNoted ls m k b (set b x true)
   busy_stores x p e l =
-      let inside : x < length b = number_few p e b l in
+      let inside : x < length b = omega (arith, number_few p e) in
       record { here = λ f. rw (sym e) (mark_same b x inside); kept = mark_kept b x inside }
 
-pub ruleset note_busy_laws = (rules, placed_few, number_few, number_fits, busy_skips, busy_stores)
+pub ruleset note_busy_laws = (rules, number_few, number_fits, busy_skips, busy_stores)
 
 -- ---- all blocked locks
 
 -- at the lock k of the blocked chain: the owners of those before it are written down
-pub record BusyBefore (ws ls : List ℕ) (m b₀ b : List Bool) (k : ℕ) : Type 0 where
+pub record BusyBefore (ws ls : List ℕ) (m b : List Bool) (k : ℕ) : Type 0 where
   pub along : Along ws k
   pub wide : length b ≡ lock_places
-  pub size : length b ≡ length b₀
   pub each : (j : ℕ) → 1 ≤ count j (seen ws).blocked → count j (onward ws 1 k) ≡ 0 → marked m j ≡ false → marked b (link_of ls j 2) ≡ true
 
-pub busy_starts : {ws ls : List ℕ} {b : List Bool} {k : ℕ} (m : List Bool) → Linked ws ls m → length b ≡ lock_places → k ≡ word_in ws (of_header 5) → BusyBefore ws ls m b b k
+pub busy_starts : {ws ls : List ℕ} {b : List Bool} {k : ℕ} (m : List Bool) → Linked ws ls m → length b ≡ lock_places → k ≡ word_in ws (of_header 5) → BusyBefore ws ls m b k
 busy_starts {ws} {ls} {b} {k} m d l e =
     record {
       along = along_starts d.some e;
       wide = l;
-      size = refl;
       each = λ j h z. absurd (omega (arith, h, rw (blocked_seen ws k d.some e) at z));
     }
 
-module _ {ws ls : List ℕ} {m b₀ b : List Bool} {k : ℕ} (i : BusyBefore ws ls m b₀ b k) where
+module _ {ws ls : List ℕ} {m b : List Bool} {k : ℕ} (i : BusyBefore ws ls m b k) where
   pub busy_placed : Linked ws ls m → k ≢ 0 → Placed ls k
   busy_placed l n = linked_placed l (along_at i.along n)
 
-  pub busy_again : {x : ℕ} {b' : List Bool} → k ≢ 0 → BusyNoted ls m k b b' → length b' ≡ length b → x ≡ word_in ws (of_lock k 1) → BusyBefore ws ls m b₀ b' x
+  pub busy_again : {x : ℕ} {b' : List Bool} → k ≢ 0 → BusyNoted ls m k b b' → length b' ≡ lock_places → x ≡ word_in ws (of_lock k 1) → BusyBefore ws ls m b' x
   busy_again {x} {b'} n d s e =
       record {
         along = along_on i.along n e;
-        wide = s ∙ i.wide;
-        size = s ∙ i.size;
+        wide = s;
         each = λ j h z f.
             by_equal j k
             (λ q. rw q (d.here (rw q at f)))
@@ -85,7 +82,7 @@ module _ {ws ls : List ℕ} {m b₀ b : List Bool} {k : ℕ} (i : BusyBefore ws 
       }
 
   pub busy_ends : k ≡ 0 → Busy ws ls m b
-  busy_ends e = record { wide = i.wide; each = λ j h. i.each j h (rw (e, walk_ends ws 1) (count_nil j)) }
+  busy_ends e = record { each = λ j h. i.each j h (rw (e, walk_ends ws 1) (count_nil j)) }
 
 pub ruleset busy_laws = (rules, along_less, busy_starts, busy_placed, busy_again, busy_ends)
 
@@ -168,8 +165,8 @@ module _ {ws ls : List ℕ} {b m : List Bool} (i : FrontPass ws ls b m) where
   front_skips = record { pass = i; fewer = omega arith }
 
   module _ {k : ℕ} (p : Blocked ws k) where
-    pub front_place : k < length m
-    front_place = mark_place m (blocked_at ws k p) i.ready.cleared.wide
+    pub front_place : k < lock_places
+    front_place = mark_place (blocked_at ws k p)
 
     pub front_row : (f : ℕ) → f < link_width → link_width * k + f < length ls
     front_row f h = linked_row i.ready.linked f (blocked_at ws k p) h
@@ -183,15 +180,15 @@ module _ {ws ls : List ℕ} {b m : List Bool} (i : FrontPass ws ls b m) where
         right_ahead : x ≡ nearest (seen ws) k
         right_ahead = e ∙ front_lock.looker.ahead
 
-        pub ahead_place : x < length m
+        pub ahead_place : x < lock_places
         ahead_place =
             rw right_ahead
             (by_equal (nearest (seen ws) k) 0
-            (λ z. rw (z, i.ready.cleared.wide) (omega arith))
-            (λ n. mark_place m (blocked_at ws (nearest (seen ws) k) (nearest_blocked_seen ws k p n)) i.ready.cleared.wide))
+            (λ z. rw z (omega arith))
+            (λ n. mark_place (blocked_at ws (nearest (seen ws) k) (nearest_blocked_seen ws k p n))))
 
         pub ahead_fits : x < 2 ^ 64
-        ahead_fits = omega (arith, ahead_place, i.ready.cleared.wide)
+        ahead_fits = omega (arith, ahead_place)
 
         pub front_clears : {r : Bool} → (not (eqb x 0) && not (get_or m x false)) ≡ false → Hindered ws ls b k r → r ≡ false → FrontStep ws ls b m (set m k true) true
         unfolding marked
@@ -214,20 +211,19 @@ pub ruleset free_laws = (rules, front_skips, front_place, front_row, front_lock,
 pub record FrontAt (ws ls : List ℕ) (b m₀ m : List Bool) (more : Bool) (k : ℕ) : Type 0 where
   pub along : Along ws k
   pub pass : FrontPass ws ls b m
-  pub size : length m ≡ length m₀
   pub fewer : unmarked (seen ws).blocked m + bit more ≤ unmarked (seen ws).blocked m₀
 
 pub front_starts : {ws ls : List ℕ} {b m : List Bool} {k : ℕ} → Ready ws ls m → Busy ws ls m b → k ≡ word_in ws (of_header 5) → FrontAt ws ls b m m false k
-front_starts d y e = record { along = along_starts d.linked.some e; pass = record { ready = d; busy = y }; size = refl; fewer = omega arith }
+front_starts d y e = record { along = along_starts d.linked.some e; pass = record { ready = d; busy = y }; fewer = omega arith }
 
 module _ {ws ls : List ℕ} {b m₀ m : List Bool} {more : Bool} {k : ℕ} (i : FrontAt ws ls b m₀ m more k) where
   pub front_pass : FrontPass ws ls b m
   front_pass = i.pass
 
-  pub front_again : {x : ℕ} {m' : List Bool} {one : Bool} → k ≢ 0 → FrontStep ws ls b m m' one → length m' ≡ length m → x ≡ word_in ws (of_lock k 1)
+  pub front_again : {x : ℕ} {m' : List Bool} {one : Bool} → k ≢ 0 → FrontStep ws ls b m m' one → x ≡ word_in ws (of_lock k 1)
       → FrontAt ws ls b m₀ m' (more || one) x
-  front_again {x} {m'} {one} n p s e =
-      record { along = along_on i.along n e; pass = p.pass; size = s ∙ i.size; fewer = omega (arith, i.fewer, p.fewer, bit_or more one) }
+  front_again {x} {m'} {one} n p e =
+      record { along = along_on i.along n e; pass = p.pass; fewer = omega (arith, i.fewer, p.fewer, bit_or more one) }
 
   pub front_ends : Passed ws ls m₀ m more
   front_ends = record { ready = i.pass.ready; fewer = i.fewer }

@@ -1,5 +1,5 @@
 -- The count of the locks that are left, and pass after pass: a law for each return, turn and call.
-use mathlib.Core.Path.{◌≡◌, refl, sym, ap, ◌∙◌}
+use mathlib.Core.Path.{◌≡◌, sym, ap, ◌∙◌}
 use mathlib.Core.Logic.{◌≢◌}
 use mathlib.Core.Bool.{Bool, true, false, ◌||◌}
 use mathlib.Core.List.{List}
@@ -30,25 +30,24 @@ use Rattle.deadlock_prune.proofs.ClearedLocks.{mark_place}
 -- at the lock k of the blocked chain: n of those before it are not cleared
 pub record Counting (ws : List ℕ) (m : List Bool) (n k : ℕ) : Type 0 where
   pub walks : Walking ws 1 k
-  pub wide : length m ≡ lock_places
   pub whole : unmarked (seen ws).blocked m ≡ n + unmarked (onward ws 1 k) m
   pub few : unmarked (seen ws).blocked m ≤ most_locks
 
 left_few : {ws : List ℕ} (m : List Bool) → Some Core ws → unmarked (seen ws).blocked m ≤ most_locks
 left_few {ws} m s = omega (arith, unmarked_le (seen ws).blocked m, blocked_few ws s, (some_sized s).few_locks)
 
-pub counting_starts : {ws : List ℕ} {k : ℕ} (m : List Bool) → Some Core ws → length m ≡ lock_places → k ≡ word_in ws (of_header 5) → Counting ws m 0 k
-counting_starts {ws} {k} m s l e =
+pub counting_starts : {ws : List ℕ} {k : ℕ} (m : List Bool) → Some Core ws → k ≡ word_in ws (of_header 5) → Counting ws m 0 k
+counting_starts {ws} {k} m s e =
     let all = ap (λ xs. unmarked xs m) (blocked_seen ws k s e) in
-    record { walks = blocked_walks s e; wide = l; whole = omega arith; few = left_few m s }
+    record { walks = blocked_walks s e; whole = omega arith; few = left_few m s }
 
 module _ {ws : List ℕ} {m : List Bool} {n k : ℕ} (i : Counting ws m n k) where
   module _ (e : k ≢ 0) where
-    pub counting_place : k < length m
-    counting_place = mark_place m (walk_stands i.walks e) i.wide
+    pub counting_place : k < lock_places
+    counting_place = mark_place (walk_stands i.walks e)
 
     pub counting_number : k < 2 ^ 64
-    counting_number = omega (arith, counting_place, i.wide)
+    counting_number = omega (arith, counting_place)
 
     module _ {x : ℕ} (h : x ≡ word_in ws (of_lock k 1)) where
       pub counting_past : get_or m k false ≡ true → Counting ws m n x
@@ -56,7 +55,6 @@ module _ {ws : List ℕ} {m : List Bool} {n k : ℕ} (i : Counting ws m n k) whe
       counting_past f =
           record {
             walks = walk_on i.walks e h;
-            wide = i.wide;
             whole = i.whole ∙ rw (walk_splits ws 1 k i.walks e, f, h);
             few = i.few;
           }
@@ -70,7 +68,7 @@ module _ {ws : List ℕ} {m : List Bool} {n k : ℕ} (i : Counting ws m n k) whe
         counting_fits = omega (arith, i.whole, i.few, split)
 
         pub counting_again : Counting ws m (n + 1) x
-        counting_again = record { walks = walk_on i.walks e h; wide = i.wide; whole = omega (arith, i.whole, split); few = i.few }
+        counting_again = record { walks = walk_on i.walks e h; whole = omega (arith, i.whole, split); few = i.few }
 
   pub counting_ends : k ≡ 0 → n ≡ unmarked (seen ws).blocked m
   unfolding unmarked
@@ -85,11 +83,6 @@ pub ruleset count_laws = (rules, walk_less, counting_starts, counting_place, cou
 pub bit_or : (a b : Bool) → bit (a || b) ≤ bit a + bit b
 bit_or true b = omega arith
 bit_or false b = omega arith
-
--- m₀ are the marks before the first pass
-pub record Passes (ws ls : List ℕ) (m₀ m : List Bool) : Type 0 where
-  pub ready : Ready ws ls m
-  pub size : length m ≡ length m₀
 
 module _ {ws ls : List ℕ} {m : List Bool} (d : Ready ws ls m) where
   pub ready_some : Some Core ws
@@ -107,18 +100,8 @@ module _ {ws ls : List ℕ} {m : List Bool} (d : Ready ws ls m) where
   pub ready_none : {n : ℕ} → n ≡ unmarked (seen ws).blocked m → n ≡ 0 → Uncleared ws ls m 0
   ready_none e z = record { linked = d.linked; cleared = d.cleared; is = sym z ∙ e }
 
-  pub passes_start : Passes ws ls m m
-  passes_start = record { ready = d; size = refl }
-
-module _ {ws ls : List ℕ} {m₀ m m' : List Bool} {r : Bool} (i : Passes ws ls m₀ m) (p : Passed ws ls m m' r) where
-  pub passes_again : length m' ≡ length m → Passes ws ls m₀ m'
-  passes_again s = record { ready = p.ready; size = s ∙ i.size }
-
 -- a pass that is not the last one leaves less
 pub passes_less : {ws ls : List ℕ} {m m' : List Bool} {r b : Bool} → Passed ws ls m m' r → b ≡ true → unmarked (seen ws).blocked m' + bit r < unmarked (seen ws).blocked m + bit b
 passes_less p e = rw e (omega (arith, p.fewer))
 
-pub passes_end : {ws ls : List ℕ} {m₀ m : List Bool} → Passes ws ls m₀ m → Ready ws ls m
-passes_end i = i.ready
-
-pub ruleset passes_laws = (rules, passes_start, passes_again, passes_less, passes_end)
+pub ruleset passes_laws = (rules, passes_less, ready_wide)

@@ -1,5 +1,5 @@
 -- The functions that write down the wanted owners: a law for each return, turn and call.
-use mathlib.Core.Path.{◌≡◌, refl, sym, ◌∙◌}
+use mathlib.Core.Path.{◌≡◌, sym, ◌∙◌}
 use mathlib.Core.Logic.{◌≢◌}
 use mathlib.Core.Bool.{Bool, true, false, not}
 use mathlib.Core.List.{List}
@@ -38,7 +38,7 @@ module _ (ws ls : List ℕ) (w : List Bool) (k j : ℕ) where
 
   pub owner_stores : (x : ℕ) → Placed ls j → x ≡ link_of ls j 2 → length w ≡ lock_places → OwnerNoted ws ls k j w (set w x true)
   owner_stores x p e l =
-      let inside : x < length w = number_few p e w l in
+      let inside : x < length w = omega (arith, number_few p e) in
       record { here = λ y. rw (sym e) (mark_same w x inside); kept = mark_kept w x inside }
 
 pub ruleset owner_laws = (rules, number_few, number_fits, owner_skips, owner_stores)
@@ -49,7 +49,6 @@ pub ruleset owner_laws = (rules, number_few, number_fits, owner_skips, owner_sto
 pub record Wanting (ws ls : List ℕ) (w₀ w : List Bool) (k j : ℕ) : Type 0 where
   pub look : Leaping ws ls (lock (seen ws) k).resource j
   pub wide : length w ≡ lock_places
-  pub size : length w ≡ length w₀
   pub kept : (x : ℕ) → marked w₀ x ≡ true → marked w x ≡ true
   pub each : (i : ℕ) → 1 ≤ count i (looked (seen ws) k) → count i (holders_since ws (lock (seen ws) k).resource j) ≡ 0 → marked w (link_of ls i 2) ≡ true
 
@@ -58,8 +57,8 @@ unfolding marked
 want_skips ws ls m w k h = record { here = λ f. clash (get_or m k false) h f; kept = λ x e. e }
 
 module _ {ws ls : List ℕ} {m : List Bool} {k : ℕ} (l : Linked ws ls m) (p : Blocked ws k) where
-  pub want_place : length m ≡ lock_places → k < length m
-  want_place e = mark_place m (blocked_at ws k p) e
+  pub want_place : k < lock_places
+  want_place = mark_place (blocked_at ws k p)
 
   pub want_row : (f : ℕ) → f < link_width → link_width * k + f < length ls
   want_row f h = linked_row l f (blocked_at ws k p) h
@@ -68,7 +67,7 @@ module _ {ws ls : List ℕ} {m : List Bool} {k : ℕ} (l : Linked ws ls m) (p : 
   unfolding marked
   wanting_starts g d e =
       let o = linked_lock l p g in
-      record { look = looks_along o e; wide = d; size = refl; kept = λ x h. h; each = λ i c z. absurd (omega (arith, looks_meets o e i c)) }
+      record { look = looks_along o e; wide = d; kept = λ x h. h; each = λ i c z. absurd (omega (arith, looks_meets o e i c)) }
 
 module _ {ws ls : List ℕ} {w₀ w : List Bool} {k j : ℕ} (i : Wanting ws ls w₀ w k j) where
   module _ (n : j ≢ 0) where
@@ -85,12 +84,11 @@ module _ {ws ls : List ℕ} {w₀ w : List Bool} {k j : ℕ} (i : Wanting ws ls 
         length (holders_since ws (lock (seen ws) k).resource x) < length (holders_since ws (lock (seen ws) k).resource j)
     wanting_less e = leap_less i.look n e
 
-    pub wanting_again : {x : ℕ} {w' : List Bool} → OwnerNoted ws ls k j w w' → length w' ≡ length w → x ≡ link_of ls j 4 → Wanting ws ls w₀ w' k x
+    pub wanting_again : {x : ℕ} {w' : List Bool} → OwnerNoted ws ls k j w w' → length w' ≡ lock_places → x ≡ link_of ls j 4 → Wanting ws ls w₀ w' k x
     wanting_again {x} {w'} d s e =
         record {
           look = leap_on i.look n e;
-          wide = s ∙ i.wide;
-          size = s ∙ i.size;
+          wide = s;
           kept = λ y h. d.kept y (i.kept y h);
           each = λ y c z.
               by_equal y j
@@ -110,29 +108,26 @@ pub ruleset wanting_laws = (rules, blocked_stands, want_row, want_place, want_sk
 -- ---- all blocked locks
 
 -- at the lock k of the blocked chain: those whom the locks before it want are written down
-pub record WantedBefore (ws ls : List ℕ) (m w₀ w : List Bool) (k : ℕ) : Type 0 where
+pub record WantedBefore (ws ls : List ℕ) (m w : List Bool) (k : ℕ) : Type 0 where
   pub along : Along ws k
   pub wide : length w ≡ lock_places
-  pub size : length w ≡ length w₀
   pub each : (z j : ℕ) → 1 ≤ count z (seen ws).blocked → count z (onward ws 1 k) ≡ 0 → marked m z ≡ false → 1 ≤ count j (looked (seen ws) z)
       → marked w (link_of ls j 2) ≡ true
 
-pub wanted_starts : {ws ls : List ℕ} {w : List Bool} {k : ℕ} (m : List Bool) → Linked ws ls m → length w ≡ lock_places → k ≡ word_in ws (of_header 5) → WantedBefore ws ls m w w k
+pub wanted_starts : {ws ls : List ℕ} {w : List Bool} {k : ℕ} (m : List Bool) → Linked ws ls m → length w ≡ lock_places → k ≡ word_in ws (of_header 5) → WantedBefore ws ls m w k
 wanted_starts {ws} {ls} {w} {k} m d l e =
     record {
       along = along_starts d.some e;
       wide = l;
-      size = refl;
       each = λ z j h c. absurd (omega (arith, h, rw (blocked_seen ws k d.some e) at c));
     }
 
-module _ {ws ls : List ℕ} {m w₀ w : List Bool} {k : ℕ} (i : WantedBefore ws ls m w₀ w k) where
-  pub wanted_again : {x : ℕ} {w' : List Bool} → k ≢ 0 → WantNoted ws ls m k w w' → length w' ≡ length w → x ≡ word_in ws (of_lock k 1) → WantedBefore ws ls m w₀ w' x
+module _ {ws ls : List ℕ} {m w : List Bool} {k : ℕ} (i : WantedBefore ws ls m w k) where
+  pub wanted_again : {x : ℕ} {w' : List Bool} → k ≢ 0 → WantNoted ws ls m k w w' → length w' ≡ lock_places → x ≡ word_in ws (of_lock k 1) → WantedBefore ws ls m w' x
   wanted_again {x} {w'} n d s e =
       record {
         along = along_on i.along n e;
-        wide = s ∙ i.wide;
-        size = s ∙ i.size;
+        wide = s;
         each = λ z j h c f l.
             by_equal z k
             (λ q. d.here (rw q at f) j (rw q at l))
@@ -140,6 +135,6 @@ module _ {ws ls : List ℕ} {m w₀ w : List Bool} {k : ℕ} (i : WantedBefore w
       }
 
   pub wanted_ends : k ≡ 0 → Wanted ws ls m w
-  wanted_ends e = record { wide = i.wide; each = λ z j h. i.each z j h (rw (e, walk_ends ws 1) (count_nil z)) }
+  wanted_ends e = record { each = λ z j h. i.each z j h (rw (e, walk_ends ws 1) (count_nil z)) }
 
 pub ruleset wanted_laws = (rules, along_blocked, along_less, wanted_starts, wanted_again, wanted_ends)

@@ -40,7 +40,6 @@ pub record Passed (ws ls : List ℕ) (m m' : List Bool) (r : Bool) : Type 0 wher
 
 -- FROM THE FRONT. Whoever has a blocked lock that is not cleared is busy; one lock more
 pub record Busy (ws ls : List ℕ) (m b : List Bool) : Type 0 where
-  pub wide : length b ≡ lock_places
   pub each : (j : ℕ) → 1 ≤ count j (seen ws).blocked → marked m j ≡ false → marked b (link_of ls j 2) ≡ true
 
 pub record BusyNoted (ls : List ℕ) (m : List Bool) (k : ℕ) (b b' : List Bool) : Type 0 where
@@ -66,7 +65,6 @@ pub record FrontStep (ws ls : List ℕ) (b m m' : List Bool) (r : Bool) : Type 0
 
 -- FROM THE BACK. Whoever is in the way of a blocked lock that is not cleared is wanted; one lock more; one holder in its way more
 pub record Wanted (ws ls : List ℕ) (m w : List Bool) : Type 0 where
-  pub wide : length w ≡ lock_places
   pub each : (k j : ℕ) → 1 ≤ count k (seen ws).blocked → marked m k ≡ false → 1 ≤ count j (looked (seen ws) k) → marked w (link_of ls j 2) ≡ true
 
 pub record WantNoted (ws ls : List ℕ) (m : List Bool) (k : ℕ) (w w' : List Bool) : Type 0 where

@@ -1,5 +1,5 @@
 -- Lines that lead nowhere: no owner of a blocked lock holds anything there that is in someone's way.
-use Rattle.std.specs.Prelude.{◌≡◌, Bool, true, ◌&&◌, not, List, ℕ, ◌%◌, ◌≤◌, length, eqb}
+use Rattle.std.specs.Prelude.{◌≡◌, Bool, true, ◌&&◌, not, List, ℕ, ◌%◌, ◌≤◌, eqb}
 use Rattle.tables.specs.Lists.{count}
 use Rattle.tables.specs.State.{Tables, lock}
 use Rattle.tables.specs.Layout.{onward}
@@ -22,7 +22,6 @@ noted t f j = marked f (owner (lock t j) % filter_places)
 
 -- whoever has a blocked lock is noted
 pub record OwnersNoted (ws : List ℕ) (f : List Bool) : Type 0 where
-  pub wide : length f ≡ filter_places
   pub each : (j : ℕ) → 1 ≤ count j (seen ws).blocked → noted (seen ws) f j ≡ true
 
 -- a pass: the locks cleared so far, and the filter

@@ -1,18 +1,17 @@
 #![tactic(auto)]
 // Clearing blocked locks that are on no cycle, before any search: cheaply where a line leads nowhere, then from both ends.
-ghost use Rattle.std.specs.Prelude.{◌≡◌, ◌≤◌, length};
+ghost use Rattle.std.specs.Prelude.{◌≡◌, ◌≤◌};
 ghost use Rattle.tables.specs.Lists.{any};
 ghost use Rattle.tables.specs.Layout.{resources_in};
 ghost use Rattle.tables.specs.Grants.{holders};
 ghost use Rattle.tables.specs.Validity.{Core};
-ghost use Rattle.table_fields.specs.Sizes.{lock_places};
 ghost use Rattle.table_chains.specs.Promises.{Some};
 ghost use Rattle.table_chains.specs.Walking.{At};
 ghost use Rattle.deadlock_graph.specs.Promises.{seen, Blocked};
 ghost use Rattle.deadlock_graph.specs.Marks.{unmarked};
 ghost use Rattle.deadlock_graph.specs.Links.{Linked};
 ghost use Rattle.deadlock_prune.specs.Clearing.{Clearable, Uncleared, Prunable};
-ghost use Rattle.deadlock_prune.specs.FreeLines.{filter_places, OwnersNoted, counts, FreePass, FreeChain, ChainCleared, LineCleared, LinesCleared};
+ghost use Rattle.deadlock_prune.specs.FreeLines.{OwnersNoted, counts, FreePass, FreeChain, ChainCleared, LineCleared, LinesCleared};
 ghost use Rattle.deadlock_prune.specs.BothEnds.{Placed, LinkedLock, Ready, Passed, BusyNoted, Busy, hinders, Hindered, FrontPass, FrontStep, OwnerNoted, WantNoted, Wanted, BackLine, LineBacked, BackReady, BackPassed};
 
 use deadlock_graph::{
@@ -25,9 +24,8 @@ use table_fields::{LOCK_PLACES, resource_count};
 const FILTER: usize = 256;
 
 // How many blocked locks are not cleared.
-fn count_left(words: &[u32], cleared: &[bool]) -> u16
-    requires some { Some Core words.now }
-    requires cleared_len { length cleared.now ≡ lock_places }
+fn count_left(words: &[u32], cleared: &[bool; LOCK_PLACES]) -> u16
+    requires { Some Core words.now }
     ensures { result ≡ unmarked (seen words.now).blocked cleared.now }
 {
     let mut n = 0;
@@ -40,9 +38,8 @@ fn count_left(words: &[u32], cleared: &[bool]) -> u16
 }
 
 // Notes the owners of the blocked locks.
-fn note_owners(words: &[u32], filter: &mut [bool])
-    requires some { Some Core words.now }
-    requires filter_len { length filter.old ≡ filter_places }
+fn note_owners(words: &[u32], filter: &mut [bool; FILTER])
+    requires { Some Core words.now }
     ensures { OwnersNoted words.now filter.new }
 {
     for k in blocked_locks(words) {
@@ -52,9 +49,8 @@ fn note_owners(words: &[u32], filter: &mut [bool])
 
 // Whether the holder k can be in someone's way and its owner is noted.
 #[tactic(auto, using(crate::proofs::FreeLines::counts_laws))]
-fn counts(words: &[u32], filter: &[bool], k: u16) -> bool
-    requires at { At words.now k }
-    requires filter_len { length filter.now ≡ filter_places }
+fn counts(words: &[u32], filter: &[bool; FILTER], k: u16) -> bool
+    requires { At words.now k }
     ensures { result ≡ counts (seen words.now) filter.now k }
 {
     if holds_null(words, k) {
@@ -65,10 +61,9 @@ fn counts(words: &[u32], filter: &[bool], k: u16) -> bool
 }
 
 // Whether that holds of some holder on resource r.
-fn is_noted(words: &[u32], filter: &[bool], r: u32) -> bool
+fn is_noted(words: &[u32], filter: &[bool; FILTER], r: u32) -> bool
     requires some { Some Core words.now }
     requires le_r { (1 ≤ r) × (r ≤ resources_in words.now) }
-    requires filter_len { length filter.now ≡ filter_places }
     ensures { result ≡ any (counts (seen words.now) filter.now) (holders (seen words.now) r) }
 {
     let mut k = first_holder(words, r);
@@ -82,7 +77,7 @@ fn is_noted(words: &[u32], filter: &[bool], r: u32) -> bool
 }
 
 // Clears the locks of a home chain, from `first` on.
-fn clear_chain(words: &[u32], first: u16, cleared: &mut [bool])
+fn clear_chain(words: &[u32], first: u16, cleared: &mut [bool; LOCK_PLACES])
     requires { FreeChain words.now cleared.old first }
     ensures { ChainCleared words.now cleared.old cleared.new first }
 {
@@ -93,7 +88,12 @@ fn clear_chain(words: &[u32], first: u16, cleared: &mut [bool])
 
 // Clears the line of resource r if no owner of a blocked lock holds anything there that is in someone's way: each lock of it
 // hops only to the one right ahead of it. Answers whether it left nothing.
-fn clear_line(words: &[u32], filter: &[bool], r: u32, cleared: &mut [bool]) -> bool
+fn clear_line(
+    words: &[u32],
+    filter: &[bool; FILTER],
+    r: u32,
+    cleared: &mut [bool; LOCK_PLACES],
+) -> bool
     requires free_pass { FreePass words.now filter.now cleared.old }
     requires le_r { (1 ≤ r) × (r ≤ resources_in words.now) }
     ensures { LineCleared words.now filter.now cleared.old cleared.new r result }
@@ -113,7 +113,7 @@ fn clear_line(words: &[u32], filter: &[bool], r: u32, cleared: &mut [bool]) -> b
 
 // One cheap pass along the lines, which needs no links. Answers whether it cleared every blocked lock.
 #[tactic(auto, using(crate::proofs::FreeLines::lines_laws))]
-pub fn clear_free_lines(words: &[u32], cleared: &mut [bool]) -> bool
+pub fn clear_free_lines(words: &[u32], cleared: &mut [bool; LOCK_PLACES]) -> bool
     requires { Clearable words.now cleared.old }
     ensures { LinesCleared words.now cleared.new result }
 {
@@ -129,10 +129,8 @@ pub fn clear_free_lines(words: &[u32], cleared: &mut [bool]) -> bool
 
 // The owner of the blocked lock k is busy, unless k is cleared.
 #[tactic(auto, using(crate::proofs::FrontPasses::note_busy_laws))]
-fn note_busy(links: &[u16], cleared: &[bool], k: u16, busy: &mut [bool])
-    requires placed { Placed links.now k }
-    requires cleared_len { length cleared.now ≡ lock_places }
-    requires busy_len { length busy.old ≡ lock_places }
+fn note_busy(links: &[u16], cleared: &[bool; LOCK_PLACES], k: u16, busy: &mut [bool; LOCK_PLACES])
+    requires { Placed links.now k }
     ensures { BusyNoted links.now cleared.now k busy.old busy.new }
 {
     if cleared[k as usize] {
@@ -143,10 +141,13 @@ fn note_busy(links: &[u16], cleared: &[bool], k: u16, busy: &mut [bool])
 }
 
 // The busy owners: those of the blocked locks that are not cleared.
-fn busy_owners(words: &[u32], links: &[u16], cleared: &[bool], busy: &mut [bool])
-    requires linked { Linked words.now links.now cleared.now }
-    requires cleared_len { length cleared.now ≡ lock_places }
-    requires busy_len { length busy.old ≡ lock_places }
+fn busy_owners(
+    words: &[u32],
+    links: &[u16],
+    cleared: &[bool; LOCK_PLACES],
+    busy: &mut [bool; LOCK_PLACES],
+)
+    requires { Linked words.now links.now cleared.now }
     ensures { Busy words.now links.now cleared.now busy.new }
 {
     for k in blocked_locks(words) {
@@ -156,11 +157,10 @@ fn busy_owners(words: &[u32], links: &[u16], cleared: &[bool], busy: &mut [bool]
 
 // Whether j is in k's way and its owner is busy.
 #[tactic(auto, using(crate::proofs::FrontPasses::hinders_laws))]
-fn hinders(words: &[u32], links: &[u16], busy: &[bool], k: u16, j: u16) -> bool
+fn hinders(words: &[u32], links: &[u16], busy: &[bool; LOCK_PLACES], k: u16, j: u16) -> bool
     requires at { At words.now k }
     requires at_2 { At words.now j }
     requires placed { Placed links.now j }
-    requires busy_len { length busy.now ≡ lock_places }
     ensures { result ≡ hinders (seen words.now) links.now busy.now k j }
 {
     let owner = link(links, j, LINK_OWNER);
@@ -171,9 +171,8 @@ fn hinders(words: &[u32], links: &[u16], busy: &[bool], k: u16, j: u16) -> bool
 }
 
 // Whether that holds of some holder that the blocked lock k looks at: it begins at the first that is in its way.
-fn hindered(words: &[u32], links: &[u16], busy: &[bool], k: u16) -> bool
-    requires linked_lock { LinkedLock words.now links.now k }
-    requires busy_len { length busy.now ≡ lock_places }
+fn hindered(words: &[u32], links: &[u16], busy: &[bool; LOCK_PLACES], k: u16) -> bool
+    requires { LinkedLock words.now links.now k }
     ensures { Hindered words.now links.now busy.now k result }
 {
     let mut j = link(links, k, LINK_HOLDER);
@@ -188,7 +187,13 @@ fn hindered(words: &[u32], links: &[u16], busy: &[bool], k: u16) -> bool
 
 // Clears the blocked lock k if all that it hops to are cleared: the lock right ahead of it, and the blocked locks of the
 // owners in its way. Answers whether it did.
-fn clear_if_free(words: &[u32], links: &[u16], busy: &[bool], k: u16, cleared: &mut [bool]) -> bool
+fn clear_if_free(
+    words: &[u32],
+    links: &[u16],
+    busy: &[bool; LOCK_PLACES],
+    k: u16,
+    cleared: &mut [bool; LOCK_PLACES],
+) -> bool
     requires front_pass { FrontPass words.now links.now busy.now cleared.old }
     requires blocked { Blocked words.now k }
     ensures { FrontStep words.now links.now busy.now cleared.old cleared.new result }
@@ -209,7 +214,7 @@ fn clear_if_free(words: &[u32], links: &[u16], busy: &[bool], k: u16, cleared: &
 
 // One pass along the blocked locks. An owner whose last lock is cleared on the way is busy until the next pass. Answers
 // whether it cleared a lock.
-fn clear_front(words: &[u32], links: &[u16], cleared: &mut [bool]) -> bool
+fn clear_front(words: &[u32], links: &[u16], cleared: &mut [bool; LOCK_PLACES]) -> bool
     requires { Ready words.now links.now cleared.old }
     ensures { Passed words.now links.now cleared.old cleared.new result }
 {
@@ -224,7 +229,7 @@ fn clear_front(words: &[u32], links: &[u16], cleared: &mut [bool]) -> bool
 
 // Passes from the front, as long as they clear locks.
 #[tactic(auto, using(crate::proofs::LocksLeft::passes_laws))]
-fn clear_from_front(words: &[u32], links: &[u16], cleared: &mut [bool])
+fn clear_from_front(words: &[u32], links: &[u16], cleared: &mut [bool; LOCK_PLACES])
     requires { Ready words.now links.now cleared.old }
     ensures { Ready words.now links.now cleared.new }
 {
@@ -236,11 +241,10 @@ fn clear_from_front(words: &[u32], links: &[u16], cleared: &mut [bool])
 
 // The owner of j is wanted if j is in k's way.
 #[tactic(auto, using(crate::proofs::WantedOwners::owner_laws))]
-fn want_owner(words: &[u32], links: &[u16], k: u16, j: u16, wanted: &mut [bool])
+fn want_owner(words: &[u32], links: &[u16], k: u16, j: u16, wanted: &mut [bool; LOCK_PLACES])
     requires at { At words.now k }
     requires at_2 { At words.now j }
     requires placed { Placed links.now j }
-    requires wanted_len { length wanted.old ≡ lock_places }
     ensures { OwnerNoted words.now links.now k j wanted.old wanted.new }
 {
     if !bars(words, k, j) {
@@ -251,11 +255,15 @@ fn want_owner(words: &[u32], links: &[u16], k: u16, j: u16, wanted: &mut [bool])
 }
 
 // The owners in the way of the blocked lock k are wanted, unless k is cleared.
-fn want_owners(words: &[u32], links: &[u16], cleared: &[bool], k: u16, wanted: &mut [bool])
+fn want_owners(
+    words: &[u32],
+    links: &[u16],
+    cleared: &[bool; LOCK_PLACES],
+    k: u16,
+    wanted: &mut [bool; LOCK_PLACES],
+)
     requires linked { Linked words.now links.now cleared.now }
     requires blocked { Blocked words.now k }
-    requires cleared_len { length cleared.now ≡ lock_places }
-    requires wanted_len { length wanted.old ≡ lock_places }
     ensures { WantNoted words.now links.now cleared.now k wanted.old wanted.new }
 {
     if cleared[k as usize] {
@@ -269,10 +277,13 @@ fn want_owners(words: &[u32], links: &[u16], cleared: &[bool], k: u16, wanted: &
 }
 
 // The wanted owners: those in the way of the blocked locks that are not cleared.
-fn wanted_owners(words: &[u32], links: &[u16], cleared: &[bool], wanted: &mut [bool])
-    requires linked { Linked words.now links.now cleared.now }
-    requires cleared_len { length cleared.now ≡ lock_places }
-    requires wanted_len { length wanted.old ≡ lock_places }
+fn wanted_owners(
+    words: &[u32],
+    links: &[u16],
+    cleared: &[bool; LOCK_PLACES],
+    wanted: &mut [bool; LOCK_PLACES],
+)
+    requires { Linked words.now links.now cleared.now }
     ensures { Wanted words.now links.now cleared.now wanted.new }
 {
     for k in blocked_locks(words) {
@@ -283,7 +294,12 @@ fn wanted_owners(words: &[u32], links: &[u16], cleared: &[bool], wanted: &mut [b
 // Clears a line from its lock `last` on ahead, up to the first lock that is wanted or was cleared before; answers where it
 // stopped. All that are passed are cleared, so who still hops to a lock has its owner in the way. Ahead of a lock that was
 // cleared from the front all are cleared.
-fn clear_line_back(links: &[u16], wanted: &[bool], last: u16, cleared: &mut [bool]) -> u16
+fn clear_line_back(
+    links: &[u16],
+    wanted: &[bool; LOCK_PLACES],
+    last: u16,
+    cleared: &mut [bool; LOCK_PLACES],
+) -> u16
     requires { BackLine links.now wanted.now cleared.old last }
     ensures { LineBacked links.now wanted.now cleared.old cleared.new last result }
 {
@@ -305,7 +321,12 @@ fn clear_line_back(links: &[u16], wanted: &[bool], last: u16, cleared: &mut [boo
 // One pass along the lines, each from where the last pass stopped, which `lasts` keeps. A lock is on no cycle if only cleared
 // locks hop to it: the one right behind it, and those that its owner is in the way of. Answers whether it cleared a lock.
 #[tactic(auto, using(crate::proofs::BackPasses::back_laws))]
-fn clear_back(words: &[u32], links: &[u16], lasts: &mut [u16], cleared: &mut [bool]) -> bool
+fn clear_back(
+    words: &[u32],
+    links: &[u16],
+    lasts: &mut [u16],
+    cleared: &mut [bool; LOCK_PLACES],
+) -> bool
     requires { BackReady words.now links.now lasts.old cleared.old }
     ensures { BackPassed words.now links.now lasts.new cleared.old cleared.new result }
 {
@@ -324,7 +345,12 @@ fn clear_back(words: &[u32], links: &[u16], lasts: &mut [u16], cleared: &mut [bo
 
 // Passes from the back, as long as they clear locks.
 #[tactic(auto, using(crate::proofs::BackPasses::backs_laws))]
-fn clear_from_back(words: &[u32], links: &[u16], lasts: &mut [u16], cleared: &mut [bool])
+fn clear_from_back(
+    words: &[u32],
+    links: &[u16],
+    lasts: &mut [u16],
+    cleared: &mut [bool; LOCK_PLACES],
+)
     requires { BackReady words.now links.now lasts.old cleared.old }
     ensures { Ready words.now links.now cleared.new }
 {
@@ -336,7 +362,12 @@ fn clear_from_back(words: &[u32], links: &[u16], lasts: &mut [u16], cleared: &mu
 
 // Clears from the front, then from the back. Answers how many blocked locks are left.
 #[tactic(auto, using(crate::proofs::BackPasses::ends_laws))]
-pub fn clear_ends(words: &[u32], links: &[u16], lasts: &mut [u16], cleared: &mut [bool]) -> u16
+pub fn clear_ends(
+    words: &[u32],
+    links: &[u16],
+    lasts: &mut [u16],
+    cleared: &mut [bool; LOCK_PLACES],
+) -> u16
     requires { Prunable words.now links.now lasts.old cleared.old }
     ensures { Uncleared words.now links.now cleared.new result }
 {

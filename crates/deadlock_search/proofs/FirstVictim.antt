@@ -198,7 +198,6 @@ module _ {ws : List ℕ} {m : List Bool} {ls fs hs : List ℕ} (r : Room ws m ls
   room_lines =
       record {
         some = r.some;
-        marks = r.cleared.wide;
         roomy = r.roomy;
         none = none_linked 1;
         wide = rw (length-replicate {A = ℕ} resource_places 0) (omega (arith, (some_sized r.some).few_resources));

@@ -19,8 +19,9 @@ use deadlock_owners::number_owners;
 use deadlock_prune::{clear_ends, clear_free_lines};
 use table_fields::{LOCK_PLACES, RESOURCE_PLACES, lock_count};
 
-// The first lock without a mark on an owner's list, from `first` on, or 0. The words are not read here: the contract speaks
-// of the state in them.
+// The first lock without a mark on an owner's list, from `first` on, or 0. The number is stored as the head of the list, where
+// 0 is none: an Option would be turned back into it. So it is with the head that `first_of` answers. The words are not read
+// here: the contract speaks of the state in them.
 fn unmarked_from(words: &[u32], links: &[u16], marks: &[bool; LOCK_PLACES], first: u16) -> u16
     requires { OnList words.now links.now marks.now first }
     ensures { FirstUnmarked words.now links.now marks.now first result }

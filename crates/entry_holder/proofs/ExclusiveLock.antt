@@ -26,8 +26,7 @@ use Rattle.rules.specs.Images.{holder_of, ex}
 use Rattle.table_fields.specs.Sizes.{Sized}
 use Rattle.table_fields.proofs.StateWords.{locks_is, core_sized, word_is}
 use Rattle.table_names.specs.Names.{find_in}
-use Rattle.table_names.specs.Promises.{Named}
-use Rattle.table_names.proofs.StateNames.{sound_named, sound_find}
+use Rattle.table_names.proofs.StateNames.{sound_find}
 use Rattle.table_chains.specs.Promises as promise
 use Rattle.table_chains.specs.Promises.{Tells, Resourced}
 use Rattle.table_chains.proofs.NumberOrNone.{some_number, is_number, none_is, above_none}
@@ -132,9 +131,6 @@ module _ (ws ss n : List ℕ) (h : sound ws ss ≡ true) where
   w : Writes ws ss (read ws ss)
   w = sound_written ws ss h
 
-  pub holder_named : Named ws ss
-  holder_named = sound_named ws ss h
-
   found : find_in ws ss n ≡ find n (read ws ss)
   found = sound_find n ws ss h
 
@@ -185,4 +181,4 @@ module _ (ws ss n : List ℕ) (h : sound ws ss ≡ true) where
           let set = client_set _ (lock (read ws ss) k) (w.valid.core.lock_ok k) (ex_held ws r (read ws ss) there w.is k k_is holder_low) in
           some_number x (λ z. omega arith) ∙ ap numbered (is ∙ ap (λ (i : ℕ). (lock (read ws ss) i).client) k_is ∙ lock_is)
 
-pub ruleset ex_holding = (rules, holder_named, holder_none, holder_resourced, holder_nobody, holder_sized, holder_low, holder_high, holder_client)
+pub ruleset ex_holding = (rules, holder_none, holder_resourced, holder_nobody, holder_sized, holder_low, holder_high, holder_client)

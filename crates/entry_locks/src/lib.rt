@@ -36,9 +36,9 @@ pub fn request(
     ensures { Keeps (to_request client mode flags name.now) (lent words.old slots.old) (requested result) (lent words.new slots.new) }
 {
     let seen = survey_name(words, slots, name).ok_or(Refusal::Unsound)?;
-    call_refusals::request_refusal(words, seen.found, client, mode, flags, name)?;
+    let asked = call_refusals::request_refusal(words, seen.found, client, mode, flags, name)?;
     Ok(call_request::request_change(
-        words, slots, seen.found, seen.last, client, mode, flags, name,
+        words, slots, seen.found, seen.last, client, asked, flags, name,
     ))
 }
 
@@ -56,8 +56,8 @@ pub fn convert(
     ensures { Keeps (to_convert client lock mode flags value.now) (lent words.old slots.old) (converted result) (lent words.new slots.new) }
 {
     let hints = survey(words, slots, lock).ok_or(Refusal::Unsound)?;
-    call_refusals::convert_refusal(words, client, lock, mode, flags, value)?;
-    Ok(call_convert::convert_change(words, slots, lock, mode, flags, value, hints))
+    let asked = call_refusals::convert_refusal(words, client, lock, mode, flags, value)?;
+    Ok(call_convert::convert_change(words, slots, lock, asked, flags, value, hints))
 }
 
 // A granted lock is freed.

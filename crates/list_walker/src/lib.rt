@@ -10,7 +10,8 @@ ghost use Rattle.list_walker.specs.Walks.{Stands, Begins, Steps};
 use table_fields::{lock_word, resource_word};
 
 // The first lock on the queues of r past the one where locks in a state stand, or 0. No queue stands before that of the
-// granted: from STATE_FREE it is the first lock on r.
+// granted: from STATE_FREE it is the first lock on r. Here and below 0 is the word of the tables, as `next_on` has it; only
+// the walker's `next` turns it into an Option.
 fn first_past(words: &[u32], r: u32, state: u32) -> u32
     requires { Some (Resourced r) words.now }
     ensures { Tells (Resourced r) (first_past r state) words.now result }

@@ -7,7 +7,7 @@ ghost use Rattle.play_numbers.specs.Steps.{number_in, next_field};
 // The most digits that a number may have: it fits 32 bits then.
 const MOST_DIGITS: usize = 9;
 
-// The number that a field is.
+// The number that a field is. The library's `parse` would take a sign, and ten digits.
 fn read_number(field: &[u8]) -> Option<u32>
     ensures { result ≡ number_in field.now }
 {

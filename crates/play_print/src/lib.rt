@@ -39,6 +39,7 @@ pub enum LineAnswer {
     Unknown,
 }
 
+// By hand, and not by `Display`: the library says nothing of what `write!` leaves where it fails, and nothing rules that out.
 impl Output {
     // What is printed so far.
     pub fn as_slice(&self) -> &[u8]

@@ -7,6 +7,8 @@ use native.Mathlib.Omega.{arith}
 use lib.ListN.{length}
 use borrow.Author.Rules.{rules}
 use borrow.Author.Tests.{eqb-true}
+use Rattle.modes.specs.declared.Mode.{Mode}
+use Rattle.modes.specs.Made.{mode_number}
 use Rattle.tables.specs.declared.Lock.{Lock}
 use Rattle.tables.specs.State.{Tables, lock}
 use Rattle.tables.specs.Layout.{words, locks_in, read_lock}
@@ -21,6 +23,7 @@ use Rattle.table_chains.specs.Promises.{Some, Tells, Resourced}
 use Rattle.queues.specs.declared.Occupancy.{Occupancy}
 use Rattle.queues.specs.Decisions.{read_occupancy, admits_conversion}
 use Rattle.queues.specs.Promises.{GrantedLock}
+use Rattle.queues.proofs.ModeNumbers.{mode_below}
 use Rattle.queues.proofs.Decisions.{conversion_told}
 
 -- a granted lock stands on a resource that is there
@@ -59,13 +62,13 @@ module _ (ws : List ℕ) (k : ℕ) where
           is = s.is;
         }
 
-    pub place_told : (s : Occupancy) → s ≡ read_occupancy ws l.resource → (m : ℕ) → m < 6 → (b : Bool) → b ≡ admits_conversion s l.held m → Tells (GrantedLock k) (in_place k m) ws b
-    place_told s es m mode b eb = record {
+    pub place_told : (s : Occupancy) → s ≡ read_occupancy ws l.resource → (m : Mode) → (b : Bool) → b ≡ admits_conversion s l.held (mode_number m) → Tells (GrantedLock k) (in_place k (mode_number m)) ws b
+    place_told s es m b eb = record {
       then = λ t p is.
           eb
-          ∙ ap (λ (x : Occupancy). admits_conversion x l.held m) es
-          ∙ ap (λ (o : Lock). admits_conversion (read_occupancy ws o.resource) o.held m) (l_is t p is)
-          ∙ conversion_told (lock t k).resource t (its_resource k t p) ws is k m mode p.is_granted refl;
+          ∙ ap (λ (x : Occupancy). admits_conversion x l.held (mode_number m)) es
+          ∙ ap (λ (o : Lock). admits_conversion (read_occupancy ws o.resource) o.held (mode_number m)) (l_is t p is)
+          ∙ conversion_told (lock t k).resource t (its_resource k t p) ws is k (mode_number m) (mode_below m) p.is_granted refl;
     }
 
 pub ruleset placing = (rules, held_sized, held_low, held_high, held_mode, held_resourced, place_told)

@@ -7,6 +7,8 @@ use lib.Dec.{eqb}
 use lib.ListN.{length}
 use borrow.Author.Rules.{rules}
 use borrow.Author.Tests.{eqb-true, eq-eqb, ne_eqb}
+use Rattle.modes.specs.declared.Mode.{Mode}
+use Rattle.modes.specs.Made.{mode_number}
 use Rattle.modes.specs.Modes.{down, all_modes}
 use Rattle.modes.specs.Sets.{fits_set}
 use Rattle.tables.specs.declared.Lock.{Lock}
@@ -28,6 +30,7 @@ use Rattle.table_chains.proofs.ChainWalks.{queue_first, here_sized, here_low, he
 use Rattle.queues.specs.declared.Occupancy.{Occupancy}
 use Rattle.queues.specs.Holders.{no_mode, modes_beside, own_mode, goes_beside}
 use Rattle.queues.specs.Decisions.{read_occupancy, admits_request, admits_conversion, admits_head}
+use Rattle.queues.proofs.ModeNumbers.{mode_below}
 use Rattle.queues.proofs.HeldModes.{fits_counts}
 use Rattle.queues.proofs.QueueReads.{null_first}
 
@@ -140,9 +143,9 @@ module _ (r : ℕ) (t : Tables) (p : Resourced r t) (ws : List ℕ) (is : ws ≡
   head_told k i mode = ap (λ (c : ModeCounts). admits_head c (lock t k)) counts_there ∙ head_is r t p k i mode
 
 -- granted_at_once
-pub request_told : (ws : List ℕ) (r m : ℕ) → m < 6 → (s : Occupancy) → s ≡ read_occupancy ws r → (b : Bool) → b ≡ admits_request s m → Tells (Resourced r) (λ t. granted_at_once t r m) ws b
-request_told ws r m mode s es b eb = record {
-  then = λ t p is. eb ∙ ap (λ (x : Occupancy). admits_request x m) (es ∙ occupancy_there r t p ws is) ∙ request_is r t p m mode;
+pub request_told : (ws : List ℕ) (r : ℕ) (m : Mode) (s : Occupancy) → s ≡ read_occupancy ws r → (b : Bool) → b ≡ admits_request s (mode_number m) → Tells (Resourced r) (λ t. granted_at_once t r (mode_number m)) ws b
+request_told ws r m s es b eb = record {
+  then = λ t p is. eb ∙ ap (λ (x : Occupancy). admits_request x (mode_number m)) (es ∙ occupancy_there r t p ws is) ∙ request_is r t p (mode_number m) (mode_below m);
 }
 
 pub ruleset occupancy_laws = (rules, here_sized, here_low, here_high)

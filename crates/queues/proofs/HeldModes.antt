@@ -1,5 +1,5 @@
 -- The set of the modes that are held beside one lock, from counts: what it says of a mode, and how code builds it.
-use mathlib.Core.Path.{◌≡◌, refl, sym, ◌∙◌}
+use mathlib.Core.Path.{◌≡◌, refl, sym, ◌∙◌, ap₂}
 use mir.Val.{bool_byte}
 use mathlib.Core.Bool.{Bool, true, false, ◌&&◌, ◌||◌, not, and-true}
 use Prim.Native.Nat.{ℕ, ◌<◌, ◌≤◌}
@@ -7,11 +7,14 @@ use native.Mathlib.Omega.{arith}
 use lib.Dec.{eqb, ltb}
 use borrow.Author.Rules.{rules}
 use borrow.Author.Tests.{lt-ltb, le-ltb}
+use Rattle.modes.specs.declared.Mode.{Mode}
+use Rattle.modes.specs.Made.{mode_number}
 use Rattle.modes.specs.Modes.{compatible, all_modes}
 use Rattle.modes.specs.Sets.{fits_set, with_mode}
 use Rattle.modes.proofs.Laws.{with_mode_small, fits_none, fits_with}
 use Rattle.tables.specs.Lists.{bit}
 use Rattle.tables.proofs.Cases.{by_cases}
+use Rattle.table_fields.specs.declared.ModeCounts.{ModeCounts}
 use Rattle.table_fields.specs.Records.{counts_by}
 use Rattle.queues.specs.Holders.{with_held, modes_beside, goes_beside}
 
@@ -30,6 +33,11 @@ module _ (own c h s b : ℕ) (eb : b ≡ bool_byte (eqb h own)) where
   held_so l x ex = let e = eb ∙ byte_bit (eqb h own) in rw (lt-ltb (bit (eqb h own)) c (omega arith)) ex.0
 
 pub ruleset held_laws = (rules, held_not, held_so)
+
+-- goes_beside
+pub mode_goes : (c : ModeCounts) (own x : ℕ) (m : Mode) → x ≡ modes_beside c own → (i : ℕ) → i ≡ mode_number m → (b : Bool) → b ≡ fits_set x i → b ≡ goes_beside c own (mode_number m)
+unfolding goes_beside
+mode_goes c own x m ex i ei b eb = eb ∙ ap₂ fits_set ex ei
 
 -- one mode after the other
 module _ (own c h s : ℕ) (mode : h < 6) (small : s < 64) where

@@ -1,3 +1,4 @@
+pub mod ModeNumbers
 pub mod HeldModes
 pub mod QueueReads
 pub mod Decisions

@@ -2,6 +2,7 @@
 // The parts of the calls' changes, in place on the lent words and slots: deciding what is granted, granting, freeing,
 // settling.
 ghost use Rattle.std.specs.Prelude.{◌≡◌, true, false, ◌<◌};
+ghost use Rattle.modes.specs.Made.{mode_number};
 ghost use Rattle.tables.specs.Lists.{first};
 ghost use Rattle.tables.specs.Numbered.{numbered};
 ghost use Rattle.tables.specs.State.{no_resource, resource, move_resource};
@@ -57,24 +58,22 @@ fn modes_beside(counts: ModeCounts, own: u32) -> u32
 }
 
 // The mode is compatible with each of them.
-fn goes_beside(counts: ModeCounts, own: u32, mode: u32) -> bool
-    requires { mode < 6 }
-    ensures { result ≡ goes_beside counts own mode }
+fn goes_beside(counts: ModeCounts, own: u32, mode: Mode) -> bool
+    ensures { result ≡ goes_beside counts own (mode_number mode) }
 {
-    modes::fits(modes_beside(counts, own), mode)
+    modes::fits(modes_beside(counts, own), mode as u32)
 }
 
 // A new request of the mode is granted at once: no conversion waits there and, unless it is for NL, no request; and the
 // mode is compatible with every held mode.
 #[tactic(auto, using(crate::proofs::Decisions::request_laws))]
-fn admits_request(s: Occupancy, mode: u32) -> bool
-    requires { mode < 6 }
-    ensures { result ≡ admits_request s mode }
+fn admits_request(s: Occupancy, mode: Mode) -> bool
+    ensures { result ≡ admits_request s (mode_number mode) }
 {
     if s.convert != 0 {
         return false;
     }
-    if (mode != Mode::NL as u32) & (s.wait != 0) {
+    if (mode != Mode::NL) & (s.wait != 0) {
         return false;
     }
     goes_beside(s.counts, NO_MODE, mode)
@@ -83,12 +82,11 @@ fn admits_request(s: Occupancy, mode: u32) -> bool
 // A granted lock that holds `own` takes the mode where it stands: the conversion is down, or no conversion waits there
 // and the mode fits the other holders.
 #[tactic(auto, using(crate::proofs::Decisions::conversion_laws))]
-fn admits_conversion(s: Occupancy, own: u32, mode: u32) -> bool
-    requires own_bound { own < 6 }
-    requires mode_bound { mode < 6 }
-    ensures { result ≡ admits_conversion s own mode }
+fn admits_conversion(s: Occupancy, own: u32, mode: Mode) -> bool
+    requires { own < 6 }
+    ensures { result ≡ admits_conversion s own (mode_number mode) }
 {
-    if modes::down(own, mode) {
+    if modes::down(own, mode as u32) {
         return true;
     }
     if s.convert != 0 {
@@ -131,19 +129,17 @@ fn occupancy_at(words: &[u32], r: u32) -> Occupancy
 }
 
 // A new request of the mode is granted at once on r.
-pub fn granted_at_once(words: &[u32], r: u32, mode: u32) -> bool
-    requires some { Some (Resourced r) words.now }
-    requires mode_bound { mode < 6 }
-    ensures { Tells (Resourced r) (λ t. granted_at_once t r mode) words.now result }
+pub fn granted_at_once(words: &[u32], r: u32, mode: Mode) -> bool
+    requires { Some (Resourced r) words.now }
+    ensures { Tells (Resourced r) (λ t. granted_at_once t r (mode_number mode)) words.now result }
 {
     admits_request(occupancy_at(words, r), mode)
 }
 
 // Whether the granted lock k can take the mode in place.
-pub fn in_place(words: &[u32], k: u32, mode: u32) -> bool
-    requires some { Some (GrantedLock k) words.now }
-    requires mode_bound { mode < 6 }
-    ensures { Tells (GrantedLock k) (in_place k mode) words.now result }
+pub fn in_place(words: &[u32], k: u32, mode: Mode) -> bool
+    requires { Some (GrantedLock k) words.now }
+    ensures { Tells (GrantedLock k) (in_place k (mode_number mode)) words.now result }
 {
     let lock = table_fields::lock_at(words, k);
     admits_conversion(occupancy_at(words, lock.resource), lock.held, mode)

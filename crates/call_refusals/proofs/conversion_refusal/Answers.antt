@@ -7,8 +7,8 @@ returns-in_err-granted_refusal c = search (conversion_refused, c.in_err-granted_
 pub returns-then-not-no_queue : goal.returns-then-not-no_queue
 returns-then-not-no_queue c = search (conversion_queues, c.in_ok-granted_refusal.ensures)
 
-pub in_place-requires-clause-some : goal.in_place-requires-clause-some
-in_place-requires-clause-some c = search (conversion_held, c.in_ok-granted_refusal.ensures)
+pub in_place-requires : goal.in_place-requires
+in_place-requires c = search (conversion_held, c.in_ok-granted_refusal.ensures)
 
 pub returns-then-in_place : goal.returns-then-in_place
 returns-then-in_place c = search (conversion_placed, c.in_ok-granted_refusal.ensures)

@@ -19,8 +19,8 @@ returns-in_default c = search room_new
 pub returns-then-not-no_queue : goal.returns-then-not-no_queue
 returns-then-not-no_queue c = search room_queues
 
-pub granted_at_once-requires-clause-some : goal.granted_at_once-requires-clause-some
-granted_at_once-requires-clause-some c = search room_resourced
+pub granted_at_once-requires : goal.granted_at_once-requires
+granted_at_once-requires c = search room_resourced
 
 pub returns-then-granted_at_once : goal.returns-then-granted_at_once
 returns-then-granted_at_once c = search room_at_once

@@ -7,7 +7,7 @@ loop-k-init c =
     let items = c.locks_from-k-items.ensures in
     let p = c.requires in
     rw c.into_iter-k-iterator.ensures.into_iter_gives
-    (record { same = items.same; at = rw items.starts (linking_starts _ _ p.chain_faces p.met_len p.roomy) })
+    (record { same = items.same; at = rw items.starts (linking_starts _ _ p.chain_faces c.told-met p.roomy) })
 
 pub link_lock-requires-clause-faces : goal.link_lock-requires-clause-faces
 link_lock-requires-clause-faces c =

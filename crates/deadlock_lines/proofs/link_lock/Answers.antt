@@ -34,9 +34,6 @@ first_bar-bar-requires c = search lock_laws
 pub put_link-requires-2 : goal.put_link-requires-2
 put_link-requires-2 c = search lock_laws
 
-pub shape_of-met : goal.shape_of-met
-shape_of-met c = search lock_laws
-
 pub shape_of-links : goal.shape_of-links
 shape_of-links c = search lock_laws
 

@@ -1,4 +1,4 @@
-use Rattle.deadlock_prune.proofs.LocksLeft.{Passes}
+use Rattle.deadlock_prune.specs.BothEnds.{Ready}
 use Prim.Native.Nat.{◌+◌}
 use Rattle.tables.specs.Lists.{bit}
 use Rattle.deadlock_graph.specs.Promises.{seen}
@@ -6,7 +6,7 @@ use Rattle.deadlock_graph.specs.Marks.{unmarked}
 use Rattle.deadlock_prune.proofs.clear_from_front.Given as goal
 
 abbrev pub invariant-loop-more : goal.invariant-loop-more
-invariant-loop-more l = Passes l.words l.links l.initial.cleared l.cleared
+invariant-loop-more l = Ready l.words l.links l.cleared
 
 abbrev pub decreases-loop-more : goal.decreases-loop-more
 decreases-loop-more l = unmarked (seen l.words).blocked l.cleared + bit l.more

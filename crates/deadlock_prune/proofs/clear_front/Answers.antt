@@ -16,7 +16,7 @@ clear_if_free-more-requires-clause-blocked c =
 pub loop-k-preserved : goal.loop-k-preserved
 loop-k-preserved c =
     let m = walk_meets c.loop-k.invariant.same c.in-Some.ensures.steps in
-    record { same = m.3; at = front_again (rw m.0 at c.loop-k.invariant.at) m.1 c.clear_if_free-more.ensures c.clear_if_free-more.auto.cleared m.2 }
+    record { same = m.3; at = front_again (rw m.0 at c.loop-k.invariant.at) m.1 c.clear_if_free-more.ensures m.2 }
 
 pub returns : goal.returns
 returns c = front_ends c.loop-k.invariant.at

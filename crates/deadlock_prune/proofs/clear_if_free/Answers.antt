@@ -28,9 +28,6 @@ returns-then-hindered c = search free_laws
 pub bounds-cleared-k-2 : goal.bounds-cleared-k-2
 bounds-cleared-k-2 c = search free_laws
 
-pub shape_of-cleared : goal.shape_of-cleared
-shape_of-cleared c = search free_laws
-
 pub returns : goal.returns
 returns c =
     let p = c.requires in

@@ -24,9 +24,6 @@ clear_chain-requires-2 c =
     let p = c.requires in
     waiting_free p.free_pass p.le_r c.is_noted.ensures c.if-is_noted.false c.clear_chain.ensures c.first_waiting-waiting.ensures
 
-pub shape_of-cleared : goal.shape_of-cleared
-shape_of-cleared c = search free_line_laws
-
 pub returns : goal.returns
 returns c =
     let p = c.requires in

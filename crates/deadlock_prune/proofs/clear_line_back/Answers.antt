@@ -10,9 +10,6 @@ overflow_cast-k c = search backing_laws
 pub bounds-cleared-k : goal.bounds-cleared-k
 bounds-cleared-k c = search backing_laws
 
-pub shape_of-cleared-then-cleared-k : goal.shape_of-cleared-then-cleared-k
-shape_of-cleared-then-cleared-k c = search backing_laws
-
 pub returns-then-cleared-k : goal.returns-then-cleared-k
 returns-then-cleared-k c = search backing_laws
 
@@ -24,9 +21,6 @@ overflow_cast-owner c = search backing_laws
 
 pub bounds-wanted-owner : goal.bounds-wanted-owner
 bounds-wanted-owner c = search backing_laws
-
-pub shape_of-cleared-then-wanted-owner : goal.shape_of-cleared-then-wanted-owner
-shape_of-cleared-then-wanted-owner c = search backing_laws
 
 pub returns-then-wanted-owner : goal.returns-then-wanted-owner
 returns-then-wanted-owner c = search backing_laws
@@ -45,9 +39,6 @@ loop-k-smaller c = search backing_laws
 
 pub loop-k-preserved : goal.loop-k-preserved
 loop-k-preserved c = search backing_laws
-
-pub shape_of-cleared : goal.shape_of-cleared
-shape_of-cleared c = search backing_laws
 
 pub returns : goal.returns
 returns c = search backing_laws

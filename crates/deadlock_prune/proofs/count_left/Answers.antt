@@ -6,7 +6,7 @@ use Rattle.deadlock_prune.proofs.count_left.Goals as goal
 pub loop-k-init : goal.loop-k-init
 loop-k-init c =
     rw c.into_iter-k-iterator.ensures.into_iter_gives
-    (record { same = c.blocked_locks-k-items.ensures.same; at = counting_starts _ c.requires.some c.requires.cleared_len c.blocked_locks-k-items.ensures.starts })
+    (record { same = c.blocked_locks-k-items.ensures.same; at = counting_starts _ c.requires c.blocked_locks-k-items.ensures.starts })
 
 pub bounds-cleared-k : goal.bounds-cleared-k
 bounds-cleared-k c =

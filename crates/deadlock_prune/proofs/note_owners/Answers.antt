@@ -8,7 +8,7 @@ loop-k-init c =
     rw c.into_iter-k-iterator.ensures.into_iter_gives
     (record {
       same = c.blocked_locks-k-items.ensures.same;
-      at = noting_starts c.requires.some c.requires.filter_len c.blocked_locks-k-items.ensures.starts;
+      at = noting_starts c.requires c.told-filter c.blocked_locks-k-items.ensures.starts;
     })
 
 pub owner_of-requires : goal.owner_of-requires

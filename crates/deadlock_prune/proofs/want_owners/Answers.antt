@@ -25,8 +25,5 @@ loop-j-smaller c = search wanting_laws
 pub loop-j-preserved : goal.loop-j-preserved
 loop-j-preserved c = search wanting_laws
 
-pub shape_of-wanted : goal.shape_of-wanted
-shape_of-wanted c = search wanting_laws
-
 pub returns : goal.returns
 returns c = search wanting_laws

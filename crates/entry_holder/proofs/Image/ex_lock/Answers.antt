@@ -1,5 +1,5 @@
 use Rattle.entry_holder.proofs.ExclusiveLock.{ex_locking}
-use Rattle.entry_holder.proofs.ex_lock.Goals as goal
+use Rattle.entry_holder.proofs.Image.ex_lock.Goals as goal
 
 pub resource_word-granted-requires : goal.resource_word-granted-requires
 resource_word-granted-requires c = search ex_locking
