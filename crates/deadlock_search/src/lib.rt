@@ -198,7 +198,7 @@ fn on_cycle(
     if cleared[a as usize] {
         return false;
     }
-    heads.copy_from_slice(firsts);
+    table_names::copy_numbers(heads, firsts);
     let mut marks = *cleared;
     search(words, links, a, a, depth, heads, &mut marks)
 }

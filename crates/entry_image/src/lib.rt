@@ -52,7 +52,7 @@ pub fn image(words: &[u32], slots: &[u8], area: &mut [u8]) -> Result<(), Refusal
 
 // How many words the image has, if its R, its L and its length are right. R and L are its first two words.
 #[tactic(auto, using(crate::proofs::ImageMeasure::measuring))]
-fn words_in(image: &[u8]) -> Option<usize>
+pub fn words_in(image: &[u8]) -> Option<usize>
     ensures { Measured image.now result }
 {
     if image.len() < 2 * WORD_BYTES {

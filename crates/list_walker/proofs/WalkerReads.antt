@@ -218,4 +218,15 @@ module _ (w : Walker) (s : Stands w) (m : w.lock ≡ 0 → ⊥) where
       rests = λ f. tt;
     }
 
-pub ruleset walker_laws = (rules, stands_queued, stands_few, walker_steps, walker_goes)
+  -- the same of v, which is w one lock further
+  module _ (v : Walker) (same : (v.words ≡ w.words) × (v.given ≡ w.given)) (told : Tells (Queued w.lock) (next_on w.lock) w.words.now v.lock) where
+    abbrev counted : Walker
+    counted = record { words = v.words; given = v.given + 1; lock = v.lock }
+
+    pub step_steps : Steps w (option.Some w.lock) counted
+    step_steps = rw (same.0, same.1) (walker_steps v.lock told)
+
+    pub step_goes : MakesProgress Stands (λ w. at_most (locks_in w.words.now - w.given)) w (option.Some w.lock) counted
+    step_goes = rw (same.0, same.1) (walker_goes v.lock told)
+
+pub ruleset walker_laws = (rules, stands_queued, stands_few, step_steps, step_goes)

@@ -73,6 +73,15 @@ impl<'a> Walker<'a> {
             lock,
         }
     }
+
+    // One lock further, from any lock on a resource.
+    pub fn step(&mut self)
+        requires { Some (Queued self.old.lock) self.old.words.now }
+        ensures same { (self.new.words ≡ self.old.words) × (self.new.given ≡ self.old.given) }
+        ensures next { Tells (Queued self.old.lock) (next_on self.old.lock) self.old.words.now self.new.lock }
+    {
+        self.lock = following(self.words, self.lock);
+    }
 }
 
 impl<'a> Iterator for Walker<'a> {
@@ -89,7 +98,7 @@ impl<'a> Iterator for Walker<'a> {
             return None;
         }
         let k = self.lock;
-        self.lock = following(self.words, k);
+        self.step();
         self.given += 1;
         Some(k)
     }

@@ -3,21 +3,22 @@
 ghost use Rattle.std.specs.Prelude.{◌≡◌, []};
 ghost use Rattle.rules.specs.Entries.{lent, to_request, to_convert, to_release, to_cancel, to_purge, to_break, to_poll};
 ghost use Rattle.play_commands.specs.Forms.{letter_q, letter_c, letter_r, letter_x, letter_p, letter_d, letter_n, meaning};
-ghost use Rattle.play_calls.specs.Plays.{answered, answer_alone, answer_and_number, all_three, plays, played, played_with};
+ghost use Rattle.play_calls.specs.Plays.{answered, plays, played, played_with};
 
 use answers::said;
 use play_commands::Command;
-use play_print::{LineAnswer, Numbers};
+use play_print::LineAnswer;
+use rules::Said;
 
-// What is printed for an answer: the line's letter, and the numbers or the refusal.
+// What is printed for an answer: the line's letter, and so many of the answer's numbers.
 #[tactic(auto, unfolding(crate::specs::Plays::answered))]
-fn answered(letter: u8, refusal: u32, numbers: Numbers) -> LineAnswer
-    ensures { result ≡ answered letter refusal numbers }
+fn answered(letter: u8, fields: usize, x: Said) -> LineAnswer
+    ensures { result ≡ answered letter fields x }
 {
-    if refusal == 0 {
-        return LineAnswer::Answer { letter, numbers };
+    if x.refusal == 0 {
+        return LineAnswer::Answer(letter, fields, x.answer, x.number, x.extra);
     }
-    LineAnswer::Refusal { letter, refusal }
+    LineAnswer::Refusal(letter, x.refusal)
 }
 
 // The lines by their letters: the call, and what is printed for it.
@@ -29,10 +30,10 @@ fn request_line(
     flags: u32,
     name: &[u8],
 ) -> LineAnswer
-    ensures { played_with result words.new slots.new ≡ plays letter_q answer_and_number (to_request client mode flags name.now) (lent words.old slots.old) }
+    ensures { played_with result words.new slots.new ≡ plays letter_q 2 (to_request client mode flags name.now) (lent words.old slots.old) }
 {
     let x = said(entry_locks::request(words, slots, client, mode, flags, name));
-    answered(b'q', x.refusal, Numbers::Two([x.answer, x.number]))
+    answered(b'q', 2, x)
 }
 
 fn convert_line(
@@ -43,10 +44,10 @@ fn convert_line(
     mode: u32,
     flags: u32,
 ) -> LineAnswer
-    ensures { played_with result words.new slots.new ≡ plays letter_c answer_alone (to_convert client lock mode flags []) (lent words.old slots.old) }
+    ensures { played_with result words.new slots.new ≡ plays letter_c 1 (to_convert client lock mode flags []) (lent words.old slots.old) }
 {
     let x = said(entry_locks::convert(words, slots, client, lock, mode, flags, b""));
-    answered(b'c', x.refusal, Numbers::One([x.answer]))
+    answered(b'c', 1, x)
 }
 
 fn release_line(
@@ -56,46 +57,38 @@ fn release_line(
     lock: u32,
     flags: u32,
 ) -> LineAnswer
-    ensures { played_with result words.new slots.new ≡ plays letter_r answer_alone (to_release client lock flags []) (lent words.old slots.old) }
+    ensures { played_with result words.new slots.new ≡ plays letter_r 1 (to_release client lock flags []) (lent words.old slots.old) }
 {
     let x = said(entry_locks::release(words, slots, client, lock, flags, b""));
-    answered(b'r', x.refusal, Numbers::One([x.answer]))
+    answered(b'r', 1, x)
 }
 
 fn cancel_line(words: &mut [u32], slots: &[u8], client: u32, lock: u32) -> LineAnswer
-    ensures { played_with result words.new slots.now ≡ plays letter_x answer_alone (to_cancel client lock) (lent words.old slots.now) }
+    ensures { played_with result words.new slots.now ≡ plays letter_x 1 (to_cancel client lock) (lent words.old slots.now) }
 {
     let x = said(entry_recovery::cancel(words, slots, client, lock));
-    answered(b'x', x.refusal, Numbers::One([x.answer]))
+    answered(b'x', 1, x)
 }
 
 fn purge_line(words: &mut [u32], slots: &mut [u8], client: u32) -> LineAnswer
-    ensures { played_with result words.new slots.new ≡ plays letter_p all_three (to_purge client) (lent words.old slots.old) }
+    ensures { played_with result words.new slots.new ≡ plays letter_p 3 (to_purge client) (lent words.old slots.old) }
 {
     let x = said(entry_recovery::purge(words, slots, client));
-    answered(
-        b'p',
-        x.refusal,
-        Numbers::Three([x.answer, x.number, x.extra]),
-    )
+    answered(b'p', 3, x)
 }
 
 fn break_line(words: &mut [u32], slots: &[u8]) -> LineAnswer
-    ensures { played_with result words.new slots.now ≡ plays letter_d answer_alone to_break (lent words.old slots.now) }
+    ensures { played_with result words.new slots.now ≡ plays letter_d 1 to_break (lent words.old slots.now) }
 {
     let x = said(entry_recovery::break_deadlock(words, slots));
-    answered(b'd', x.refusal, Numbers::One([x.answer]))
+    answered(b'd', 1, x)
 }
 
 fn poll_line(words: &mut [u32], slots: &[u8], client: u32) -> LineAnswer
-    ensures { played_with result words.new slots.now ≡ plays letter_n all_three (to_poll client) (lent words.old slots.now) }
+    ensures { played_with result words.new slots.now ≡ plays letter_n 3 (to_poll client) (lent words.old slots.now) }
 {
     let x = said(entry_recovery::poll(words, slots, client));
-    answered(
-        b'n',
-        x.refusal,
-        Numbers::Three([x.answer, x.number, x.extra]),
-    )
+    answered(b'n', 3, x)
 }
 
 // Does what a line asks, if it is of one of the forms.

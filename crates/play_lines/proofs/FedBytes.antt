@@ -8,38 +8,67 @@ use native.Mathlib.Omega.{arith}
 use borrow.Author.Tests.{eq-eqb, ne_eqb, lt-ltb, le-ltb, le-leb, ltb-true, ltb-false}
 use borrow.Author.Rules.{rules}
 use lib.Dec.{eqb, ltb, leb}
-use lib.ListN.{length, take, set, length-append}
+use lib.ListN.{length, take, set, length-append, length-set}
 use lib.Seq.{take-suc-set, length-take-le, take_all, take-append-le}
 use Rattle.play_commands.specs.Forms.{Meaning, malformed, meant, line_width}
-use Rattle.play_lines.specs.InputLines.{byte_in_front, lines, KeptLine, kept_line, meant_kept, longer, whole, more, comes, begun, gives}
+use Rattle.play_lines.specs.InputLines.{byte_in_front, lines, kept_line, meant_kept, longer, keeps, comes, Room, Feeds, line_in, begun, gives}
+use Rattle.play_lines.specs.declared.Line.{Line}
+use Rattle.play_lines.specs.declared.Fed.{Fed}
+use Rattle.play_lines.specs.declared.Fed.TheVariants.{More, Whole}
 use Rattle.play_numbers.proofs.Basics.{by_cases}
 
 -- one byte in the code
-module _ (k : KeptLine) (b : ℕ) where
-  pub feeds_whole : b ≡ 10 → whole k ≡ comes k b
+module _ (xs : List ℕ) (s : Line) (b : ℕ) (h : Room xs s) where
+  pub feeds_whole : b ≡ 10 → Feeds xs s b xs (Whole s)
   unfolding comes
-  feeds_whole e = rw (eq-eqb b 10 e)
+  feeds_whole e = record { right = rw (eq-eqb b 10 e); room = h; long = refl }
 
-module _ (xs : List ℕ) (n : ℕ) (over : Bool) (b : ℕ) (long : length xs ≡ line_width) (e : b ≡ 10 → ⊥) where
-  kept_long : n ≤ line_width → length (take n xs) ≡ n
-  kept_long h = length-take-le n xs (omega arith)
+  kept_long : length (take s.len xs) ≡ s.len
+  kept_long = length-take-le s.len xs (omega arith)
 
-  pub feeds_over : n ≡ line_width → more (record { bytes = take n xs; over = true }) ≡ comes (record { bytes = take n xs; over = over }) b
-  unfolding comes longer
-  feeds_over k = rw (ne_eqb b 10 e, kept_long (omega arith), le-ltb n line_width (omega arith))
+  module _ (e : b ≡ 10 → ⊥) where
+    pub feeds_more : s.len < line_width → Feeds xs s b (set xs s.len b) (More (record { len = s.len + 1; over = s.over }))
+    unfolding comes longer
+    feeds_more k =
+        let i : s.len < length xs = omega arith in
+        let l : length (set xs s.len b) ≡ length xs = length-set xs s.len b in
+        record {
+          right = rw (ne_eqb b 10 e, kept_long, lt-ltb s.len line_width k, add-one s.len, take-suc-set xs s.len b i);
+          room = record { buffer = omega arith; line = omega arith };
+          long = l;
+        }
 
-  pub feeds_more : n ≤ line_width → (n ≡ line_width → ⊥) → more (record { bytes = take (n + 1) (set xs n b); over = over }) ≡ comes (record { bytes = take n xs; over = over }) b
-  unfolding comes longer
-  feeds_more h k = rw (ne_eqb b 10 e, kept_long h, lt-ltb n line_width (omega arith), add-one n, take-suc-set xs n b (omega arith))
+    pub feeds_over : line_width ≤ s.len → Feeds xs s b xs (More (record { len = s.len; over = true }))
+    unfolding comes longer
+    feeds_over k =
+        record { right = rw (ne_eqb b 10 e, kept_long, le-ltb s.len line_width k); room = record { buffer = h.buffer; line = h.line }; long = refl }
+
+pub begun_len : (s : Line) (xs : List ℕ) → Room xs s → leb 1 s.len ≡ begun (keeps xs s)
+begun_len s xs h = rw (length-take-le s.len xs (omega arith))
+
+-- room for the next byte, or for a new line
+pub room_more : (xs : List ℕ) {r : Fed} {s : Line} → r ≡ More s → Room xs (line_in r) → Room xs s
+room_more xs e h = rw e at h
+
+pub room_whole : (xs : List ℕ) {r : Fed} {s : Line} → r ≡ Whole s → Room xs (line_in r) → Room xs s
+room_whole xs e h = rw e at h
+
+pub room_start : (xs : List ℕ) (s : Line) → line_width ≤ length xs → s.len ≡ 0 → Room xs s
+room_start xs s h e = record { buffer = h; line = omega arith }
 
 -- the command of a gathered line
-pub gathered_over : (k : KeptLine) → k.over ≡ true → malformed ≡ meant_kept k
-unfolding meant_kept
-gathered_over k e = rw e
+module _ (xs : List ℕ) (s : Line) where
+  pub gathered_over : s.over ≡ true → malformed ≡ meant_kept (keeps xs s)
+  unfolding meant_kept
+  gathered_over e = rw e
 
-pub gathered_line : (k : KeptLine) {m : Meaning} → k.over ≡ false → m ≡ meant k.bytes → m ≡ meant_kept k
-unfolding meant_kept
-gathered_line k e w = rw e w
+  pub gathered_line : {m : Meaning} → s.over ≡ false → m ≡ meant (take s.len xs) → m ≡ meant_kept (keeps xs s)
+  unfolding meant_kept
+  gathered_line e w = rw e w
+
+-- a new line
+pub keeps_none : (xs : List ℕ) (s : Line) → s.len ≡ 0 → s.over ≡ false → keeps xs s ≡ kept_line []
+keeps_none xs s e f = λ i. record { bytes = (let q : take s.len xs ≡ [] = rw e in q) i; over = f i }
 
 -- what is kept of a line means what the line does
 pub kept_means : (xs : List ℕ) → meant_kept (kept_line xs) ≡ meant xs
@@ -106,4 +135,4 @@ gives_front (b ∷ bs) xs =
 pub gives_lines : (bs : List ℕ) → gives bs (kept_line []) ≡ map kept_line (lines bs)
 gives_lines bs = gives_front bs [] ∙ ap (map kept_line) (front_none (lines bs))
 
-pub ruleset gather_rules = (rules, feeds_whole, feeds_more, feeds_over, gathered_over, gathered_line)
+pub ruleset gather_rules = (rules, feeds_whole, feeds_more, feeds_over, begun_len, gathered_over, gathered_line)

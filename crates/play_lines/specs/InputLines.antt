@@ -1,9 +1,11 @@
 -- The lines of an input, and a line that is gathered byte by byte.
-use Rattle.std.specs.Prelude.{ℕ, Bool, true, cond, List, [], ◌∷◌, ◌++◌, eqb, ltb, leb, length, take}
+use Rattle.std.specs.Prelude.{ℕ, ◌≤◌, ◌≡◌, Bool, true, cond, List, [], ◌∷◌, ◌++◌, eqb, ltb, leb, length, take}
 use Rattle.play_numbers.specs.Characters.{newline}
 use Rattle.play_commands.specs.Forms.{Meaning, malformed, meant}
 pub use Rattle.play_commands.specs.Forms.{line_width}
-use Rattle.play_lines.specs.declared.line.Line.{Line}
+use Rattle.play_lines.specs.declared.Line.{Line}
+use Rattle.play_lines.specs.declared.Fed.{Fed}
+use Rattle.play_lines.specs.declared.Fed.TheVariants.{More, Whole}
 
 -- a byte in front of the first line; where there is none, the first line
 abbrev pub byte_in_front : ℕ → List (List ℕ) → List (List ℕ)
@@ -31,9 +33,9 @@ meant_kept k = cond k.over malformed (meant k.bytes)
 unfoldable pub longer : KeptLine → ℕ → KeptLine
 longer k b = cond (ltb (length k.bytes) line_width) (record { bytes = k.bytes ++ (b ∷ []); over = k.over }) (record { bytes = k.bytes; over = true })
 
--- what the code's line keeps
-abbrev pub keeps : Line → KeptLine
-keeps s = record { bytes = take s.len s.bytes; over = s.over }
+-- what the code's buffer and line keep
+abbrev pub keeps : List ℕ → Line → KeptLine
+keeps buffer s = record { bytes = take s.len buffer; over = s.over }
 
 -- a byte came: byte 10 makes the line whole, any other makes it longer
 pub data Came : Type 0 where
@@ -43,9 +45,25 @@ pub data Came : Type 0 where
 unfoldable pub comes : KeptLine → ℕ → Came
 comes k b = cond (eqb b newline) (whole k) (more (longer k b))
 
--- what the code's answer says of a byte that came, where k is kept then: whether it ended the line
-abbrev pub came : Bool → KeptLine → Came
-came ended k = cond ended (whole k) (more k)
+-- what the code's answer says of a byte that came
+abbrev pub came : List ℕ → Fed → Came
+came buffer (Whole s) = whole (keeps buffer s)
+came buffer (More s) = more (keeps buffer s)
+
+abbrev pub line_in : Fed → Line
+line_in (Whole s) = s
+line_in (More s) = s
+
+-- the buffer has room for the longest line, and what is kept of the line is no longer than that
+pub record Room (xs : List ℕ) (s : Line) : Type 0 where
+  pub buffer : line_width ≤ length xs
+  pub line : s.len ≤ line_width
+
+-- with the byte b the buffer xs, of the line s, became ys, and r was answered
+pub record Feeds (xs : List ℕ) (s : Line) (b : ℕ) (ys : List ℕ) (r : Fed) : Type 0 where
+  pub right : came ys r ≡ comes (keeps xs s) b
+  pub room : Room ys (line_in r)
+  pub long : length ys ≡ length xs
 
 -- some bytes came that no byte 10 has ended
 abbrev pub begun : KeptLine → Bool

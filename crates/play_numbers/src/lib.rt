@@ -1,6 +1,6 @@
 #![tactic(auto)]
 // The numbers in a line's fields, which one space parts.
-ghost use Rattle.std.specs.Prelude.{◌≡◌, ◌==◌, MatchOption, None, Some, position};
+ghost use Rattle.std.specs.Prelude.{◌≡◌, ◌==◌, IfNone, MatchOption, None, Some, position};
 ghost use Rattle.play_numbers.specs.Characters.{space};
 ghost use Rattle.play_numbers.specs.Steps.{number_in, next_field};
 
@@ -40,7 +40,8 @@ pub struct Fields<'a> {
 impl Fields<'_> {
     // The number that the next field is. A space has to stand after it.
     pub fn next_number(&mut self) -> Option<u32>
-        ensures { MatchOption result (next_field self.old.rest.now ≡ None) (λ n. next_field self.old.rest.now ≡ Some (n, self.new.rest.now)) }
+        ensures is { MatchOption result (next_field self.old.rest.now ≡ None) (λ n. next_field self.old.rest.now ≡ Some (n, self.new.rest.now)) }
+        ensures none_stays { IfNone result (self.new.rest.now ≡ self.old.rest.now) }
     {
         let end = first_space(self.rest)?;
         let number = read_number(&self.rest[..end])?;

@@ -10,7 +10,7 @@ use lib.ListN.{length, length-append}
 use Rattle.play_print.specs.Decimal.{digits, decimal}
 use Rattle.play_numbers.specs.Numbers.{value_of_digits}
 use Rattle.play_numbers.proofs.Basics.{by_cases}
-use Rattle.play_print.specs.Widths.{number_width}
+use Rattle.play_print.specs.PrintedLines.{number_width}
 
 -- any bound that is large enough gives the same digits
 digits_enough : (j k n : ℕ) → n < j → n < k → digits j n ≡ digits k n
@@ -59,6 +59,12 @@ decimal_power (suc k) n h =
 -- a number of 32 bits has at most ten digits
 pub decimal_ten : (n : ℕ) → n < 4294967296 → length (decimal n) ≤ number_width
 decimal_ten n h = decimal_power 9 n (let q : n < 10000000000 = omega arith in q)
+
+pub decimal_some : (n : ℕ) → 1 ≤ length (decimal n)
+decimal_some n =
+    by_cases (ltb n 10)
+    (λ t. let e = decimal_short n (ltb-true n 10 t) in omega arith)
+    (λ t. let e = decimal_longer n (ltb-false n 10 t) in omega arith)
 
 -- read back, the digits give the number
 value_more : (v : ℕ) (xs : List ℕ) (d : ℕ) → value_of_digits v (xs ++ (d ∷ [])) ≡ 10 * value_of_digits v xs + (d - 48)

@@ -1,4 +1,2 @@
 pub mod Decimal
-pub mod Widths
 pub mod PrintedLines
-pub mod Writes

@@ -1,92 +1,137 @@
 #![tactic(auto)]
 // What lockplay does with its input: it gathers lines, does what each asks, and prints its answer.
-ghost use Rattle.std.specs.Prelude.{◌≡◌, [], ◌+◌, ◌*◌, ◌≤◌, length};
-ghost use Rattle.play_lines.specs.InputLines.{keeps, kept_line, whole};
-ghost use Rattle.play_print.specs.Widths.{printed_width, output_width};
-ghost use Rattle.play_print.specs.Writes.{written};
-ghost use Rattle.play_session.specs.Sessions.{fresh_tables, from_line, taken, fed, fed_all, ended, standing};
+ghost use Rattle.std.specs.Prelude.{◌≡◌, [], ◌*◌, length, take};
+ghost use Rattle.tables.specs.Layout.{size, slot_width};
+ghost use Rattle.play_lines.specs.InputLines.{keeps, Room, meant_kept, line_width};
+ghost use Rattle.rules.specs.Entries.{lent};
+ghost use Rattle.play_calls.specs.Plays.{played, played_with};
+ghost use Rattle.play_session.specs.Sessions.{fresh_tables, Lengths, fed, fed_all, ended, standing, Ready, Spacious, WroteWithin, Ends, played_resources, played_locks};
 
 use play_calls::perform;
-use play_lines::Line;
-use play_print::{OUTPUT_LINES, Output};
+use play_commands::LINE_BYTES;
+use play_lines::{Fed, Line, feed, is_begun, parse_gathered, start};
+use play_print::{LineAnswer, PRINTED_BYTES, print};
 
 // Lockplay's tables: R 4, L 8.
 const RESOURCES: u32 = 4;
 
 const LOCKS: u32 = 8;
 
-const WORDS: usize = table_fields::HEADER_WORDS
+pub const WORDS: usize = table_fields::HEADER_WORDS
     + table_fields::RESOURCE_WORDS * RESOURCES as usize
     + table_fields::LOCK_WORDS * LOCKS as usize;
 
-const SLOTS: usize = table_names::SLOT_BYTES * RESOURCES as usize;
+pub const SLOTS: usize = table_names::SLOT_BYTES * RESOURCES as usize;
 
-// How many bytes are read at once: each of them may end a line, which is then printed.
-pub const CHUNK_BYTES: usize = OUTPUT_LINES;
+// How many bytes are read at once, and how many their lines can print: each of them may end a line.
+pub const CHUNK_BYTES: usize = 1024;
 
-// What plays an input: the tables, and the line that is being gathered.
-#[derive(Drop)]
-pub struct Player {
-    pub words: [u32; WORDS],
-    pub slots: [u8; SLOTS],
-    pub line: Line,
+pub const OUTPUT_BYTES: usize = PRINTED_BYTES * CHUNK_BYTES;
+
+// Room for the tables and for a line.
+pub fn word_space() -> [u32; WORDS]
+    ensures { size played_resources played_locks ≡ length result }
+{
+    [0; WORDS]
 }
 
-impl Player {
-    // Fresh tables, and no byte has come yet.
-    pub fn start() -> Player
-        ensures { standing result [] ≡ from_line (kept_line []) fresh_tables }
-    {
-        let mut words = [0; WORDS];
-        let mut slots = [0; SLOTS];
-        let _ = entry_locks::start(&mut words, &mut slots, RESOURCES, LOCKS);
-        Player {
-            words,
-            slots,
-            line: Line::new(),
+pub fn slot_space() -> [u8; SLOTS]
+    ensures { slot_width * played_resources ≡ length result }
+{
+    [0; SLOTS]
+}
+
+pub fn line_space() -> [u8; LINE_BYTES]
+    ensures { line_width ≡ length result }
+{
+    [0; LINE_BYTES]
+}
+
+// The tables become fresh ones.
+pub fn start_tables(words: &mut [u32], slots: &mut [u8])
+    requires { Lengths words.old slots.old }
+    ensures { lent words.new slots.new ≡ fresh_tables }
+{
+    let _ = entry_locks::start(words, slots, RESOURCES, LOCKS);
+}
+
+// Does what a gathered line asks.
+pub fn play_gathered(words: &mut [u32], slots: &mut [u8], buffer: &[u8], s: Line) -> LineAnswer
+    requires { Room buffer.now s }
+    ensures { played_with result words.new slots.new ≡ played (meant_kept (keeps buffer.now s)) (lent words.old slots.old) }
+{
+    perform(words, slots, parse_gathered(buffer, s))
+}
+
+// Where a chunk of the input stands: the line that is being gathered, and how many bytes are printed.
+#[derive(Clone, Copy)]
+pub struct Progress {
+    pub line: Line,
+    pub at: usize,
+}
+
+// Takes one byte of the input. At byte 10 the line is played and its answer printed.
+pub fn play_byte(
+    words: &mut [u32],
+    slots: &mut [u8],
+    buffer: &mut [u8],
+    out: &mut [u8],
+    p: Progress,
+    b: u8,
+) -> Progress
+    requires { Ready buffer.old out.old p }
+    ensures out_after { standing buffer.new words.new slots.new result.line (take result.at out.new) ≡ fed (standing buffer.old words.old slots.old p.line (take p.at out.old)) b }
+    ensures wrote_within { WroteWithin buffer.new out.old out.new p.at 1 result }
+{
+    let at = p.at;
+    match feed(buffer, p.line, b) {
+        Fed::More(line) => Progress { line, at },
+        Fed::Whole(line) => {
+            let o = play_gathered(words, slots, buffer, line);
+            let end = print(out, at, o);
+            Progress {
+                line: start(),
+                at: end,
+            }
         }
     }
+}
 
-    // Does what the line asks, prints its answer, and begins a new line.
-    fn play_line(&mut self, output: &mut Output)
-        requires { output.old.len + printed_width ≤ output_width }
-        ensures is { standing self.new (written output.new) ≡ taken (standing self.old (written output.old)) (whole (keeps self.old.line)) }
-        ensures most { output.new.len ≤ output.old.len + printed_width }
-    {
-        let answer = perform(&mut self.words, &mut self.slots, self.line.parse());
-        output.print(answer);
-        self.line.clear();
+// A chunk of the input: what its lines print goes to the front of out, which has room for a line for each byte of the chunk.
+#[tactic(auto, using(crate::proofs::Sessions::chunk_rules))]
+pub fn play_bytes(
+    words: &mut [u32],
+    slots: &mut [u8],
+    buffer: &mut [u8],
+    s: Line,
+    chunk: &[u8],
+    out: &mut [u8],
+) -> Progress
+    requires { Spacious buffer.old out.old s (length chunk.now) }
+    ensures out_after { standing buffer.new words.new slots.new result.line (take result.at out.new) ≡ fed_all (standing buffer.old words.old slots.old s []) chunk.now }
+    ensures wrote_within { WroteWithin buffer.new out.old out.new 0 (length chunk.now) result }
+{
+    let mut p = Progress { line: s, at: 0 };
+    for b in chunk {
+        p = play_byte(words, slots, buffer, out, p, *b);
     }
+    p
+}
 
-    // Takes one byte of the input. At byte 10 the line is played.
-    fn play_byte(&mut self, b: u8, output: &mut Output)
-        requires { output.old.len + printed_width ≤ output_width }
-        ensures is { standing self.new (written output.new) ≡ fed (standing self.old (written output.old)) b }
-        ensures most { output.new.len ≤ output.old.len + printed_width }
-    {
-        if self.line.feed(b) {
-            self.play_line(output);
-        }
+// The end of the input: a last line that no byte 10 ended is played. The answer is how many bytes are printed.
+pub fn play_end(
+    words: &mut [u32],
+    slots: &mut [u8],
+    buffer: &[u8],
+    s: Line,
+    out: &mut [u8],
+) -> usize
+    requires { Spacious buffer.now out.old s 1 }
+    ensures { Ends (ended (standing buffer.now words.old slots.old s [])) words.new slots.new out.new result }
+{
+    if !is_begun(s) {
+        return 0;
     }
-
-    // Takes a chunk of the input. The output has room for a line for each of its bytes.
-    pub fn play_bytes(&mut self, chunk: &[u8], output: &mut Output)
-        requires { output.old.len + printed_width * length chunk.now ≤ output_width }
-        ensures is { standing self.new (written output.new) ≡ fed_all (standing self.old (written output.old)) chunk.now }
-        ensures most { output.new.len ≤ output.old.len + printed_width * length chunk.now }
-    {
-        for b in chunk {
-            self.play_byte(*b, output);
-        }
-    }
-
-    // The end of the input: a last line that no byte 10 ended is played.
-    pub fn play_end(&mut self, output: &mut Output)
-        requires { output.old.len + printed_width ≤ output_width }
-        ensures { standing self.new (written output.new) ≡ ended (standing self.old (written output.old)) }
-    {
-        if self.line.is_begun() {
-            self.play_line(output);
-        }
-    }
+    let o = play_gathered(words, slots, buffer, s);
+    print(out, 0, o)
 }

@@ -74,7 +74,7 @@ impl Cells {
 
     // The record k joins the chain in front.
     #[tactic(auto, using(crate::proofs::CellWalks::push_laws))]
-    fn push(self, words: &mut [u32], k: u32)
+    pub fn push(self, words: &mut [u32], k: u32)
         requires { Pushes words.old self k }
         ensures words_after { words.new ≡ push_cells (cell_of self) k words.old }
         ensures kept { Kept words.old words.new }

@@ -6,7 +6,7 @@ use Prim.Native.Nat.{ℕ, zero, suc, ◌+◌, ◌-◌, ◌*◌, ◌≤◌, ◌<�
 use native.Mathlib.Omega.{arith}
 use borrow.Author.Tests.{eq-eqb, ne_eqb}
 use borrow.Author.Rules.{rules}
-use lib.ListN.{length, take, drop, replicate, length-replicate, drop_of_length-le, length-drop, length-take}
+use lib.ListN.{length, take, drop, replicate, drop_of_length-le, length-drop, length-take}
 use lib.Seq.{drop-drop, take-take, take_all, length-take-le, take-nil}
 use Rattle.tables.specs.Lists.{all, first_that, same}
 use Rattle.tables.specs.State.{name_width}
@@ -15,25 +15,12 @@ use Rattle.tables.specs.Sound.{all_zero}
 use Rattle.table_names.specs.Names.{named, name_in, slot_fine, find_in}
 use Rattle.table_names.specs.Promises.{Slotted, Short, Named}
 use Rattle.table_names.proofs.NumberRuns.{upto, from_first, some_loop}
-use Rattle.std.proofs.Common.{nat_eq}
-use Rattle.std.specs.Cmp.Lexicographic.{pointwise}
-use Rattle.table_names.proofs.Spans.{same_short, zeros_same}
+use Rattle.table_names.proofs.Spans.{same_short}
 
 pub drop_take : (a n : ℕ) (l : List ℕ) → drop a (take (a + n) l) ≡ take n (drop a l)
 drop_take zero n l = let q : 0 + n ≡ n = omega arith in rw q
 drop_take (suc a) n [] = let q : suc a + n ≡ suc (a + n) = omega arith in rw (q, take-nil n)
 drop_take (suc a) n (x ∷ l) = let q : suc a + n ≡ suc (a + n) = omega arith in rw q (drop_take a n l)
-
-pub drop_zeros : (n m : ℕ) → drop {A = ℕ} n (replicate (n + m) 0) ≡ replicate m 0
-drop_zeros zero m = let q : 0 + m ≡ m = omega arith in rw q
-drop_zeros (suc n) m = let q : suc n + m ≡ suc (n + m) = omega arith in rw q (drop_zeros n m)
-
--- `&zeros[w..]`
-zeros_after : (n w : ℕ) → w ≤ n → take (n - w) (drop {A = ℕ} w (replicate n 0)) ≡ replicate (n - w) 0
-zeros_after n w h =
-    let e : n ≡ w + (n - w) = omega arith in
-    let l : length (replicate {A = ℕ} (n - w) 0) ≤ n - w = simp length-replicate (omega arith) in
-    ap (λ (k : ℕ). take (n - w) (drop {A = ℕ} w (replicate k 0))) e ∙ ap (take (n - w)) (drop_zeros w (n - w)) ∙ take_all (n - w) (replicate (n - w) 0) l
 
 -- n bytes of the slot of r, from a on
 pub slot_part : (ss : List ℕ) (r a n : ℕ) → a + n ≤ slot_width → take n (drop (slot_width * (r - 1) + a) ss) ≡ drop a (take (a + n) (slot_in ss r))
@@ -69,19 +56,19 @@ module _ (ws ss : List ℕ) (r : ℕ) {w : ℕ} (read : w ≡ word_in ws (of_res
       let g : length (take name_width (slot_in ss r)) ≤ word_in ws (of_resource r 4) = rw (length-take name_width (slot_in ss r)) (omega arith) in
       rw (ne_eqb _ _ f, drop_of_length-le (take name_width (slot_in ss r)) g)
 
-  pub fine_used : (start : ℕ) {x : Bool} → Slotted ws ss → 1 ≤ r → r ≤ resources_in ws → (w ≡ 0 → ⊥) → w ≤ name_width → start ≡ slot_width * (r - 1)
-      → x ≡ pointwise nat_eq (take (start + name_width - (start + w)) (drop (start + w) ss)) (take (name_width - w) (drop w (replicate name_width 0))) → x ≡ slot_fine ws ss r
+  pub fine_used : (start : ℕ) {x : Bool} → (w ≡ 0 → ⊥) → w ≤ name_width → start ≡ slot_width * (r - 1) → x ≡ all_zero (take (start + name_width - (start + w)) (drop (start + w) ss)) → x ≡ slot_fine ws ss r
   unfolding slot_fine named
-  fine_used start stand low high n m e h =
+  fine_used start n m e h =
       let f : word_in ws (of_resource r 4) ≡ 0 → ⊥ = λ e. n (omega arith) in
       let q : start + name_width - (start + w) ≡ name_width - w = omega arith in
       let s : w + (name_width - w) ≡ name_width = omega arith in
-      let rest : List ℕ = drop w (take name_width (slot_in ss r)) in
-      let p : take (name_width - w) (drop (start + w) ss) ≡ rest =
+      let p : take (name_width - w) (drop (start + w) ss) ≡ drop w (take name_width (slot_in ss r)) =
       ap (λ (t : ℕ). take (name_width - w) (drop (t + w) ss)) e ∙ slot_part ss r w (name_width - w) (omega arith) ∙ ap (λ (m : ℕ). drop w (take m (slot_in ss r))) s in
-      let l : length (slot_in ss r) ≡ slot_width = slot_long ss r low (slot_inside ws ss r stand low high) in
-      let long : length rest ≡ name_width - w = length-drop w (take name_width (slot_in ss r)) ∙ ap (λ (k : ℕ). k - w) (length-take-le name_width (slot_in ss r) (omega arith)) in
-      h ∙ rw (q, p, zeros_after name_width w m, ne_eqb _ _ f, ← read) (zeros_same rest (name_width - w) long)
+      rw (ne_eqb _ _ f, ← read, ← p, ← q) h
+
+pub drop_zeros : (n m : ℕ) → drop {A = ℕ} n (replicate (n + m) 0) ≡ replicate m 0
+drop_zeros zero m = let q : 0 + m ≡ m = omega arith in rw q
+drop_zeros (suc n) m = let q : suc n + m ≡ suc (n + m) = omega arith in rw q (drop_zeros n m)
 
 -- where a name stands, and how long it is
 pub name_part : (ws ss : List ℕ) (r n start : ℕ) → n ≡ word_in ws (of_resource r 4) → n ≤ name_width → start ≡ slot_width * (r - 1) → take (start + n - start) (drop start ss) ≡ name_in ws ss r

@@ -20,24 +20,41 @@ pub const VALUE_BYTES: usize = 32;
 
 pub const SLOT_BYTES: usize = NAME_BYTES + VALUE_BYTES;
 
-// The bytes where a name stands, when none does.
-const NO_NAME: [u8; NAME_BYTES] = [0; NAME_BYTES];
+// Two words that stand side by side are tested at once.
+const PAIR_BYTES: usize = 2 * WORD_BYTES;
 
-// The two runs of bytes are equal. Names that differ mostly differ near their end: the last bytes are compared first.
-#[tactic(auto, using(crate::proofs::Spans::same_laws))]
+// Two runs of bytes of one length are equal.
+#[tactic(auto, using(crate::proofs::Spans::same_loop))]
+fn same_bytes(a: &[u8], b: &[u8]) -> bool
+    requires { length a.now ≡ length b.now }
+    ensures { result ≡ same a.now b.now }
+{
+    for i in 0..a.len() {
+        if a[i] != b[i] {
+            return false;
+        }
+    }
+    true
+}
+
+// The two runs of bytes are equal. Four bytes are compared at once, the last ones first: names that differ mostly differ
+// near their end. By loops, and not by `==`: the library's comparison is a function that is never inlined.
+#[tactic(auto, using(crate::proofs::FourBytes::words_loop))]
 pub fn same(a: &[u8], b: &[u8]) -> bool
     ensures { result ≡ same a.now b.now }
 {
     if a.len() != b.len() {
         return false;
     }
-    if WORD_BYTES <= a.len() {
-        let last = a.len() - WORD_BYTES;
-        if word_at(a, last) != word_at(b, last) {
+    let words = a.len() / WORD_BYTES;
+    for w in 0..words {
+        let at = a.len() - WORD_BYTES * (w + 1);
+        if word_at(a, at) != word_at(b, at) {
             return false;
         }
     }
-    a == b
+    let rest = a.len() - WORD_BYTES * words;
+    same_bytes(&a[..rest], &b[..rest])
 }
 
 // All of a run of bytes is zero. Every byte is looked at, so that the processor can test many at once.
@@ -45,6 +62,56 @@ pub fn all_zero(a: &[u8]) -> bool
     ensures { result ≡ all_zero a.now }
 {
     a.iter().fold(true, |zeros, byte| zeros & (*byte == 0))
+}
+
+// The same of a few bytes, one by one.
+#[tactic(auto, using(crate::proofs::Spans::zero_bytes_loop))]
+fn zero_bytes(a: &[u8]) -> bool
+    ensures { result ≡ all_zero a.now }
+{
+    for i in 0..a.len() {
+        if a[i] != 0 {
+            return false;
+        }
+    }
+    true
+}
+
+// The same of the bytes after a name, which are few: eight at once.
+#[tactic(auto, using(crate::proofs::FourBytes::rest_loop))]
+fn zero_rest(a: &[u8]) -> bool
+    ensures { result ≡ all_zero a.now }
+{
+    let pairs = a.len() / PAIR_BYTES;
+    for p in 0..pairs {
+        let at = a.len() - PAIR_BYTES * (p + 1);
+        if !((word_at(a, at) == 0) & (word_at(a, at + WORD_BYTES) == 0)) {
+            return false;
+        }
+    }
+    zero_bytes(&a[..a.len() - PAIR_BYTES * pairs])
+}
+
+// The bytes d become the bytes s, which are as many; and the same for numbers of 16 bits. By loops, since the library's
+// `copy_from_slice` would have a program for C bring memmove.
+#[tactic(auto, using(crate::proofs::Spans::copy_loop))]
+pub fn copy(d: &mut [u8], s: &[u8])
+    requires { length d.old ≡ length s.now }
+    ensures { d.new ≡ s.now }
+{
+    for i in 0..s.len() {
+        d[i] = s[i];
+    }
+}
+
+#[tactic(auto, using(crate::proofs::Spans::copy_loop))]
+pub fn copy_numbers(d: &mut [u16], s: &[u16])
+    requires { length d.old ≡ length s.now }
+    ensures { d.new ≡ s.now }
+{
+    for i in 0..s.len() {
+        d[i] = s[i];
+    }
 }
 
 // Where the slot of resource r starts.
@@ -70,7 +137,7 @@ pub fn slot_fine(words: &[u32], slots: &[u8], r: u32) -> bool
     if NAME_BYTES < length {
         return true;
     }
-    &slots[start + length..start + NAME_BYTES] == &NO_NAME[length..]
+    zero_rest(&slots[start + length..start + NAME_BYTES])
 }
 
 // The length of resource r's name.
@@ -131,7 +198,7 @@ pub fn store_name(slots: &mut [u8], r: u32, name: &[u8])
     ensures { slots.new ≡ with_slot r (slot (new_resource name.now)) slots.old }
 {
     let start = slot_start(r);
-    slots[start..start + name.len()].copy_from_slice(name);
+    copy(&mut slots[start..start + name.len()], name);
 }
 
 // Resource r gets a value; its name stays.
@@ -141,7 +208,7 @@ pub fn store_value(slots: &mut [u8], r: u32, value: &[u8])
     ensures { slots.new ≡ with_slot r (take name_width (slot_in slots.old r) ++ value.now) slots.old }
 {
     let start = slot_start(r) + NAME_BYTES;
-    slots[start..start + VALUE_BYTES].copy_from_slice(value);
+    copy(&mut slots[start..start + VALUE_BYTES], value);
 }
 
 // The slot of resource r keeps nothing.

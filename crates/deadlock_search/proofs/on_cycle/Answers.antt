@@ -8,7 +8,7 @@ pub returns-then-cleared-a : goal.returns-then-cleared-a
 returns-then-cleared-a c = search cycle_laws
 
 pub search-requires : goal.search-requires
-search-requires c = cycle_searches c.requires.trying c.if-cleared-a.false c.copy_from_slice.ensures.after
+search-requires c = cycle_searches c.requires.trying c.if-cleared-a.false c.copy_numbers.ensures
 
 pub returns : goal.returns
 returns c = cycle_known c.requires.trying c.if-cleared-a.false c.search.ensures

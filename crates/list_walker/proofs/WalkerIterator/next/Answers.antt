@@ -1,8 +1,8 @@
 use Rattle.list_walker.proofs.WalkerReads.{walker_laws}
 use Rattle.list_walker.proofs.WalkerIterator.next.Goals as goal
 
-pub following-self-requires : goal.following-self-requires
-following-self-requires c = search walker_laws
+pub step-requires : goal.step-requires
+step-requires c = search walker_laws
 
 pub overflow_add-self : goal.overflow_add-self
 overflow_add-self c = search walker_laws

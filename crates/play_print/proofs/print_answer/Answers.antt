@@ -1,0 +1,7 @@
+-- `print_answer`: three writes, one after the other.
+use native.Mathlib.Omega.{arith}
+use Rattle.play_print.proofs.BufferWrites.{print_rules}
+use Rattle.play_print.proofs.print_answer.Goals as goal
+
+pub returns : goal.returns
+returns c = (search print_rules, omega arith)
